@@ -1,0 +1,15 @@
+pub mod Bounds
+pub mod Sets
+pub mod Columns
+pub mod Merges
+pub mod Resolves
+pub mod Resolved
+pub mod Facts
+pub mod Cases
+pub mod Pigeon
+pub mod Numbers
+pub mod Insertions
+pub mod Lists
+pub mod Mergings
+pub mod Resolutions
+pub mod Written

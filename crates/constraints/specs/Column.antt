@@ -1,0 +1,228 @@
+-- `ColumnConstraints`: what an And chain says of one column, with the methods of the Rust. Each method is one
+-- `Constraint` taken in; an impossible column takes nothing more, which stands once, in `add`. `strict` is the
+-- documented difference: only a negated is_in without nulls_equal counts as a value constraint.
+use mathlib.Core.Bool.{Bool, true, false, not, _&&_, _||_}
+use mathlib.Core.List.{List, [], _∷_, _++_}
+use mathlib.Core.Option.{Option, none, some}
+use Rattle.constraints.specs.declared.column.Nullability.{Nullability}
+use Rattle.constraints.specs.declared.column.Nullability.the-variants.{Unconstrained, Null, NonNull}
+use Rattle.constraints.specs.Scalars.{Scalars, opposite}
+use Rattle.constraints.specs.Bound.{Bound, absent, at, isAbsent, tighten, tightens, crosses}
+use Rattle.constraints.specs.Values.{isEmpty, contains, insert, extend, retain, subset}
+
+pub record ColumnConstraints (Val : Type 0) : Type 0 where
+  pub lower : Bound Val
+  pub upper : Bound Val
+  -- The `!= x` values, resolved against the bounds in `resolveDeferred`.
+  pub excluded : List Val
+  -- The common values of all is_in lists; none: no list was read.
+  pub allowed : Option (List Val)
+  -- All values of the negated is_in lists; never written out.
+  pub disallowed : List Val
+  -- Some negated is_in without nulls_equal gave a value.
+  pub strict : Bool
+  pub nullability : Nullability
+  -- No value is left. It stays so.
+  pub unsat : Bool
+
+-- What a conjunct can say of a column, one for each `add_*` method and `require_nullability`.
+pub data Constraint (Val : Type 0) : Type 0 where
+  -- inclusive, value
+  Lower : Bool → Val → Constraint Val
+  Upper : Bool → Val → Constraint Val
+  Exclude : Val → Constraint Val
+  Allow : List Val → Constraint Val
+  -- whether it counts as a value constraint; the values
+  Disallow : Bool → List Val → Constraint Val
+  Require : Nullability → Constraint Val
+
+abbrev pub isNone : {A : Type 0} → Option A → Bool
+isNone none = true
+isNone (some a) = false
+
+-- The column of which nothing is known.
+abbrev pub empty : {Val : Type 0} → ColumnConstraints Val
+empty =
+    record {
+      lower = absent;
+      upper = absent;
+      excluded = [];
+      allowed = none;
+      disallowed = [];
+      strict = false;
+      nullability = Unconstrained;
+      unsat = false;
+    }
+
+-- ---- A column with one thing set anew.
+abbrev pub column :
+    {Val : Type 0} → Bound Val → Bound Val → List Val → Option (List Val) → List Val → Bool → Nullability → Bool →
+    ColumnConstraints Val
+column lower upper excluded allowed disallowed strict nullability unsat =
+    record {
+      lower = lower;
+      upper = upper;
+      excluded = excluded;
+      allowed = allowed;
+      disallowed = disallowed;
+      strict = strict;
+      nullability = nullability;
+      unsat = unsat;
+    }
+
+abbrev pub setLower : {Val : Type 0} → Bound Val → ColumnConstraints Val → ColumnConstraints Val
+setLower b cc =
+    column b (cc .upper) (cc .excluded) (cc .allowed) (cc .disallowed) (cc .strict) (cc .nullability) (cc .unsat)
+
+abbrev pub setUpper : {Val : Type 0} → Bound Val → ColumnConstraints Val → ColumnConstraints Val
+setUpper b cc =
+    column (cc .lower) b (cc .excluded) (cc .allowed) (cc .disallowed) (cc .strict) (cc .nullability) (cc .unsat)
+
+abbrev pub setExcluded : {Val : Type 0} → List Val → ColumnConstraints Val → ColumnConstraints Val
+setExcluded l cc =
+    column (cc .lower) (cc .upper) l (cc .allowed) (cc .disallowed) (cc .strict) (cc .nullability) (cc .unsat)
+
+abbrev pub setAllowed : {Val : Type 0} → List Val → ColumnConstraints Val → ColumnConstraints Val
+setAllowed l cc =
+    column (cc .lower) (cc .upper) (cc .excluded) (some l) (cc .disallowed) (cc .strict) (cc .nullability) (cc .unsat)
+
+abbrev pub setDisallowed : {Val : Type 0} → List Val → Bool → ColumnConstraints Val → ColumnConstraints Val
+setDisallowed l strict cc =
+    column (cc .lower) (cc .upper) (cc .excluded) (cc .allowed) l strict (cc .nullability) (cc .unsat)
+
+abbrev pub setNullability : {Val : Type 0} → Nullability → ColumnConstraints Val → ColumnConstraints Val
+setNullability n cc =
+    column (cc .lower) (cc .upper) (cc .excluded) (cc .allowed) (cc .disallowed) (cc .strict) n (cc .unsat)
+
+abbrev pub setUnsat : {Val : Type 0} → Bool → ColumnConstraints Val → ColumnConstraints Val
+setUnsat b cc =
+    column (cc .lower) (cc .upper) (cc .excluded) (cc .allowed) (cc .disallowed) (cc .strict) (cc .nullability) b
+
+-- Of two null requirements the first is kept.
+abbrev pub firstRequired : Nullability → Nullability → Nullability
+firstRequired Unconstrained n = n
+firstRequired Null n = Null
+firstRequired NonNull n = NonNull
+
+-- Whether they are opposite.
+abbrev pub opposed : Nullability → Nullability → Bool
+opposed Unconstrained n = false
+opposed Null Unconstrained = false
+opposed Null Null = false
+opposed Null NonNull = true
+opposed NonNull Unconstrained = false
+opposed NonNull Null = true
+opposed NonNull NonNull = false
+
+module _ {K Val : Type 0} (S : Scalars K Val) where
+  -- A second allowed list keeps the common values.
+  abbrev pub common : Option (List Val) → List Val → List Val
+  common none l = l
+  common (some held) l = retain S l held
+
+  -- `check_bound_consistency`, of a column that was possible.
+  abbrev pub checkBoundConsistency : ColumnConstraints Val → ColumnConstraints Val
+  checkBoundConsistency cc = setUnsat (crosses S (cc .lower) (cc .upper)) cc
+
+  -- A column that is not impossible takes a constraint in.
+  abbrev pub put : Constraint Val → ColumnConstraints Val → ColumnConstraints Val
+  put (Lower inclusive v) cc = checkBoundConsistency (setLower (tighten S (cc .lower) inclusive v) cc)
+  put (Upper inclusive v) cc = checkBoundConsistency (setUpper (tighten (opposite S) (cc .upper) inclusive v) cc)
+  put (Exclude v) cc = setExcluded (insert S v (cc .excluded)) cc
+  put (Allow values) cc = setAllowed (common (cc .allowed) values) cc
+  put (Disallow counts values) cc =
+      setDisallowed (extend S (cc .disallowed) values) (cc .strict || counts && not (isEmpty values)) cc
+  put (Require required) cc =
+      setUnsat (opposed (cc .nullability) required) (setNullability (firstRequired (cc .nullability) required) cc)
+
+  abbrev pub addBy : Bool → Constraint Val → ColumnConstraints Val → ColumnConstraints Val
+  addBy true c cc = cc
+  addBy false c cc = put c cc
+
+  -- An impossible column takes nothing more.
+  abbrev pub add : Constraint Val → ColumnConstraints Val → ColumnConstraints Val
+  add c cc = addBy (cc .unsat) c cc
+
+  -- The methods, by the Rust's names.
+  abbrev pub addLower : Val → Bool → ColumnConstraints Val → ColumnConstraints Val
+  addLower v inclusive cc = add (Lower inclusive v) cc
+
+  abbrev pub addUpper : Val → Bool → ColumnConstraints Val → ColumnConstraints Val
+  addUpper v inclusive cc = add (Upper inclusive v) cc
+
+  abbrev pub addExcluded : Val → ColumnConstraints Val → ColumnConstraints Val
+  addExcluded v cc = add (Exclude v) cc
+
+  abbrev pub addAllowed : List Val → ColumnConstraints Val → ColumnConstraints Val
+  addAllowed values cc = add (Allow values) cc
+
+  abbrev pub addDisallowed : Bool → List Val → ColumnConstraints Val → ColumnConstraints Val
+  addDisallowed counts values cc = add (Disallow counts values) cc
+
+  abbrev pub requireNullability : Nullability → ColumnConstraints Val → ColumnConstraints Val
+  requireNullability required cc = add (Require required) cc
+
+  abbrev pub addAll : List (Constraint Val) → ColumnConstraints Val → ColumnConstraints Val
+  addAll [] cc = cc
+  addAll (c ∷ l) cc = addAll l (add c cc)
+
+  -- ---- What the methods return: whether the column changed.
+  abbrev pub allowedChanges : Option (List Val) → List Val → Bool
+  allowedChanges none values = true
+  allowedChanges (some held) values = not (subset S held values)
+
+  -- `require_nullability` returns nothing, and a merge passes no list that counts: their answers are never asked for.
+  abbrev pub changes : Constraint Val → ColumnConstraints Val → Bool
+  changes (Lower inclusive v) cc = tightens S (cc .lower) inclusive v
+  changes (Upper inclusive v) cc = tightens (opposite S) (cc .upper) inclusive v
+  changes (Exclude v) cc = not (contains S (S .key v) (cc .excluded))
+  changes (Allow values) cc = allowedChanges (cc .allowed) values
+  changes (Disallow true values) cc = true
+  changes (Disallow false values) cc = not (subset S values (cc .disallowed))
+  changes (Require required) cc = true
+
+  abbrev pub changesBy : Bool → Constraint Val → ColumnConstraints Val → Bool
+  changesBy true c cc = false
+  changesBy false c cc = changes c cc
+
+  abbrev pub changesAll : List (Constraint Val) → ColumnConstraints Val → Bool
+  changesAll [] cc = false
+  changesAll (c ∷ l) cc = changesBy (cc .unsat) c cc || changesAll l (add c cc)
+
+-- ---- `merge_from`: one column's constraints as a list, in the Rust's order: lower, upper, excluded, allowed,
+-- disallowed.
+abbrev pub lowerOf : {Val : Type 0} → Bound Val → List (Constraint Val)
+lowerOf absent = []
+lowerOf (at inclusive v) = Lower inclusive v ∷ []
+
+abbrev pub upperOf : {Val : Type 0} → Bound Val → List (Constraint Val)
+upperOf absent = []
+upperOf (at inclusive v) = Upper inclusive v ∷ []
+
+abbrev pub excludedOf : {Val : Type 0} → List Val → List (Constraint Val)
+excludedOf [] = []
+excludedOf (v ∷ l) = Exclude v ∷ excludedOf l
+
+abbrev pub allowedOf : {Val : Type 0} → Option (List Val) → List (Constraint Val)
+allowedOf none = []
+allowedOf (some values) = Allow values ∷ []
+
+-- Those that are written out again: bounds and excluded values.
+abbrev pub emitted : {Val : Type 0} → ColumnConstraints Val → List (Constraint Val)
+emitted cc = lowerOf (cc .lower) ++ (upperOf (cc .upper) ++ excludedOf (cc .excluded))
+
+-- Those that only detect contradictions. The columns of an equality are not null, so what is merged need not count.
+abbrev pub recorded : {Val : Type 0} → ColumnConstraints Val → List (Constraint Val)
+recorded cc = allowedOf (cc .allowed) ++ (Disallow false (cc .disallowed) ∷ [])
+
+module _ {K Val : Type 0} (S : Scalars K Val) where
+  -- `merge_from`: the column takes in all that the other says.
+  abbrev pub mergeFrom : ColumnConstraints Val → ColumnConstraints Val → ColumnConstraints Val
+  mergeFrom cc other = addAll S (recorded other) (addAll S (emitted other) cc)
+
+  -- Its two flags: something that is written out changed; anything changed.
+  abbrev pub mergeEmitted : ColumnConstraints Val → ColumnConstraints Val → Bool
+  mergeEmitted cc other = changesAll S (emitted other) cc
+
+  abbrev pub mergeAny : ColumnConstraints Val → ColumnConstraints Val → Bool
+  mergeAny cc other = changesAll S (emitted other) cc || changesAll S (recorded other) (addAll S (emitted other) cc)

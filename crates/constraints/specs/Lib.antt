@@ -1,0 +1,9 @@
+pub mod Scalars
+pub mod Bound
+pub mod Values
+pub mod Column
+pub mod Resolve
+pub mod Comparisons
+pub mod Payload
+pub mod Abstraction
+pub mod Steps

@@ -1,0 +1,34 @@
+-- The definitions yield the starred cases of 01: one table (specs/Cases.antt), one proof.
+use mathlib.Core.Path.{_≡_, refl}
+use mathlib.Core.List.{map}
+use Rattle.records.specs.Bytes.{word, valueAt, all, first}
+use Rattle.records.specs.Check.{typesKnown, tableOk, sizesOk, meaningFault, recordFault, firstFault, recordsAnswer}
+use Rattle.records.specs.Check.{checkAnswer}
+use Rattle.records.specs.Course.{upTo, course}
+use Rattle.records.specs.Fit.{allFit, listOk, reachOk, isBinary, servedOk, typeOf, typeAt, sameType, binaryFits}
+use Rattle.records.specs.Fit.{betweenFits, memberFits, typesOk}
+use Rattle.records.specs.Operator.{operatorAt}
+use Rattle.records.specs.Record.{fieldsAt, closedAt, decode, recordAt, encode}
+use Rattle.records.specs.Shape.{knownType, inType, maxCode, isTyped, usesA, usesB, usesC, knownOk, zeroOr, unusedOk}
+use Rattle.records.specs.Shape.{literalOk, shapeOk}
+use Rattle.truth.specs.FromBytes.{valuesFrom, aexprOf, aexprAt, rowOf}
+use Rattle.merge.specs.Rewrite.{rewriteAnswer, rewriteBytes}
+use Rattle.merge.specs.Write.{splice}
+use Rattle.constraints.specs.Payload.{payload}
+use Rattle.merge.specs.Cases.{starred, further, yielded, due}
+
+pub starred-cases : map yielded starred ≡ map due starred
+unfolding payload word valueAt all first typesKnown tableOk sizesOk meaningFault recordFault firstFault recordsAnswer
+    checkAnswer upTo course allFit listOk reachOk isBinary servedOk typeOf typeAt sameType binaryFits betweenFits
+    memberFits typesOk operatorAt fieldsAt closedAt decode recordAt encode knownType inType maxCode isTyped usesA
+    usesB usesC knownOk zeroOr unusedOk literalOk shapeOk valuesFrom aexprOf aexprAt rowOf rewriteAnswer rewriteBytes
+    splice
+starred-cases = refl
+
+pub further-cases : map yielded further ≡ map due further
+unfolding payload word valueAt all first typesKnown tableOk sizesOk meaningFault recordFault firstFault recordsAnswer
+    checkAnswer upTo course allFit listOk reachOk isBinary servedOk typeOf typeAt sameType binaryFits betweenFits
+    memberFits typesOk operatorAt fieldsAt closedAt decode recordAt encode knownType inType maxCode isTyped usesA
+    usesB usesC knownOk zeroOr unusedOk literalOk shapeOk valuesFrom aexprOf aexprAt rowOf rewriteAnswer rewriteBytes
+    splice
+further-cases = refl

@@ -1,0 +1,489 @@
+-- Demand 3, whole, of the definitions (specs/Demand.antt has the statements).
+use mathlib.Core.Path.{_≡_, refl, sym, _∙_, ap, subst}
+use mathlib.Core.Bool.{Bool, true, false, not, _&&_, _||_, cond, true≢false, and-eq-true-iff}
+use mathlib.Core.List.{List, [], _∷_, _++_}
+use mathlib.Core.Logic.{_↔_}
+use mathlib.Core.Option.{Option, none, some}
+use Prim.Native.Nat.{ℕ, zero, suc, _+_, _*_, _/_, _≤_, _<_}
+use native.Mathlib.Omega.{arith}
+use lib.Dec.{eqb, ltb, leb}
+use lib.IntN.{ℤ, sucℤ, predℤ, pos, suc-pred}
+use lib.ListN.{length, getD}
+use mir.Syntax.{w64}
+use mir.Val.{toZ}
+use borrow.Author.Tests.{ltb-true, lt-ltb, le-ltb, ltb-false, leb-true}
+use Rattle.records.specs.Bytes.{word, all}
+use Rattle.records.specs.Operator.{operatorAt}
+use Rattle.records.specs.Record.{node, fieldsAt, decode, recordAt}
+use Rattle.records.specs.Tree.{treeCount}
+use Rattle.records.specs.Check.{checkAnswer}
+use Rattle.records.specs.Checked.{Checked}
+use Rattle.records.proofs.Accepted.{checked}
+use Rattle.records.specs.declared.operator.Operator.{Operator}
+use Rattle.records.specs.declared.operator.Operator.the-variants as operator
+use Rattle.records.specs.declared.record.Fields.{Fields}
+use Rattle.records.specs.declared.record.Record.{Record}
+use Rattle.records.specs.declared.record.Record.the-variants as kind
+use Rattle.records.specs.declared.check.CheckAnswer.{CheckAnswer}
+use Rattle.records.specs.declared.check.CheckAnswer.the-variants as check
+use Rattle.truth.specs.Halves.{ordZ, twice, key}
+use Rattle.truth.specs.declared.logic.Truth.{Truth}
+use Rattle.truth.specs.declared.logic.Truth.the-variants.{False, True}
+use Rattle.truth.specs.Logic.{isTrue}
+use Rattle.truth.specs.AExpr.{AExpr, Literal, Missing, WF}
+use Rattle.truth.specs.FromBytes.{binaryExpr, toAExpr, aexprOf, aexprAt, truthKeys, truthIn}
+use Rattle.truth.proofs.HalfPoints as half
+use Rattle.truth.proofs.Agree.{cells-agree}
+use Rattle.constraints.specs.Scalars.{Scalars}
+use Rattle.constraints.specs.Payload as values
+use Rattle.constraints.specs.Values.{isEmpty}
+use Rattle.merge.specs.declared.rewrite.RewriteAnswer.{RewriteAnswer}
+use Rattle.merge.specs.declared.rewrite.RewriteAnswer.the-variants as answer
+use Rattle.merge.specs.Minterms.{minterms}
+use Rattle.merge.specs.Classify.{conjuncts}
+use Rattle.constraints.specs.Comparisons.{ColumnComparison}
+use Rattle.merge.specs.Emit.{mergeFilterConstraints, Outcome, Unchanged, NothingPasses, Rebuilt}
+use Rattle.merge.specs.Plain.{readsColumn, isNumberColumn, readsOnlyNumbers, plainConjuncts, plainScreen}
+use Rattle.merge.specs.Rebuild.{comparisonNodes, comparisonsEnd, foldUsed}
+use Rattle.merge.specs.Write.{writeComparisons, outcomeBytes}
+use Rattle.merge.specs.Rewrite.{outcomeOf, chainNodes, chainRoot, chainUsed, hasRoom, chainFits, outcomeAnswer}
+use Rattle.merge.specs.Rewrite.{checkedAnswer, rewriteIf, rewriteAnswer, writtenIf, rewriteBytes, rootAfter}
+use Rattle.merge.specs.Rewrite.{usedAfter}
+use Rattle.merge.specs.Demand as demand
+use Rattle.merge.proofs.Passes.{eqb-path, eqb-self}
+use Rattle.merge.proofs.Chains.{Below}
+use Rattle.merge.proofs.PlainForms.{plain-same}
+use Rattle.merge.proofs.Witness.{HalfPoints}
+use Rattle.merge.proofs.Complete.{isNothingPasses}
+use Rattle.merge.proofs.Whole.{is-true, outcome, Keeps, outcome-keeps}
+use Rattle.merge.proofs.Rebuilding.{Built, nodes-below}
+use Rattle.merge.proofs.Returned.{returned, NotEmpty, AnswerLt, answer-lt, same-passes}
+use Rattle.merge.proofs.Typed.{Row, Numeric, OneOfTwo, nothing-found-typed}
+use Rattle.merge.proofs.Literals.{OutcomeP, WrittenP}
+use Rattle.merge.proofs.Fitting.{AExprP, outcome-p}
+use Rattle.merge.proofs.Written.{Word, Holds, holds-put}
+use Rattle.merge.proofs.RebuiltBytes.{Long, Fit, literalRecord, literal-back, literal-words, comparisons-hold}
+use Rattle.merge.proofs.RebuiltBytes.{fold-holds, fold-end}
+use Rattle.merge.proofs.NeverEmpty.{never-empty}
+use Rattle.merge.proofs.Accepted.{inputs-fall}
+
+-- ---- The values of a screen, spelled out.
+abbrev payload : Scalars ℤ ℕ
+payload = record { key = key; order = ordZ; opened = λ held excluded. excluded; opened-key = λ held excluded. refl }
+
+payload-is : values.payload ≡ payload
+unfolding values.payload
+payload-is = refl
+
+abbrev merged : List ℕ → List ℕ → ℕ → ℕ → Outcome ℕ
+merged rs p used root = mergeFilterConstraints payload (conjuncts (aexprAt rs p used) root)
+
+merged-is : (rs p : List ℕ) (used root : ℕ) → outcomeOf rs p used root ≡ merged rs p used root
+merged-is rs p used root = ap (λ S. mergeFilterConstraints S (conjuncts (aexprAt rs p used) root)) payload-is
+
+-- ---- The keys of 64-bit values leave room between them.
+pub halves : HalfPoints payload
+halves =
+    record {
+      hi = sucℤ;
+      lo = predℤ;
+      nil = pos 1;
+      hi-above = λ v. half.suc-above (key v);
+      hi-below = λ v w. half.half-below (toZ w64 v) (toZ w64 w);
+      lo-below = λ v. half.pred-below (key v);
+      hi-off = λ v w. half.half-is-no-whole (toZ w64 v) (toZ w64 w);
+      lo-off = λ v w e. half.half-is-no-whole (toZ w64 w) (toZ w64 v) (sym (sym (suc-pred (key v)) ∙ ap sucℤ e));
+      nil-off = λ w. half.one-half-is-no-whole (toZ w64 w);
+    }
+
+false-is-false : True ≡ False → ⊥
+false-is-false e = true≢false (ap isTrue e)
+
+bool-same : (a b : Bool) → (a ≡ true) ↔ (b ≡ true) → b ≡ a
+bool-same true b h = h .0 refl
+bool-same false true h = sym (h .1 refl)
+bool-same false false h = refl
+
+pub or-no : (a b : Bool) → (a || b) ≡ false → (a ≡ false) × (b ≡ false)
+or-no true b e = absurd (true≢false e)
+or-no false b e = (refl, e)
+
+pub and-yes : (a b : Bool) → (a && b) ≡ true → (a ≡ true) × (b ≡ true)
+and-yes a b h = and-eq-true-iff a b .0 h
+
+pub all-at : (f : ℕ → Bool) (n c : ℕ) → all f n ≡ true → c < n → f c ≡ true
+unfolding all
+all-at f zero c h l = absurd (omega arith)
+all-at f (suc n) c h l = go (eqb c n) refl (and-yes (all f n) (f n) h) (λ k m. all-at f n c k m)
+  where
+    go :
+        (b : Bool) → eqb c n ≡ b → (all f n ≡ true) × (f n ≡ true) → (all f n ≡ true → c < n → f c ≡ true) →
+        f c ≡ true
+    go true e q ih = subst (λ m. f m ≡ true) (sym (eqb-path c n e)) (q .1)
+    go false e q ih =
+        let d : (c ≡ n → ⊥) = λ r. true≢false (sym (subst (λ m. eqb c m ≡ true) r (eqb-self c)) ∙ e) in
+        ih (q .0) (omega (arith, d))
+
+-- ---- What is read of bytes fits the fields of a record.
+word-small : (rs : List ℕ) (j : ℕ) → demand.AreBytes rs → word rs j < 4294967296
+unfolding word
+word-small rs j h = omega (arith, h j, h (j + 1), h (j + 2), h (j + 3))
+
+abbrev opens : (w e : ℕ) → Long w → Long e → Long (payload .opened w e)
+opens w e h k = k
+
+abbrev Fits : AExpr ℕ → Type 0
+Fits r = AExprP payload Long opens Word r
+
+binary-fits : (o : Operator) (x y : ℕ) → Fits (binaryExpr o x y)
+binary-fits operator.Eq x y = tt
+binary-fits operator.EqValidity x y = tt
+binary-fits operator.NotEq x y = tt
+binary-fits operator.NotEqValidity x y = tt
+binary-fits operator.Lt x y = tt
+binary-fits operator.LtEq x y = tt
+binary-fits operator.Gt x y = tt
+binary-fits operator.GtEq x y = tt
+binary-fits operator.Plus x y = tt
+binary-fits operator.Minus x y = tt
+binary-fits operator.Multiply x y = tt
+binary-fits operator.RustDivide x y = tt
+binary-fits operator.TrueDivide x y = tt
+binary-fits operator.FloorDivide x y = tt
+binary-fits operator.Modulus x y = tt
+binary-fits operator.And x y = tt
+binary-fits operator.Or x y = tt
+binary-fits operator.Xor x y = tt
+binary-fits operator.LogicalAnd x y = tt
+binary-fits operator.LogicalOr x y = tt
+
+by-kind : (p : List ℕ) (k m : ℕ) (x y : Record) → Fits (toAExpr p x) → Fits (toAExpr p y) →
+    Fits (toAExpr p (cond (eqb k m) x y))
+by-kind p k m x y h g = go (eqb k m)
+  where
+    go : (b : Bool) → Fits (toAExpr p (cond b x y))
+    go true = h
+    go false = g
+
+decoded-fits : (p : List ℕ) (f : Fields) → Word (f .a) → Word (f .b) → Word (f .c) → Fits (toAExpr p (decode f))
+unfolding decode
+decoded-fits p f ha hb hc =
+    by-kind p (f .kind) 1 _ _ ha
+    (by-kind p (f .kind) 2 _ _ (omega arith)
+    (by-kind p (f .kind) 3 _ _ tt
+    (by-kind p (f .kind) 4 _ _ (binary-fits (operatorAt (f .code)) (f .a) (f .b))
+    (by-kind p (f .kind) 5 _ _ tt
+    (by-kind p (f .kind) 6 _ _ tt
+    (by-kind p (f .kind) 7 _ _ tt
+    (by-kind p (f .kind) 8 _ _ tt
+    (by-kind p (f .kind) 9 _ _ tt
+    (by-kind p (f .kind) 10 _ _ tt
+    tt)))))))))
+
+record-fits : (rs p : List ℕ) (used : ℕ) → demand.AreBytes rs → (n : ℕ) → Fits (aexprAt rs p used n)
+unfolding aexprAt aexprOf recordAt fieldsAt
+record-fits rs p used h n = go (ltb n used)
+  where
+    go : (b : Bool) → Fits (cond b (toAExpr p (decode (fieldsAt rs (node n)))) Missing)
+    go true =
+        decoded-fits p (fieldsAt rs (node n)) (word-small rs (16 * n + 4) h) (word-small rs (16 * n + 8) h)
+        (word-small rs (16 * n + 12) h)
+    go false = tt
+
+fit-of : (cs : List (ℕ × ColumnComparison ℕ)) → WrittenP payload Long opens Word cs → Fit cs
+fit-of [] h = tt
+fit-of (x ∷ l) h = (h .0, fit-of l (h .1))
+
+-- ---- An accepted screen.
+module _ (t rs p : List ℕ) (used root : ℕ) (bytes : demand.AreBytes rs) (ok : Checked t rs p used root) where
+  abbrev R : ℕ → AExpr ℕ
+  R n = aexprAt rs p used n
+
+  abbrev good : WF R
+  good n = inputs-fall t rs p used root ok n
+
+  abbrev back : Outcome ℕ → Built ℕ
+  back o = returned payload halves truthKeys 0 refl R good used root o
+
+  -- Refusal 11 was not given; nothing is written for an unchanged screen.
+  abbrev Roomy : Outcome ℕ → Type 0
+  Roomy Unchanged = Unit {0}
+  Roomy NothingPasses = (suc used ≤ 4096) × (16 * suc used ≤ length rs)
+  Roomy (Rebuilt ns cs) = (chainUsed used ns cs ≤ 4096) × (16 * chainUsed used ns cs ≤ length rs)
+
+  abbrev Fitting : Outcome ℕ → Type 0
+  Fitting Unchanged = Unit {0}
+  Fitting NothingPasses = Unit {0}
+  Fitting (Rebuilt ns cs) = Fit cs
+
+  -- What the answer says of the outcome, where nothing is refused.
+  record Told (o : Outcome ℕ) (a : RewriteAnswer) : Type 0 where
+    written : writtenIf a rs (outcomeBytes t rs used o) ≡ outcomeBytes t rs used o
+    newRoot : rootAfter a root ≡ back o .root
+    newUsed : usedAfter a used ≡ back o .used
+    roomy : Roomy o
+    full : NotEmpty payload halves truthKeys 0 refl R good used o
+    nothing : demand.isNothing a ≡ isNothingPasses payload halves o
+
+  room-of : (u : ℕ) → hasRoom rs u ≡ true → (u ≤ 4096) × (16 * u ≤ length rs)
+  room-of u h =
+      let b = and-yes (leb u 4096) (leb u (length rs / 16)) h in
+      let l : u ≤ 4096 = leb-true u 4096 (b .0) in
+      let m : u ≤ length rs / 16 = leb-true u (length rs / 16) (b .1) in
+      (l, omega arith)
+
+  told : (o : Outcome ℕ) → demand.isRefused (outcomeAnswer t rs used o) ≡ false → Told o (outcomeAnswer t rs used o)
+  told Unchanged h = record { written = refl; newRoot = refl; newUsed = refl; roomy = tt; full = tt; nothing = refl }
+  told NothingPasses h = go (hasRoom rs (suc used)) refl h
+    where
+      go :
+          (b : Bool) → hasRoom rs (suc used) ≡ b →
+          demand.isRefused (cond b (answer.NothingPasses used (suc used)) (answer.Refused 11)) ≡ false →
+          Told NothingPasses (cond b (answer.NothingPasses used (suc used)) (answer.Refused 11))
+      go true e h =
+          record {
+            written = refl;
+            newRoot = refl;
+            newUsed = refl;
+            roomy = room-of (suc used) e;
+            full = tt;
+            nothing =
+                refl;
+          }
+      go false e h = absurd (true≢false h)
+  told (Rebuilt ns cs) h = go (isEmpty (chainNodes used ns cs)) refl (chainFits t rs used ns cs) refl h
+    where
+      a : Bool → Bool → RewriteAnswer
+      a b c =
+          cond b (answer.Refused 10)
+          (cond c (answer.Rewritten (chainRoot used ns cs) (chainUsed used ns cs)) (answer.Refused 11))
+
+      go :
+          (b : Bool) → isEmpty (chainNodes used ns cs) ≡ b → (c : Bool) → chainFits t rs used ns cs ≡ c →
+          demand.isRefused (a b c) ≡ false → Told (Rebuilt ns cs) (a b c)
+      go true e c f h = absurd (true≢false h)
+      go false e true f h =
+          record {
+            written = refl;
+            newRoot = refl;
+            newUsed = refl;
+            roomy = room-of (chainUsed used ns cs) (and-yes (hasRoom rs (chainUsed used ns cs)) _ f .0);
+            full = e;
+            nothing = refl;
+          }
+      go false e false f h = absurd (true≢false h)
+
+  -- The bytes at exit hold the records of the screen returned.
+  out-holds :
+      (o : Outcome ℕ) → AnswerLt payload used o → Roomy o → Fitting o →
+      Holds (outcomeBytes t rs used o) p (back o .used) (back o .records)
+  out-holds Unchanged b room f n = refl
+  out-holds NothingPasses b room f n =
+      let k : 16 * suc used ≤ length rs = room .1 in
+      holds-put rs p used (literalRecord 3 0) R (Literal 0) (omega arith) (literal-words 3 0 (omega arith))
+      (literal-back p 3 0) (λ n. refl) n
+  out-holds (Rebuilt ns cs) b room f n =
+      let few : chainUsed used ns cs ≤ 4096 = room .0 in
+      let big : 16 * chainUsed used ns cs ≤ length rs = room .1 in
+      let e : comparisonsEnd used cs ≤ chainUsed used ns cs =
+      fold-end (chainNodes used ns cs) (comparisonsEnd used cs)
+      in
+      let c = comparisons-hold t p cs rs used R (omega arith) (omega arith) f (λ n. refl) in
+      fold-holds p (chainNodes used ns cs) (writeComparisons t used cs rs) (comparisonsEnd used cs) _ (rw (c .0) big)
+      few
+      (nodes-below payload truthKeys (λ c. none) used ns cs b) (c .1) .1 n
+
+  fitting : (o : Outcome ℕ) → OutcomeP payload Long opens Word o → Fitting o
+  fitting Unchanged h = tt
+  fitting NothingPasses h = tt
+  fitting (Rebuilt ns cs) h = fit-of cs h
+
+  abbrev o : Outcome ℕ
+  o = merged rs p used root
+
+  abbrev a : RewriteAnswer
+  a = outcomeAnswer t rs used o
+
+  -- Refusal 10 is never given: a rebuilt chain has a conjunct.
+  pub chain-is-full : (ns : List ℕ) (cs : List (ℕ × ColumnComparison ℕ)) → outcomeOf rs p used root ≡ Rebuilt ns cs →
+      isEmpty (chainNodes used ns cs) ≡ false
+  chain-is-full ns cs e =
+      subst (NotEmpty payload halves truthKeys 0 refl R good used) (sym (merged-is rs p used root) ∙ e)
+      (never-empty payload halves truthKeys 0 refl R good used root)
+
+  -- The kept nodes are used records, and the comparisons fit the fields of a record.
+  pub chain-fits-fields : (ns : List ℕ) (cs : List (ℕ × ColumnComparison ℕ)) → outcomeOf rs p used root ≡
+      Rebuilt ns cs →
+      Below used ns × Fit cs
+  chain-fits-fields ns cs e =
+      let q : merged rs p used root ≡ Rebuilt ns cs = sym (merged-is rs p used root) ∙ e in (
+        subst (AnswerLt payload used) q (answer-lt payload used halves truthKeys R good root (ok .root-used)),
+        subst Fitting q (fitting o (outcome-p payload Long opens Word R (record-fits rs p used bytes) root)),
+      )
+
+  module _ (kept : demand.isRefused a ≡ false) where
+    is : Told o a
+    is = told o kept
+
+    holds : Holds (outcomeBytes t rs used o) p (back o .used) (back o .records)
+    holds =
+        out-holds o (answer-lt payload used halves truthKeys R good root (ok .root-used)) (is .roomy)
+        (fitting o (outcome-p payload Long opens Word R (record-fits rs p used bytes) root))
+
+    -- The row test of the bytes at exit is that of the records of the screen returned.
+    exit-same :
+        (row : demand.Row) →
+        demand.passes (writtenIf a rs (outcomeBytes t rs used o)) p (usedAfter a used) (rootAfter a root) row
+        ≡ isTrue (truthIn (back o .records) row (back o .root))
+    exit-same row =
+        ap (λ w. demand.passes w p (usedAfter a used) (rootAfter a root) row) (is .written)
+        ∙ ap (λ u. demand.passes (outcomeBytes t rs used o) p u (rootAfter a root) row) (is .newUsed)
+        ∙ ap (λ r. demand.passes (outcomeBytes t rs used o) p (back o .used) r row) (is .newRoot)
+        ∙ ap (λ c. isTrue (c .truth))
+        (cells-agree key ordZ truthKeys (aexprAt (outcomeBytes t rs used o) p (back o .used)) (back o .records) row
+        (suc (back o .root)) (λ n h. holds n) (back o .root) (omega arith))
+
+    rows-same :
+        (row : demand.Row) →
+        demand.passes (writtenIf a rs (outcomeBytes t rs used o)) p (usedAfter a used) (rootAfter a root) row
+        ≡ demand.passes rs p used root row
+    rows-same row =
+        exit-same row
+        ∙ bool-same (demand.passes rs p used root row) (isTrue (truthIn (back o .records) row (back o .root)))
+        (same-passes payload halves truthKeys 0 refl R good used row root (ok .root-used) (is .full))
+
+    -- Where nothing passes, the screen sent lets no row pass.
+    none-sent : demand.isNothing a ≡ true → (row : demand.Row) → demand.passes rs p used root row ≡ false
+    none-sent h row = go o (sym (is .nothing) ∙ h) (outcome-keeps payload halves truthKeys R good row root)
+      where
+        no : (b : Bool) → (b ≡ true → ⊥) → b ≡ false
+        no true f = absurd (f refl)
+        no false f = refl
+
+        go :
+            (x : Outcome ℕ) → isNothingPasses payload halves x ≡ true → Keeps payload halves truthKeys R good row root
+            x →
+            demand.passes rs p used root row ≡ false
+        go NothingPasses e k =
+            no (demand.passes rs p used root row) (λ e. k (is-true (truthIn (aexprAt rs p used) row root) .0 e))
+        go Unchanged e k = absurd (true≢false (sym e))
+        go (Rebuilt ns cs) e k = absurd (true≢false (sym e))
+
+    -- ---- Plain screens.
+    abbrev num : ℕ → Bool
+    num c = not (ltb c (length t)) || isNumberColumn t c
+
+    row-of : (row : demand.Row) → demand.IsRow t row → Row payload halves truthKeys num row
+    row-of row h c e =
+        let q = or-no (not (ltb c (length t))) (isNumberColumn t c) e in
+        h c (ltb-true c (length t) (not-no (ltb c (length t)) (q .0))) (q .1)
+      where
+        not-no : (b : Bool) → not b ≡ false → b ≡ true
+        not-no true e = refl
+        not-no false e = absurd (true≢false e)
+
+    is-row : (row : demand.Row) → Row payload halves truthKeys num row → demand.IsRow t row
+    is-row row h c l e = h c (rw (lt-ltb c (length t) l, e))
+
+    numeric : readsOnlyNumbers t R root ≡ true → Numeric payload halves truthKeys num R good root
+    numeric h c e = go (ltb c (length t)) refl
+      where
+        imp : (x y : Bool) → (not x || y) ≡ true → x ≡ true → y ≡ true
+        imp true y h e = h
+        imp false y h e = absurd (true≢false (sym e))
+
+        go : (b : Bool) → ltb c (length t) ≡ b → (not b || isNumberColumn t c) ≡ true
+        go true l =
+            imp (readsColumn R root c) (isNumberColumn t c)
+            (all-at (λ i. not (readsColumn R root i) || isNumberColumn t i) (length t) c h (ltb-true c (length t) l))
+            e
+        go false l = refl
+
+    exactly :
+        plainScreen t R root ≡ true →
+        (demand.isNothing a ≡ true) ↔ ((row : demand.Row) → demand.IsRow t row → demand.passes rs p used root row ≡
+        true → ⊥)
+    exactly h =
+        let q = and-yes (readsOnlyNumbers t R root) (plainConjuncts R (minterms R root)) h in
+        let f = nothing-found-typed payload halves truthKeys num R good root (sym (plain-same R (minterms R root)) ∙
+        q .1) (numeric (q .0)) in (
+          λ e row r s. f .0 (sym (is .nothing) ∙ e) row (row-of row r) (is-true (truthIn R row root) .0 s),
+          λ g. is .nothing ∙ f .1 (λ row r s. g row (is-row row r) (is-true (truthIn R row root) .1 s)),
+        )
+
+-- ---- From the answer to the screen.
+settled :
+    (t rs p : List ℕ) (used root : ℕ) → demand.AcceptedScreen t rs p used root →
+    (checkAnswer t rs p used root ≡ check.Accepted)
+    × (rewriteAnswer t rs p used root ≡ outcomeAnswer t rs used (merged rs p used root))
+unfolding rewriteAnswer
+settled t rs p used root h =
+    let r = go (checkAnswer t rs p used root) h in
+    (r .0, r .1 ∙ ap (outcomeAnswer t rs used) (merged-is rs p used root))
+  where
+    x : RewriteAnswer
+    x = outcomeAnswer t rs used (outcomeOf rs p used root)
+
+    many : Bool → Bool → RewriteAnswer
+    many b c = cond b (answer.Refused 8) (cond c (answer.Refused 9) x)
+
+    inner : (b c : Bool) → demand.isRefused (many b c) ≡ false → many b c ≡ x
+    inner true c h = absurd (true≢false h)
+    inner false true h = absurd (true≢false h)
+    inner false false h = refl
+
+    go :
+        (c : CheckAnswer) → demand.isRefused (rewriteIf c (checkedAnswer t rs p used root)) ≡ false →
+        (c ≡ check.Accepted) × (rewriteIf c (checkedAnswer t rs p used root) ≡ x)
+    go (check.Refused k) h = absurd (true≢false h)
+    go check.Accepted h =
+        (refl, inner (ltb 4096 (treeCount rs root)) (ltb 128 (length (minterms (aexprAt rs p used) root))) h)
+
+-- Demand 3 (01, 'Statements and samples').
+pub demand-3 : demand.Demand3Holds
+unfolding rewriteBytes
+demand-3 t rs p used root bytes h =
+    record {
+      rows = λ row r. rows row;
+      counts = λ chain c. counts chain;
+      nothing = λ e chain c. none chain e;
+      exactly = λ q. swap (exactly t rs p used root bytes ok kept q);
+    }
+  where
+    s : (checkAnswer t rs p used root ≡ check.Accepted)
+        × (rewriteAnswer t rs p used root ≡ outcomeAnswer t rs used (merged rs p used root))
+    s = settled t rs p used root h
+
+    ok : Checked t rs p used root
+    ok = checked t rs p used root (s .0)
+
+    x : RewriteAnswer
+    x = outcomeAnswer t rs used (merged rs p used root)
+
+    kept : demand.isRefused x ≡ false
+    kept = subst (λ a. demand.isRefused a ≡ false) (s .1) h
+
+    w : List ℕ → RewriteAnswer → demand.Row → Bool
+    w b a row = demand.passes (writtenIf a rs b) p (usedAfter a used) (rootAfter a root) row
+
+    rows : (row : demand.Row) → demand.passesReturned t rs p used root row ≡ demand.passesSent t rs p used root row
+    rows row =
+        ap (λ b. w b (rewriteAnswer t rs p used root) row) (ap (outcomeBytes t rs used) (merged-is rs p used root))
+        ∙ ap (λ a. w (outcomeBytes t rs used (merged rs p used root)) a row) (s .1)
+        ∙ rows-same t rs p used root bytes ok kept row
+
+    counts : (chain : List demand.Row) → demand.countReturned t rs p used root chain ≡
+        demand.countSent t rs p used root chain
+    counts [] = refl
+    counts (row ∷ chain) = rw (rows row, counts chain)
+
+    none : (chain : List demand.Row) → demand.isNothing (rewriteAnswer t rs p used root) ≡ true →
+        demand.countSent t rs p used root chain ≡ 0
+    none [] e = refl
+    none (row ∷ chain) e =
+        rw (none-sent t rs p used root bytes ok kept (subst (λ a. demand.isNothing a ≡ true) (s .1) e) row)
+        (none chain e)
+
+    swap : {B : Type 0} → (demand.isNothing x ≡ true) ↔ B → (demand.isNothing (rewriteAnswer t rs p used root) ≡ true)
+        ↔ B
+    swap {B} q = subst (λ a. (demand.isNothing a ≡ true) ↔ B) (sym (s .1)) q

@@ -1,0 +1,312 @@
+-- What holds of every column and literal of a screen holds of those of the answer.
+use mathlib.Core.Bool.{Bool, true, false, _||_, cond}
+use mathlib.Core.List.{List, [], _∷_, _++_}
+use mathlib.Core.Option.{Option, none, some}
+use Prim.Native.Nat.{ℕ, zero, suc}
+use lib.Dec.{eqb, ltb}
+use lib.ListN.{length}
+use Rattle.truth.specs.declared.scalar.Ordering.{Ordering}
+use Rattle.truth.specs.declared.scalar.Ordering.the-variants.{Equal, Greater, Less}
+use Rattle.constraints.specs.Bound.{Bound, absent, at, tighten, tightenBy}
+use Rattle.constraints.specs.Column.{Allow, ColumnConstraints, Constraint, Disallow, Exclude, Lower, Require, Upper}
+use Rattle.constraints.specs.Column.{add, addAll, addBy, allowedOf, emitted, excludedOf, lowerOf, mergeFrom, put}
+use Rattle.constraints.specs.Column.{recorded, upperOf}
+use Rattle.constraints.specs.Comparisons.{ColumnComparison, collectBy, collectColumnComparisons, excludedComparisons}
+use Rattle.constraints.specs.Comparisons.{lowerComparison, upperComparison}
+use Rattle.constraints.specs.Resolve.{Range, classifyAt, fixedAt, fixedBy, openAt, rangeOf, resolveDeferred}
+use Rattle.constraints.specs.Resolve.{resolveExcluded, resolveIf, resolveBy}
+use Rattle.constraints.specs.Scalars.{Scalars, opposite}
+use Rattle.constraints.specs.Values.{contains, insert, insertBy}
+use Rattle.constraints.specs.declared.column.ExcludedResolution.{ExcludedResolution}
+use Rattle.constraints.specs.declared.column.ExcludedResolution.the-variants.{Drop, Keep, TightenLower, TightenUpper}
+use Rattle.constraints.specs.declared.column.Nullability.the-variants.{NonNull}
+use Rattle.merge.proofs.Passes.{edge-ind}
+use Rattle.merge.proofs.Sound.{upd-ind}
+use Rattle.merge.specs.Classify.{Bounds, Conjunct, Equality, NonNullPair, Opaque, Recorded}
+use Rattle.merge.specs.Collect.{Collected, Table, addTo, begin, collect, collectIf, collectOne, enter, isIn}
+use Rattle.merge.specs.Collect.{requireNonNull}
+use Rattle.merge.specs.Emit.{NothingPasses, Outcome, Rebuilt, Unchanged, anyUnsat, comparisons, conclude}
+use Rattle.merge.specs.Emit.{droppedEquality, keptEqualities, mergeFilterConstraints, ofColumn, outcomeBy}
+use Rattle.merge.specs.Emit.{propagated, resolved}
+use Rattle.merge.specs.Propagate.{mergeEdge, mergedRight, pass, passAny, propagate, propagateEmitted}
+use Rattle.merge.specs.Rebuild.{valueOf}
+
+module _ {Val : Type 0} (P : Val → Type 0) where
+  abbrev BoundP : Bound Val → Type 0
+  BoundP absent = Unit {0}
+  BoundP (at c v) = P v
+
+  abbrev ListP : List Val → Type 0
+  ListP [] = Unit {0}
+  ListP (v ∷ l) = P v × ListP l
+
+  abbrev ColumnP : ColumnConstraints Val → Type 0
+  ColumnP q = BoundP (q .lower) × BoundP (q .upper) × ListP (q .excluded)
+
+  abbrev ConstraintP : Constraint Val → Type 0
+  ConstraintP (Lower c v) = P v
+  ConstraintP (Upper c v) = P v
+  ConstraintP (Exclude v) = P v
+  ConstraintP (Allow l) = Unit {0}
+  ConstraintP (Disallow h l) = Unit {0}
+  ConstraintP (Require n) = Unit {0}
+
+  abbrev pub ConstraintsP : List (Constraint Val) → Type 0
+  ConstraintsP [] = Unit {0}
+  ConstraintsP (a ∷ l) = ConstraintP a × ConstraintsP l
+
+  list-snoc : (l : List Val) (v : Val) → ListP l → P v → ListP (l ++ (v ∷ []))
+  list-snoc [] v h p = (p, tt)
+  list-snoc (w ∷ l) v h p = (h .0, list-snoc l v (h .1) p)
+
+  adds-app : (l m : List (Constraint Val)) → ConstraintsP l → ConstraintsP m → ConstraintsP (l ++ m)
+  adds-app [] m h k = k
+  adds-app (a ∷ l) m h k = (h .0, adds-app l m (h .1) k)
+
+module _ {K Val : Type 0} (P : Val → Type 0) where
+  tighten-p : (S : Scalars K Val) (b : Bound Val) (c : Bool) (v : Val) → BoundP P b → P v → BoundP P (tighten S b c v)
+  tighten-p S absent c v h p = p
+  tighten-p S (at d w) c v h p = go (S .order .cmp (S .key v) (S .key w))
+    where
+      go : (o : Ordering) → BoundP P (tightenBy o d w c v)
+      go Less = h
+      go Equal = h
+      go Greater = p
+
+module _ {K Val : Type 0} (S : Scalars K Val) (P : Val → Type 0) (opens : (w e : Val) → P w → P e → P (S .opened w e))
+    (Q : ℕ → Type 0) where
+  ins-p : (v : Val) (l : List Val) → P v → ListP P l → ListP P (insert S v l)
+  ins-p v l p h = go (contains S (S .key v) l)
+    where
+      go : (b : Bool) → ListP P (insertBy b v l)
+      go true = h
+      go false = list-snoc P l v h p
+
+  put-p : (a : Constraint Val) (q : ColumnConstraints Val) → ConstraintP P a → ColumnP P q → ColumnP P (put S a q)
+  put-p (Lower c v) q p h = (tighten-p P S (q .lower) c v (h .0) p, h .1, h .2)
+  put-p (Upper c v) q p h = (h .0, tighten-p P (opposite S) (q .upper) c v (h .1) p, h .2)
+  put-p (Exclude v) q p h = (h .0, h .1, ins-p v (q .excluded) p (h .2))
+  put-p (Allow l) q p h = h
+  put-p (Disallow b l) q p h = h
+  put-p (Require n) q p h = h
+
+  addAll-p : (l : List (Constraint Val)) (q : ColumnConstraints Val) → ConstraintsP P l → ColumnP P q →
+      ColumnP P (addAll S l q)
+  addAll-p [] q p h = h
+  addAll-p (a ∷ l) q p h = addAll-p l (add S a q) (p .1) (go (q .unsat))
+    where
+      go : (b : Bool) → ColumnP P (addBy S b a q)
+      go true = h
+      go false = put-p a q (p .0) h
+
+  lows-p : (b : Bound Val) → BoundP P b → ConstraintsP P (lowerOf b)
+  lows-p absent h = tt
+  lows-p (at c v) h = (h, tt)
+
+  ups-p : (b : Bound Val) → BoundP P b → ConstraintsP P (upperOf b)
+  ups-p absent h = tt
+  ups-p (at c v) h = (h, tt)
+
+  excs-p : (l : List Val) → ListP P l → ConstraintsP P (excludedOf l)
+  excs-p [] h = tt
+  excs-p (v ∷ l) h = (h .0, excs-p l (h .1))
+
+  allows-p : (o : Option (List Val)) → ConstraintsP P (allowedOf o)
+  allows-p none = tt
+  allows-p (some l) = (tt, tt)
+
+  mergeFrom-p : (q r : ColumnConstraints Val) → ColumnP P q → ColumnP P r → ColumnP P (mergeFrom S q r)
+  mergeFrom-p q r h k = addAll-p (recorded r) (addAll S (emitted r) q)
+      (adds-app P (allowedOf (r .allowed)) (Disallow false (r .disallowed) ∷ []) (allows-p (r .allowed)) (tt, tt))
+      (addAll-p (emitted r) q (adds-app P (lowerOf (r .lower)) (upperOf (r .upper) ++ excludedOf (r .excluded))
+      (lows-p (r .lower) (k .0)) (adds-app P (upperOf (r .upper)) (excludedOf (r .excluded)) (ups-p (r .upper) (k .1))
+      (excs-p (r .excluded) (k .2)))) h)
+
+  abbrev TabP : Table Val → Type 0
+  TabP t = (c : ℕ) → ColumnP P (t c)
+
+  pass-p : (es : List (ℕ × ℕ × ℕ)) (t : Table Val) → TabP t → TabP (pass S es t)
+  pass-p [] t h = h
+  pass-p (e ∷ es) t h =
+      let b : ColumnP P (mergedRight S (e .0) (e .1) t) = mergeFrom-p (t (e .1)) (t (e .0)) (h (e .1)) (h (e .0)) in
+      pass-p es (mergeEdge S (eqb (e .0) (e .1)) (e .0) (e .1) t)
+      (edge-ind S (λ c q. ColumnP P q) (e .0) (e .1) t h b
+      (mergeFrom-p (t (e .0)) (mergedRight S (e .0) (e .1) t) (h (e .0)) b) (eqb (e .0) (e .1)))
+
+  run-p : (n : ℕ) (es : List (ℕ × ℕ × ℕ)) (t : Table Val) → TabP t → TabP (propagate S n es t)
+  run-p zero es t h = h
+  run-p (suc n) es t h = go (passAny S es t) (run-p n es (pass S es t) (pass-p es t h))
+    where
+      go : (b : Bool) → TabP (propagate S n es (pass S es t)) →
+          TabP (elim b as (λ x. Table Val) [ true ↦ propagate S n es (pass S es t) | false ↦ pass S es t ])
+      go true k = k
+      go false k = pass-p es t h
+
+  -- ---- resolving
+  abbrev RngP : Range Val → Type 0
+  RngP r = BoundP P (r .lower) × BoundP P (r .upper) × ListP P (r .kept)
+
+  open-p : (b : Bound Val) (e : Val) → BoundP P b → P e → BoundP P (openAt S b e)
+  open-p absent e h p = p
+  open-p (at c w) e h p = opens w e h p
+
+  walk-p : (l : List Val) (r : Range Val) → ListP P l → RngP r → RngP (resolveExcluded S l r)
+  walk-p [] r p h = h
+  walk-p (e ∷ l) r p h = walk-p l (resolveIf S (r .crossed) e r) (p .1) (go (r .crossed))
+    where
+      fated : (f : ExcludedResolution) → RngP (resolveBy S f e r)
+      fated Drop = h
+      fated Keep = (h .0, h .1, ins-p e (r .kept) (p .0) (h .2))
+      fated TightenLower = (open-p (r .lower) e (h .0) (p .0), h .1, h .2)
+      fated TightenUpper = (h .0, open-p (r .upper) e (h .1) (p .0), h .2)
+
+      go : (b : Bool) → RngP (resolveIf S b e r)
+      go true = h
+      go false = fated (classifyAt S (r .lower) (r .upper) e)
+
+  resolve-p : (q : ColumnConstraints Val) → ColumnP P q → ColumnP P (resolveDeferred S q)
+  resolve-p q h = walk-p (q .excluded) (rangeOf q) (h .2) (h .0, h .1, tt)
+
+  -- ---- what is written
+  abbrev ComparisonsP : List (ColumnComparison Val) → Type 0
+  ComparisonsP [] = Unit {0}
+  ComparisonsP (x ∷ l) = P (valueOf x) × ComparisonsP l
+
+  comps-app : (l m : List (ColumnComparison Val)) → ComparisonsP l → ComparisonsP m → ComparisonsP (l ++ m)
+  comps-app [] m h k = k
+  comps-app (x ∷ l) m h k = (h .0, comps-app l m (h .1) k)
+
+  lo-p : (b : Bound Val) → BoundP P b → ComparisonsP (lowerComparison b)
+  lo-p absent h = tt
+  lo-p (at c v) h = (h, tt)
+
+  hi-p : (b : Bound Val) → BoundP P b → ComparisonsP (upperComparison b)
+  hi-p absent h = tt
+  hi-p (at c v) h = (h, tt)
+
+  ne-p : (l : List Val) → ListP P l → ComparisonsP (excludedComparisons l)
+  ne-p [] h = tt
+  ne-p (v ∷ l) h = (h .0, ne-p l (h .1))
+
+  abbrev PinP : Option Val → Type 0
+  PinP none = Unit {0}
+  PinP (some v) = P v
+
+  pin-p : (b u : Bound Val) → BoundP P b → PinP (fixedAt S b u)
+  pin-p absent u h = tt
+  pin-p (at false v) u h = tt
+  pin-p (at true v) absent h = tt
+  pin-p (at true v) (at false w) h = tt
+  pin-p (at true v) (at true w) h = go (S .order .cmp (S .key v) (S .key w))
+    where
+      go : (o : Ordering) → PinP (fixedBy o v)
+      go Less = tt
+      go Equal = h
+      go Greater = tt
+
+  comps-p : (q : ColumnConstraints Val) → ColumnP P q → ComparisonsP (collectColumnComparisons S q)
+  comps-p q h = go (fixedAt S (q .lower) (q .upper)) (pin-p (q .lower) (q .upper) (h .0))
+    where
+      go : (o : Option Val) → PinP o → ComparisonsP (collectBy o q)
+      go (some v) p = (p, tt)
+      go none p = comps-app (lowerComparison (q .lower))
+          (upperComparison (q .upper) ++ excludedComparisons (q .excluded)) (lo-p (q .lower) (h .0))
+          (comps-app (upperComparison (q .upper)) (excludedComparisons (q .excluded)) (hi-p (q .upper) (h .1))
+          (ne-p (q .excluded) (h .2)))
+
+  abbrev pub WrittenP : List (ℕ × ColumnComparison Val) → Type 0
+  WrittenP [] = Unit {0}
+  WrittenP (x ∷ l) = (Q (x .0) × P (valueOf (x .1))) × WrittenP l
+
+  written-app : (l m : List (ℕ × ColumnComparison Val)) → WrittenP l → WrittenP m → WrittenP (l ++ m)
+  written-app [] m h k = k
+  written-app (x ∷ l) m h k = (h .0, written-app l m (h .1) k)
+
+  tag-p : (c : ℕ) (l : List (ColumnComparison Val)) → Q c → ComparisonsP l → WrittenP (ofColumn c l)
+  tag-p c [] q h = tt
+  tag-p c (x ∷ l) q h = ((q, h .0), tag-p c l q (h .1))
+
+  abbrev OrderQ : List ℕ → Type 0
+  OrderQ [] = Unit {0}
+  OrderQ (c ∷ l) = Q c × OrderQ l
+
+  written-p : (cs : List ℕ) (t : Table Val) → OrderQ cs → TabP t → WrittenP (comparisons S cs t)
+  written-p [] t q h = tt
+  written-p (c ∷ cs) t q h = written-app (ofColumn c (collectColumnComparisons S (t c))) (comparisons S cs t)
+      (tag-p c (collectColumnComparisons S (t c)) (q .0) (comps-p (t c) (h c))) (written-p cs t (q .1) h)
+
+  -- ---- reading
+  abbrev pub ConjunctP : Conjunct Val → Type 0
+  ConjunctP (Bounds c l) = Q c × ConstraintsP P l
+  ConjunctP (Equality a b m) = Q a × Q b
+  ConjunctP (Recorded z m c l) = Q c × ConstraintsP P l
+  ConjunctP (NonNullPair m a b) = Q a × Q b
+  ConjunctP (Opaque m) = Unit {0}
+
+  abbrev pub ConjunctsP : List (Conjunct Val) → Type 0
+  ConjunctsP [] = Unit {0}
+  ConjunctsP (c ∷ l) = ConjunctP c × ConjunctsP l
+
+  order-snoc : (l : List ℕ) (c : ℕ) → OrderQ l → Q c → OrderQ (l ++ (c ∷ []))
+  order-snoc [] c h q = (q, tt)
+  order-snoc (d ∷ l) c h q = (h .0, order-snoc l c (h .1) q)
+
+  note-p : (c : ℕ) (l : List ℕ) → Q c → OrderQ l → OrderQ (enter c l)
+  note-p c l q h = go (isIn c l)
+    where
+      go : (b : Bool) → OrderQ (cond b l (l ++ (c ∷ [])))
+      go true = h
+      go false = order-snoc l c h q
+
+  abbrev StP : Collected Val → Type 0
+  StP s = TabP (s .constraints) × OrderQ (s .order)
+
+  told-p : (c : ℕ) (l : List (Constraint Val)) (t : Table Val) → ConstraintsP P l → TabP t → TabP (addTo S c l t)
+  told-p c l t p h = upd-ind S (λ d q. ColumnP P q) t c (addAll S l (t c)) h (addAll-p l (t c) p (h c))
+
+  read-p : (x : Conjunct Val) (s : Collected Val) → ConjunctP x → StP s → StP (collectOne S x s)
+  read-p (Bounds c l) s p h = (told-p c l (s .constraints) (p .1) (h .0), note-p c (s .order) (p .0) (h .1))
+  read-p (Equality a b m) s p h = (
+    told-p b (Require NonNull ∷ []) (requireNonNull S a (s .constraints)) (tt, tt)
+        (told-p a (Require NonNull ∷ []) (s .constraints) (tt, tt) (h .0)),
+    note-p b (enter a (s .order)) (p .1)
+        (note-p a (s .order) (p .0) (h .1)),
+  )
+  read-p (Recorded z m c l) s p h = (told-p c l (s .constraints) (p .1) (h .0), note-p c (s .order) (p .0) (h .1))
+  read-p (NonNullPair m a b) s p h = (
+    told-p b (Require NonNull ∷ []) (requireNonNull S a (s .constraints)) (tt, tt)
+        (told-p a (Require NonNull ∷ []) (s .constraints) (tt, tt) (h .0)),
+    note-p b (enter a (s .order)) (p .1)
+        (note-p a (s .order) (p .0) (h .1)),
+  )
+  read-p (Opaque m) s p h = h
+
+  readAll-p : (l : List (Conjunct Val)) (s : Collected Val) → ConjunctsP l → StP s → StP (collect S l s)
+  readAll-p [] s p h = h
+  readAll-p (x ∷ l) s p h = readAll-p l (collectIf S (s .unsat) x s) (p .1) (go (s .unsat))
+    where
+      go : (b : Bool) → StP (collectIf S b x s)
+      go true = h
+      go false = read-p x s (p .0) h
+
+  abbrev pub OutcomeP : Outcome Val → Type 0
+  OutcomeP Unchanged = Unit {0}
+  OutcomeP NothingPasses = Unit {0}
+  OutcomeP (Rebuilt ns cs) = WrittenP cs
+
+  finish-p : (s : Collected Val) → StP s → OutcomeP (conclude S s)
+  finish-p s h = go (s .unsat || anyUnsat (s .order) (resolved S s))
+      (ltb (length (comparisons S (s .order) (resolved S s))) (s .boundConjuncts) ||
+      (propagateEmitted S (length (s .order)) (s .edges) (s .constraints) || droppedEquality S (propagated S s)
+      (s .edges)))
+    where
+      go : (b d : Bool) → OutcomeP (outcomeBy b d (Rebuilt (s .opaque ++ keptEqualities S (propagated S s) (s .edges))
+          (comparisons S (s .order) (resolved S s))))
+      go true d = tt
+      go false true = written-p (s .order) (resolved S s) (h .1)
+          (λ c. resolve-p (propagated S s c) (run-p (length (s .order)) (s .edges) (s .constraints) (h .0) c))
+      go false false = tt
+
+  -- every column and value of the answer is one of those read
+  pub merge-p : (l : List (Conjunct Val)) → ConjunctsP l → OutcomeP (mergeFilterConstraints S l)
+  merge-p l p = finish-p (collect S l (begin)) (readAll-p l (begin) p (λ c. (tt, tt, tt), tt))

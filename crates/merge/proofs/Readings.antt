@@ -1,0 +1,476 @@
+-- What is read of a conjunct says what the conjunct means.
+use mathlib.Core.Path.{_≡_, refl, sym, _∙_, ap}
+use mathlib.Core.Bool.{Bool, true, false, not, _&&_, true≢false, and-true}
+use mathlib.Core.List.{List, [], _∷_}
+use mathlib.Core.Option.{Option, none, some, Option·none-ne-some, Option·some-injective}
+use mathlib.Core.Logic.{_↔_}
+use Prim.Native.Nat.{ℕ}
+use lib.Dec.{leb}
+use lib.ListN.{length}
+use Rattle.truth.proofs.Cells.{and-is-true, cell-law}
+use Rattle.truth.proofs.Orders.{cmp-eq, cmp-gt, cmp-lt}
+use Rattle.truth.specs.AExpr.{AExpr, And, BinaryExpr, BinaryOp, Column, Compare, EqValidity, Inputs, IsBetween, IsIn}
+use Rattle.truth.specs.AExpr.{IsNotNull, IsNull, ListLiteral, Literal, LogicalAnd, LogicalOr, Missing, Not}
+use Rattle.truth.specs.AExpr.{NotEqValidity, Null, Or, Xor}
+use Rattle.truth.specs.Cell.{Cell, TruthKeys, binary3, cellAt, compare3, highComparison, isNull, lowComparison, step}
+use Rattle.truth.specs.Comparison.{Comparison, Eq, Gt, GtEq, Lt, LtEq, NotEq, comparisonHolds}
+use Rattle.truth.specs.Logic.{and3, isTrue, not3, ofBool}
+use Rattle.truth.specs.Membership.{in3}
+use Rattle.truth.specs.Order.{View, is-equal, is-greater, is-less, isEqual}
+use Rattle.truth.specs.declared.logic.Truth.{Truth}
+use Rattle.truth.specs.declared.scalar.Ordering.{Ordering}
+use Rattle.truth.specs.declared.scalar.Ordering.the-variants.{Equal, Greater, Less}
+use Rattle.constraints.proofs.Columns.{obeys, obeysAll, obeysRecordedAll}
+use Rattle.constraints.specs.Column.{Allow, Constraint, Disallow, Lower, Require, Upper}
+use Rattle.constraints.specs.Scalars.{Scalars}
+use Rattle.constraints.specs.Values.{contains}
+use Rattle.constraints.specs.declared.column.Nullability.{Nullability}
+use Rattle.constraints.specs.declared.column.Nullability.the-variants.{NonNull}
+use Rattle.merge.proofs.Chains.{holdsAt}
+use Rattle.merge.proofs.Comparisons.{comparison-null, comparison-obeyed}
+use Rattle.merge.proofs.Complete.{Exact}
+use Rattle.merge.proofs.Sound.{Fair, Holds}
+use Rattle.merge.proofs.Witness.{HalfPoints}
+use Rattle.merge.specs.Classify.{AColumn, AList, ALiteral, Bounds, Conjunct, Equality, NonNullPair, Opaque}
+use Rattle.merge.specs.Classify.{Operand, Other, Recorded, classify, classifyColumnColumn}
+use Rattle.merge.specs.Classify.{classifyColumnLiteral, classifyColumns, classifyComparison, classifyEnds}
+use Rattle.merge.specs.Classify.{classifyIsBetween, classifyIsIn, classifyNegation, classifyNull}
+use Rattle.merge.specs.Classify.{classifyRecord, comparisonConstraints, listOperand, operand, swapComparison}
+use Rattle.merge.specs.Classify.{swapOperands}
+use Rattle.merge.proofs.PlainForms.{isColumn, isLiteral, isShortList, plainBinary, plainColumns}
+use Rattle.merge.proofs.PlainForms.{plainComparison}
+use Rattle.merge.proofs.PlainForms.{plainConjunct, plainNegation, plainRecord}
+use Rattle.constraints.specs.declared.column.Nullability.the-variants as required
+
+pub true-of : (b : Bool) → isTrue (ofBool b) ≡ b
+true-of true = refl
+true-of false = refl
+
+true-not : (b : Bool) → isTrue (not3 (ofBool b)) ≡ not b
+true-not true = refl
+true-not false = refl
+
+abbrev flip : Ordering → Ordering
+flip Less = Greater
+flip Equal = Equal
+flip Greater = Less
+
+comparison-flip : (o : Comparison) (r : Ordering) → comparisonHolds o r ≡ comparisonHolds (swapComparison o) (flip r)
+comparison-flip Eq Less = refl
+comparison-flip Eq Equal = refl
+comparison-flip Eq Greater = refl
+comparison-flip NotEq Less = refl
+comparison-flip NotEq Equal = refl
+comparison-flip NotEq Greater = refl
+comparison-flip Lt Less = refl
+comparison-flip Lt Equal = refl
+comparison-flip Lt Greater = refl
+comparison-flip LtEq Less = refl
+comparison-flip LtEq Equal = refl
+comparison-flip LtEq Greater = refl
+comparison-flip Gt Less = refl
+comparison-flip Gt Equal = refl
+comparison-flip Gt Greater = refl
+comparison-flip GtEq Less = refl
+comparison-flip GtEq Equal = refl
+comparison-flip GtEq Greater = refl
+
+-- for 2.1
+abbrev pub negateComparison : Comparison → Comparison
+negateComparison Eq = NotEq
+negateComparison NotEq = Eq
+negateComparison Lt = GtEq
+negateComparison LtEq = Gt
+negateComparison Gt = LtEq
+negateComparison GtEq = Lt
+
+comparison-negate : (o : Comparison) (r : Ordering) → not (comparisonHolds o r) ≡ comparisonHolds (negateComparison o)
+    r
+comparison-negate Eq Less = refl
+comparison-negate Eq Equal = refl
+comparison-negate Eq Greater = refl
+comparison-negate NotEq Less = refl
+comparison-negate NotEq Equal = refl
+comparison-negate NotEq Greater = refl
+comparison-negate Lt Less = refl
+comparison-negate Lt Equal = refl
+comparison-negate Lt Greater = refl
+comparison-negate LtEq Less = refl
+comparison-negate LtEq Equal = refl
+comparison-negate LtEq Greater = refl
+comparison-negate Gt Less = refl
+comparison-negate Gt Equal = refl
+comparison-negate Gt Greater = refl
+comparison-negate GtEq Less = refl
+comparison-negate GtEq Equal = refl
+comparison-negate GtEq Greater = refl
+
+not-of : (b : Bool) → not3 (ofBool b) ≡ ofBool (not b)
+not-of true = refl
+not-of false = refl
+
+iff-of : (a b : Bool) → a ≡ b → (a ≡ true) ↔ (b ≡ true)
+iff-of a b e = (λ h. sym e ∙ h, λ h. e ∙ h)
+
+module _ {K Val : Type 0} (S : Scalars K Val) (tk : TruthKeys K) where
+  cmp-flip : (a b : K) → S .order .cmp b a ≡ flip (S .order .cmp a b)
+  cmp-flip a b = go (S .order .view a b)
+    where
+      go : {o : Ordering} → View (S .order .less) a b o → S .order .cmp b a ≡ flip o
+      go (is-less h) = cmp-gt (S .order) h
+      go (is-equal e) = cmp-eq (S .order) (sym e)
+      go (is-greater h) = cmp-lt (S .order) h
+
+  -- ---- each kind, over a value
+  pub compare-swap : (o : Comparison) (x y : Option K) → compare3 (S .key) (S .order) tk o x y ≡
+      compare3 (S .key) (S .order) tk (swapComparison o) y x
+  compare-swap o none none = refl
+  compare-swap o none (some b) = refl
+  compare-swap o (some a) none = refl
+  compare-swap o (some a) (some b) =
+      ap ofBool (comparison-flip o (S .order .cmp a b) ∙ ap (comparisonHolds (swapComparison o)) (sym (cmp-flip a b)))
+
+  -- for 2.1: Not of a comparison is the complementary comparison, null or not
+  pub compare-negate : (o : Comparison) (x y : Option K) → not3 (compare3 (S .key) (S .order) tk o x y) ≡
+      compare3 (S .key) (S .order) tk (negateComparison o) x y
+  compare-negate o none y = refl
+  compare-negate o (some a) none = refl
+  compare-negate o (some a) (some b) = not-of (comparisonHolds o (S .order .cmp a b)) ∙
+      ap ofBool (comparison-negate o (S .order .cmp a b))
+
+  pub comparison-mean : (o : Comparison) (v : Val) (x : Option K) → obeysAll S (comparisonConstraints o v) x ≡
+      isTrue (compare3 (S .key) (S .order) tk o x (some (S .key v)))
+  comparison-mean o v none = comparison-null S o v
+  comparison-mean o v (some k) = comparison-obeyed S o v k ∙
+      sym (true-of (comparisonHolds o (S .order .cmp k (S .key v))))
+
+  pub comparison-recorded : (o : Comparison) (v : Val) (x : Option K) → obeysRecordedAll S (comparisonConstraints o v)
+      x ≡ true
+  comparison-recorded Eq v x = refl
+  comparison-recorded NotEq v x = refl
+  comparison-recorded Lt v x = refl
+  comparison-recorded LtEq v x = refl
+  comparison-recorded Gt v x = refl
+  comparison-recorded GtEq v x = refl
+
+  lower-mean : (c : Bool) (v : Val) (x : Option K) → obeys S (Lower c v) x ≡
+      isTrue (compare3 (S .key) (S .order) tk (lowComparison c) x (some (S .key v)))
+  lower-mean true v x = sym (and-true (obeys S (Lower true v) x)) ∙ comparison-mean GtEq v x
+  lower-mean false v x = sym (and-true (obeys S (Lower false v) x)) ∙ comparison-mean Gt v x
+
+  upper-mean : (c : Bool) (v : Val) (x : Option K) → obeys S (Upper c v) x ≡
+      isTrue (compare3 (S .key) (S .order) tk (highComparison c) x (some (S .key v)))
+  upper-mean true v x = sym (and-true (obeys S (Upper true v) x)) ∙ comparison-mean LtEq v x
+  upper-mean false v x = sym (and-true (obeys S (Upper false v) x)) ∙ comparison-mean Lt v x
+
+  pub between-mean : (c d : Bool) (v w : Val) (x : Option K) → obeysAll S (Lower c v ∷ (Upper d w ∷ [])) x ≡
+      isTrue (and3 (compare3 (S .key) (S .order) tk (lowComparison c) x (some (S .key v)))
+      (compare3 (S .key) (S .order) tk (highComparison d) x (some (S .key w))))
+  between-mean c d v w x = ap (λ t. obeys S (Lower c v) x && t) (and-true (obeys S (Upper d w) x) ∙ upper-mean d w x)
+      ∙ ap (λ t. t && isTrue (compare3 (S .key) (S .order) tk (highComparison d) x (some (S .key w))))
+      (lower-mean c v x) ∙ sym (and-is-true (compare3 (S .key) (S .order) tk (lowComparison c) x (some (S .key v)))
+      (compare3 (S .key) (S .order) tk (highComparison d) x (some (S .key w))))
+
+  pub in-mean : (e : Bool) (l : List Val) (x : Option K) → obeysAll S (Allow l ∷ []) x ≡
+      isTrue (in3 (S .key) (S .order) e false l x)
+  in-mean e [] none = refl
+  in-mean e [] (some k) = refl
+  in-mean true (v ∷ l) none = refl
+  in-mean false (v ∷ l) none = refl
+  in-mean e (v ∷ l) (some k) = and-true (contains S k (v ∷ l)) ∙ sym (true-of (contains S k (v ∷ l)))
+
+  pub not-in-mean : (e : Bool) (l : List Val) (x : Option K) → obeysAll S (Disallow (not e) l ∷ []) x ≡
+      isTrue (not3 (in3 (S .key) (S .order) e false l x))
+  not-in-mean true [] none = refl
+  not-in-mean false [] none = refl
+  not-in-mean e [] (some k) = refl
+  not-in-mean true (v ∷ l) none = refl
+  not-in-mean false (v ∷ l) none = refl
+  not-in-mean e (v ∷ l) (some k) = and-true (not (contains S k (v ∷ l))) ∙ sym (true-not (contains S k (v ∷ l)))
+
+  pub null-mean : (x : Option K) → obeysAll S (Require required.Null ∷ []) x ≡ isTrue (ofBool (isNull x))
+  null-mean none = refl
+  null-mean (some k) = refl
+
+  pub nonNull-mean : (x : Option K) → obeysAll S (Require NonNull ∷ []) x ≡ isTrue (ofBool (not (isNull x)))
+  nonNull-mean none = refl
+  nonNull-mean (some k) = refl
+
+  pub not-null-mean : (x : Option K) → obeysAll S (Require NonNull ∷ []) x ≡ isTrue (not3 (ofBool (isNull x)))
+  not-null-mean none = refl
+  not-null-mean (some k) = refl
+
+  pub not-nonNull-mean : (x : Option K) → obeysAll S (Require required.Null ∷ []) x ≡
+      isTrue (not3 (ofBool (not (isNull x))))
+  not-nonNull-mean none = refl
+  not-nonNull-mean (some k) = refl
+
+  pub eq-mean : (x y : Option K) → (isTrue (compare3 (S .key) (S .order) tk Eq x y) ≡ true) ↔
+      ((k : K) × (x ≡ some k) × (y ≡ some k))
+  eq-mean none y = (λ h. absurd (true≢false (sym h)), λ s. absurd (Option·none-ne-some (s .0) (s .1)))
+  eq-mean (some a) none = (λ h. absurd (true≢false (sym h)), λ s. absurd (Option·none-ne-some (s .0) (s .2)))
+  eq-mean (some a) (some b) = (
+    λ h. fwd (S .order .view a b) (sym (true-of (isEqual (S .order .cmp a b))) ∙ h),
+    λ s. ap (λ r. isTrue (ofBool (isEqual r)))
+        (cmp-eq (S .order) (Option·some-injective a (s .0) (s .1) ∙ sym (Option·some-injective b (s .0) (s .2)))),
+  )
+    where
+      fwd : {r : Ordering} → View (S .order .less) a b r → isEqual r ≡ true →
+          (k : K) × (some a ≡ some k) × (some b ≡ some k)
+      fwd (is-less h) e = absurd (true≢false (sym e))
+      fwd (is-equal p) e = (b, ap some p, refl)
+      fwd (is-greater h) e = absurd (true≢false (sym e))
+
+  pub pair-mean : (o : Comparison) (x y : Option K) → isTrue (compare3 (S .key) (S .order) tk o x y) ≡ true →
+      ((k : K) × (x ≡ some k)) × ((k : K) × (y ≡ some k))
+  pair-mean o none y h = absurd (true≢false (sym h))
+  pair-mean o (some a) none h = absurd (true≢false (sym h))
+  pair-mean o (some a) (some b) h = ((a, refl), (b, refl))
+
+-- the node that a conjunct names, if any, is n
+abbrev pub Names : {Val : Type 0} → ℕ → Conjunct Val → Type 0
+Names n (Bounds c l) = Unit {0}
+Names n (Equality a b m) = m ≡ n
+Names n (Recorded z m c l) = m ≡ n
+Names n (NonNullPair m a b) = m ≡ n
+Names n (Opaque m) = m ≡ n
+
+module _ {K Val : Type 0} (S : Scalars K Val) (H : HalfPoints S) (tk : TruthKeys K) (R : ℕ → AExpr Val)
+    (wf : (n : ℕ) → Inputs n (R n)) (ρ : ℕ → Option K) where
+  abbrev pub N : ℕ → Bool
+  N n = holdsAt S tk R wf ρ n
+
+  abbrev pub E : ℕ → Cell K Val
+  E n = cellAt (S .key) (S .order) tk R ρ n
+
+  -- a conjunct c that is read of node n, where p says whether n is plain
+  abbrev pub ReadsAs : ℕ → Bool → Conjunct Val → Type 0
+  ReadsAs n p c = (Holds S ρ N c ↔ (N n ≡ true)) × Fair S ρ N c × (p ≡ true → Exact S H ρ N c) × Names n c
+
+  -- what is known of an operand's cell
+  abbrev Shaped : Operand Val → Cell K Val → Type 0
+  Shaped (AColumn c) p = p .value ≡ ρ c
+  Shaped (ALiteral v) p = p .value ≡ some (S .key v)
+  Shaped (AList l) p = (p .holdsNull ≡ false) × (p .values ≡ l)
+  Shaped Other p = Unit {0}
+
+  shaped : (r : AExpr Val) (p : Cell K Val) → p ≡ step (S .key) (S .order) tk ρ E r → Shaped (operand r) p
+  shaped (Column c) p e = ap (λ q. q .value) e
+  shaped (Literal v) p e = ap (λ q. q .value) e
+  shaped Null p e = tt
+  shaped (BinaryExpr b x y) p e = tt
+  shaped (Not x) p e = tt
+  shaped (IsNull x) p e = tt
+  shaped (IsNotNull x) p e = tt
+  shaped (IsBetween c d x y z) p e = tt
+  shaped (ListLiteral h l) p e = go h (leb (length l) 100) (ap (λ q. q .holdsNull) e)
+    where
+      go : (h b : Bool) → p .holdsNull ≡ h → Shaped (listOperand h b l) p
+      go true b m = tt
+      go false true m = (m, ap (λ q. q .values) e)
+      go false false m = tt
+  shaped (IsIn c x y) p e = tt
+  shaped Missing p e = tt
+
+  seen : (x : ℕ) → Shaped (operand (R x)) (E x)
+  seen x = shaped (R x) (E x) (cell-law (S .key) (S .order) tk R ρ x (wf x))
+
+  -- a node kept as it is, nothing told
+  apart : (n : ℕ) → ReadsAs n false (Opaque n)
+  apart n = ((λ h. h, λ h. h), tt, (λ h. absurd (true≢false (sym h))), refl)
+
+  -- the same where the truth is told by a column
+  keeps : (z : Bool) (n c : ℕ) (a : Constraint Val) (p : Bool) → obeysAll S (a ∷ []) (ρ c) ≡ N n →
+      ReadsAs n p (Recorded z n c (a ∷ []))
+  keeps z n c a p e = ((λ h. h, λ h. h), (λ h. e ∙ h), (λ q h. sym e ∙ h), refl)
+
+  enters : (n c : ℕ) → ReadsAs n false (Recorded false n c [])
+  enters n c = ((λ h. h, λ h. h), (λ h. refl), (λ h. absurd (true≢false (sym h))), refl)
+
+  bounds : (n c : ℕ) (l : List (Constraint Val)) (p : Bool) → obeysAll S l (ρ c) ≡ N n →
+      ((x : Option K) → obeysRecordedAll S l x ≡ true) → ReadsAs n p (Bounds c l)
+  bounds n c l p e m = (iff-of (obeysAll S l (ρ c)) (N n) e, m, (λ h. tt), tt)
+
+  abbrev is : ℕ → Truth → Type 0
+  is n t = N n ≡ isTrue t
+
+  reads-columns : (n a b : ℕ) (o : Comparison) → is n (compare3 (S .key) (S .order) tk o (ρ a) (ρ b)) →
+      ReadsAs n (plainColumns o) (classifyColumns n a b o)
+  reads-columns n a b Eq e = (
+    (λ h. h, λ h. h),
+    (
+      λ h. eq-mean S tk (ρ a) (ρ b) .0 (sym e ∙ h),
+      λ l. e ∙
+          eq-mean S tk (ρ a) (ρ b) .1 l,
+    ),
+    (λ p l. e ∙ eq-mean S tk (ρ a) (ρ b) .1 l),
+    refl,
+  )
+  reads-columns n a b NotEq e = (
+    (λ h. h, λ h. h),
+    (λ h. pair-mean S tk NotEq (ρ a) (ρ b) (sym e ∙ h)),
+    (λ h. absurd (true≢false (sym h))),
+    refl,
+  )
+  reads-columns n a b Lt e = (
+    (λ h. h, λ h. h),
+    (λ h. pair-mean S tk Lt (ρ a) (ρ b) (sym e ∙ h)),
+    (λ h. absurd (true≢false (sym h))),
+    refl,
+  )
+  reads-columns n a b LtEq e = (
+    (λ h. h, λ h. h),
+    (λ h. pair-mean S tk LtEq (ρ a) (ρ b) (sym e ∙ h)),
+    (λ h. absurd (true≢false (sym h))),
+    refl,
+  )
+  reads-columns n a b Gt e = (
+    (λ h. h, λ h. h),
+    (λ h. pair-mean S tk Gt (ρ a) (ρ b) (sym e ∙ h)),
+    (λ h. absurd (true≢false (sym h))),
+    refl,
+  )
+  reads-columns n a b GtEq e = (
+    (λ h. h, λ h. h),
+    (λ h. pair-mean S tk GtEq (ρ a) (ρ b) (sym e ∙ h)),
+    (λ h. absurd (true≢false (sym h))),
+    refl,
+  )
+
+  reads-op : (n : ℕ) (o : Comparison) (s t : Operand Val) (p q : Cell K Val) → Shaped s p → Shaped t q →
+      is n (compare3 (S .key) (S .order) tk o (p .value) (q .value)) →
+      ReadsAs n (plainComparison o s t) (classifyComparison n (Compare o) s t)
+  reads-op n o (AColumn c) (AColumn d) p q a b e = reads-columns n c d o (e ∙ rw (a, b))
+  reads-op n o (AColumn c) (ALiteral v) p q a b e = bounds n c (comparisonConstraints o v) true
+      (comparison-mean S tk o v (ρ c) ∙ sym (e ∙ rw (a, b))) (comparison-recorded S tk o v)
+  reads-op n o (AColumn c) (AList l) p q a b e = apart n
+  reads-op n o (AColumn c) Other p q a b e = apart n
+  reads-op n o (ALiteral v) (AColumn c) p q a b e = bounds n c (comparisonConstraints (swapComparison o) v) true
+      (comparison-mean S tk (swapComparison o) v (ρ c) ∙
+      sym (e ∙ rw (a, b) (ap isTrue (compare-swap S tk o (some (S .key v)) (ρ c)))))
+      (comparison-recorded S tk (swapComparison o) v)
+  reads-op n o (ALiteral v) (ALiteral w) p q a b e = apart n
+  reads-op n o (ALiteral v) (AList l) p q a b e = apart n
+  reads-op n o (ALiteral v) Other p q a b e = apart n
+  reads-op n o (AList l) t p q a b e = apart n
+  reads-op n o Other t p q a b e = apart n
+
+  -- the other operators: a column beside a literal enters the table, and that is all
+  reads-else : (n : ℕ) (b : BinaryOp) (s t : Operand Val) →
+      ((c : ℕ) (v : Val) → ReadsAs n false (classifyColumnLiteral n c v b) × ReadsAs n false
+      (classifyColumnLiteral n c v (swapOperands b))) → ((c d : ℕ) → ReadsAs n false (classifyColumnColumn n c d b)) →
+      ReadsAs n false (classifyComparison n b s t)
+  reads-else n b (AColumn c) (AColumn d) f g = g c d
+  reads-else n b (AColumn c) (ALiteral v) f g = f c v .0
+  reads-else n b (AColumn c) (AList l) f g = apart n
+  reads-else n b (AColumn c) Other f g = apart n
+  reads-else n b (ALiteral v) (AColumn c) f g = f c v .1
+  reads-else n b (ALiteral v) (ALiteral w) f g = apart n
+  reads-else n b (ALiteral v) (AList l) f g = apart n
+  reads-else n b (ALiteral v) Other f g = apart n
+  reads-else n b (AList l) t f g = apart n
+  reads-else n b Other t f g = apart n
+
+  reads-bin : (n x y : ℕ) (b : BinaryOp) → is n (binary3 (S .key) (S .order) tk b (E x) (E y)) →
+      ReadsAs n (plainBinary b (operand (R x)) (operand (R y)))
+      (classifyComparison n b (operand (R x)) (operand (R y)))
+  reads-bin n x y (Compare o) e = reads-op n o (operand (R x)) (operand (R y)) (E x) (E y) (seen x) (seen y) e
+  reads-bin n x y EqValidity e = reads-else n EqValidity (operand (R x)) (operand (R y))
+      (λ c v. (enters n c, enters n c)) (λ c d. apart n)
+  reads-bin n x y NotEqValidity e = reads-else n NotEqValidity (operand (R x)) (operand (R y))
+      (λ c v. (enters n c, enters n c)) (λ c d. apart n)
+  reads-bin n x y And e = reads-else n And (operand (R x)) (operand (R y)) (λ c v. (enters n c, enters n c))
+      (λ c d. apart n)
+  reads-bin n x y Or e = reads-else n Or (operand (R x)) (operand (R y)) (λ c v. (enters n c, enters n c))
+      (λ c d. apart n)
+  reads-bin n x y Xor e = reads-else n Xor (operand (R x)) (operand (R y)) (λ c v. (enters n c, enters n c))
+      (λ c d. apart n)
+  reads-bin n x y LogicalAnd e = reads-else n LogicalAnd (operand (R x)) (operand (R y))
+      (λ c v. (enters n c, enters n c)) (λ c d. apart n)
+  reads-bin n x y LogicalOr e = reads-else n LogicalOr (operand (R x)) (operand (R y))
+      (λ c v. (enters n c, enters n c)) (λ c d. apart n)
+
+  reads-ends : (n c : ℕ) (i j : Bool) (t u : Operand Val) (p q r : Cell K Val) → p .value ≡ ρ c → Shaped t q →
+      Shaped u r → is n (and3 (compare3 (S .key) (S .order) tk (lowComparison i) (p .value) (q .value))
+      (compare3 (S .key) (S .order) tk (highComparison j) (p .value) (r .value))) →
+      ReadsAs n (isLiteral t && isLiteral u) (classifyEnds n i j c t u)
+  reads-ends n c i j (ALiteral v) (ALiteral w) p q r a b d e = bounds n c (Lower i v ∷ (Upper j w ∷ [])) true
+      (between-mean S tk i j v w (ρ c) ∙ sym (e ∙ rw (a, b, d))) (λ x. refl)
+  reads-ends n c i j (ALiteral v) (AColumn k) p q r a b d e = apart n
+  reads-ends n c i j (ALiteral v) (AList l) p q r a b d e = apart n
+  reads-ends n c i j (ALiteral v) Other p q r a b d e = apart n
+  reads-ends n c i j (AColumn k) u p q r a b d e = apart n
+  reads-ends n c i j (AList l) u p q r a b d e = apart n
+  reads-ends n c i j Other u p q r a b d e = apart n
+
+  reads-between : (n : ℕ) (i j : Bool) (s t u : Operand Val) (p q r : Cell K Val) → Shaped s p → Shaped t q →
+      Shaped u r → is n (and3 (compare3 (S .key) (S .order) tk (lowComparison i) (p .value) (q .value))
+      (compare3 (S .key) (S .order) tk (highComparison j) (p .value) (r .value))) →
+      ReadsAs n (isColumn s && (isLiteral t && isLiteral u)) (classifyIsBetween n i j s t u)
+  reads-between n i j (AColumn c) t u p q r a b d e = reads-ends n c i j t u p q r a b d e
+  reads-between n i j (ALiteral v) t u p q r a b d e = apart n
+  reads-between n i j (AList l) t u p q r a b d e = apart n
+  reads-between n i j Other t u p q r a b d e = apart n
+
+  -- is_in and Not of it: f is what the list makes of the value
+  reads-in : (n : ℕ) (a : List Val → Constraint Val) (f : Bool → List Val → Option K → Truth) →
+      ((l : List Val) (x : Option K) → obeysAll S (a l ∷ []) x ≡ isTrue (f false l x)) →
+      (s t : Operand Val) (p q : Cell K Val) → Shaped s p → Shaped t q →
+      is n (f (q .holdsNull) (q .values) (p .value)) → ReadsAs n (isColumn s && isShortList t) (classifyIsIn n a s t)
+  reads-in n a f m (AColumn c) (AList l) p q i j e =
+      keeps false n c (a l) true (m l (ρ c) ∙ sym (e ∙ rw (i, j .0, j .1)))
+  reads-in n a f m (AColumn c) (AColumn d) p q i j e = apart n
+  reads-in n a f m (AColumn c) (ALiteral v) p q i j e = apart n
+  reads-in n a f m (AColumn c) Other p q i j e = apart n
+  reads-in n a f m (ALiteral v) t p q i j e = apart n
+  reads-in n a f m (AList l) t p q i j e = apart n
+  reads-in n a f m Other t p q i j e = apart n
+
+  reads-null : (n : ℕ) (w : Nullability) (f : Option K → Truth) →
+      ((x : Option K) → obeysAll S (Require w ∷ []) x ≡ isTrue (f x)) → (s : Operand Val) (p : Cell K Val) →
+      Shaped s p → is n (f (p .value)) → ReadsAs n (isColumn s) (classifyNull n w s)
+  reads-null n w f m (AColumn c) p i e = keeps true n c (Require w) true (m (ρ c) ∙ sym (e ∙ rw i))
+  reads-null n w f m (ALiteral v) p i e = apart n
+  reads-null n w f m (AList l) p i e = apart n
+  reads-null n w f m Other p i e = apart n
+
+  reads-not : (n : ℕ) (r : AExpr Val) → is n (not3 (step (S .key) (S .order) tk ρ E r .truth)) →
+      ReadsAs n (plainNegation R r) (classifyNegation R n r)
+  reads-not n (Column c) e = apart n
+  reads-not n (Literal v) e = apart n
+  reads-not n Null e = apart n
+  reads-not n (BinaryExpr b x y) e = apart n
+  reads-not n (Not x) e = apart n
+  reads-not n (IsNull x) e = reads-null n NonNull (λ z. not3 (ofBool (isNull z))) (not-null-mean S tk) (operand (R x))
+      (E x) (seen x) e
+  reads-not n (IsNotNull x) e = reads-null n required.Null (λ z. not3 (ofBool (not (isNull z))))
+      (not-nonNull-mean S tk) (operand (R x)) (E x) (seen x) e
+  reads-not n (IsBetween c d x y z) e = apart n
+  reads-not n (ListLiteral h l) e = apart n
+  reads-not n (IsIn i x y) e = reads-in n (λ l. Disallow (not i) l) (λ h l z. not3 (in3 (S .key) (S .order) i h l z))
+      (not-in-mean S tk i) (operand (R x)) (operand (R y)) (E x) (E y) (seen x) (seen y) e
+  reads-not n Missing e = apart n
+
+  reads-rec : (n : ℕ) (r : AExpr Val) → is n (step (S .key) (S .order) tk ρ E r .truth) →
+      ReadsAs n (plainRecord R r) (classifyRecord R n r)
+  reads-rec n (Column c) e = apart n
+  reads-rec n (Literal v) e = apart n
+  reads-rec n Null e = apart n
+  reads-rec n (BinaryExpr b x y) e = reads-bin n x y b e
+  reads-rec n (Not x) e = reads-not n (R x)
+      (e ∙ ap (λ c. isTrue (not3 (c .truth))) (cell-law (S .key) (S .order) tk R ρ x (wf x)))
+  reads-rec n (IsNull x) e = reads-null n required.Null (λ z. ofBool (isNull z)) (null-mean S tk) (operand (R x))
+      (E x) (seen x) e
+  reads-rec n (IsNotNull x) e = reads-null n NonNull (λ z. ofBool (not (isNull z))) (nonNull-mean S tk)
+      (operand (R x)) (E x) (seen x) e
+  reads-rec n (IsBetween c d x y z) e = reads-between n c d (operand (R x)) (operand (R y)) (operand (R z)) (E x)
+      (E y) (E z) (seen x) (seen y) (seen z) e
+  reads-rec n (ListLiteral h l) e = apart n
+  reads-rec n (IsIn i x y) e = reads-in n (λ l. Allow l) (λ h l z. in3 (S .key) (S .order) i h l z) (in-mean S tk i)
+      (operand (R x)) (operand (R y)) (E x) (E y) (seen x) (seen y) e
+  reads-rec n Missing e = apart n
+
+  -- what is read of node n says when it is true, and is exact where n is plain
+  pub classified-rightly : (n : ℕ) → ReadsAs n (plainConjunct R n) (classify R n)
+  classified-rightly n = reads-rec n (R n)
+      (ap (λ c. isTrue (c .truth)) (cell-law (S .key) (S .order) tk R ρ n (wf n)))

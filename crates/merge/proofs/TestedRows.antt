@@ -1,0 +1,62 @@
+-- All rows that the row test accepts are rows of demand 3.
+use mathlib.Core.Path.{_≡_, refl, sym, _∙_, ap, subst}
+use mathlib.Core.Bool.{Bool, true, false, cond, _&&_, _||_, true≢false}
+use mathlib.Core.List.{List}
+use mathlib.Core.Logic.{_⊎_, inl, inr}
+use mathlib.Core.Option.{Option, none, some}
+use Prim.Native.Nat.{ℕ, zero, suc, _*_, _≤_, _<_, _^_}
+use native.Mathlib.Omega.{arith}
+use lib.Dec.{eqb, ltb, leb}
+use lib.IntN.{ℤ}
+use lib.ListN.{length, getD}
+use borrow.Author.Tests.{leb-true}
+use Rattle.records.specs.Bytes.{valueAt, all}
+use Rattle.records.specs.Shape.{inType}
+use Rattle.truth.specs.Halves.{key}
+use Rattle.truth.specs.FromBytes.{nullMarked, rowOf}
+use Rattle.truth.specs.RowTest.{columnOk, columnsOk, marksOk, rowFault}
+use Rattle.merge.specs.Plain.{isNumberColumn}
+use Rattle.merge.specs.Demand.{IsRow, NullOrTruth}
+use Rattle.merge.proofs.Demand.{all-at, and-yes, or-no}
+
+truth-key : (v : ℕ) → v ≤ 1 → NullOrTruth (some (key v))
+truth-key zero h = inl refl
+truth-key (suc zero) h = inr refl
+truth-key (suc (suc v)) h = absurd (omega arith)
+
+-- A value of a column that is neither Int nor Day is 0 or 1.
+of-truth : (ty v : ℕ) → (eqb ty 1 || eqb ty 2) ≡ false → inType ty v ≡ true → v ≤ 1
+unfolding inType
+of-truth ty v n h =
+    let e = or-no (eqb ty 1) (eqb ty 2) n in
+    leb-true v 1 (rw (e .0, e .1) at h)
+
+one-column :
+    (ty v : ℕ) (b : Bool) → (eqb ty 1 || eqb ty 2) ≡ false → columnOk ty b v ≡ true →
+    NullOrTruth (cond b none (some (key v)))
+unfolding columnOk
+one-column ty v true n h = tt
+one-column ty v false n h = truth-key v (of-truth ty v n h)
+
+-- 12 and 13 are not given: the row's values and null marks make a row of demand 3.
+pub tested-rows : (t row : List ℕ) (nulls : ℕ) → rowFault t row nulls ≡ 0 → IsRow t (rowOf row nulls)
+unfolding rowFault columnsOk rowOf
+tested-rows t row nulls h c l n =
+    one-column (getD t c 0) (valueAt row c) (nullMarked nulls c) n
+    (all-at fits (length t) c (ok (eqb (length row) (8 * length t)) (marksOk (length t) nulls) (all fits (length t))
+    h) l)
+  where
+    fits : ℕ → Bool
+    fits i = columnOk (getD t i 0) (nullMarked nulls i) (valueAt row i)
+
+    thirteen : _≡_ {A = ℕ} 13 0 → ⊥
+    thirteen e = omega arith
+
+    twelve : _≡_ {A = ℕ} 12 0 → ⊥
+    twelve e = omega arith
+
+    ok : (a m f : Bool) → _≡_ {A = ℕ} (cond a (cond (m && f) 0 13) 12) 0 → f ≡ true
+    ok true true true e = refl
+    ok true true false e = absurd (thirteen e)
+    ok true false f e = absurd (thirteen e)
+    ok false m f e = absurd (twelve e)

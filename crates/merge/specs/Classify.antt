@@ -1,0 +1,208 @@
+-- `classify_into_constraints` and those below it: what is read of one conjunct. Each reader looks at its operands
+-- only by their form (`as_column`, `as_scalar_lit`, `as_value_set`). Everything not named here is opaque and stays as
+-- it is.
+use mathlib.Core.Bool.{Bool, true, false, not}
+use mathlib.Core.List.{List, [], _∷_}
+use Prim.Native.Nat.{ℕ}
+use lib.Dec.{leb}
+use lib.ListN.{length}
+use Rattle.truth.specs.Comparison.{Comparison, Eq, NotEq, Lt, LtEq, Gt, GtEq}
+use Rattle.truth.specs.AExpr.{AExpr, Column, Literal, Null, BinaryExpr, Not, IsNull, IsNotNull, IsBetween}
+use Rattle.truth.specs.AExpr.{ListLiteral}
+use Rattle.truth.specs.AExpr.{IsIn, Missing}
+use Rattle.truth.specs.AExpr.{BinaryOp, Compare, EqValidity, NotEqValidity, And, Or, Xor, LogicalAnd, LogicalOr}
+use Rattle.constraints.specs.declared.column.Nullability.{Nullability}
+use Rattle.constraints.specs.declared.column.Nullability.the-variants.{NonNull}
+use Rattle.constraints.specs.declared.column.Nullability.the-variants as required
+use Rattle.constraints.specs.Column.{Constraint, Lower, Upper, Exclude, Allow, Disallow, Require}
+use Rattle.merge.specs.Minterms.{minterms}
+
+-- What a conjunct is to the merging. Nodes are record numbers.
+pub data Conjunct (Val : Type 0) : Type 0 where
+  -- column, constraints: it is written anew from the merged constraints, so the node is dropped
+  Bounds : ℕ → List (Constraint Val) → Conjunct Val
+  -- left column, right column, node: an edge
+  Equality : ℕ → ℕ → ℕ → Conjunct Val
+  -- whether reading stops if the column became impossible; node, column, constraints: kept, but the column learns of
+  -- it
+  Recorded : Bool → ℕ → ℕ → List (Constraint Val) → Conjunct Val
+  -- node, left column, right column: another comparison of two columns, which are then not null
+  NonNullPair : ℕ → ℕ → ℕ → Conjunct Val
+  -- node
+  Opaque : ℕ → Conjunct Val
+
+-- ---- An operand: a column, a literal that is not null, a list that holds no null and at most 100 values, anything
+-- else.
+pub data Operand (Val : Type 0) : Type 0 where
+  AColumn : ℕ → Operand Val
+  ALiteral : Val → Operand Val
+  AList : List Val → Operand Val
+  Other : Operand Val
+
+-- Duplicates count.
+abbrev pub listOperand : {Val : Type 0} → Bool → Bool → List Val → Operand Val
+listOperand true short values = Other
+listOperand false true values = AList values
+listOperand false false values = Other
+
+abbrev pub operand : {Val : Type 0} → AExpr Val → Operand Val
+operand (Column c) = AColumn c
+operand (Literal v) = ALiteral v
+operand Null = Other
+operand (BinaryExpr op left right) = Other
+operand (Not a) = Other
+operand (IsNull a) = Other
+operand (IsNotNull a) = Other
+operand (IsBetween lowClosed highClosed a low high) = Other
+operand (ListLiteral holdsNull values) = listOperand holdsNull (leb (length values) 100) values
+operand (IsIn nullsEqual a list) = Other
+operand Missing = Other
+
+-- ---- `classify_comparison`.
+abbrev pub swapComparison : Comparison → Comparison
+swapComparison Eq = Eq
+swapComparison NotEq = NotEq
+swapComparison Lt = Gt
+swapComparison LtEq = GtEq
+swapComparison Gt = Lt
+swapComparison GtEq = LtEq
+
+-- `swap_operands`: `lit op col` is read as `col op' lit`.
+abbrev pub swapOperands : BinaryOp → BinaryOp
+swapOperands (Compare c) = Compare (swapComparison c)
+swapOperands EqValidity = EqValidity
+swapOperands NotEqValidity = NotEqValidity
+swapOperands And = And
+swapOperands Or = Or
+swapOperands Xor = Xor
+swapOperands LogicalAnd = LogicalAnd
+swapOperands LogicalOr = LogicalOr
+
+-- `col op lit` as bounds and excluded values; `==` is a lower and an upper bound, both inclusive.
+abbrev pub comparisonConstraints : {Val : Type 0} → Comparison → Val → List (Constraint Val)
+comparisonConstraints Eq v = Lower true v ∷ (Upper true v ∷ [])
+comparisonConstraints NotEq v = Exclude v ∷ []
+comparisonConstraints Lt v = Upper false v ∷ []
+comparisonConstraints LtEq v = Upper true v ∷ []
+comparisonConstraints Gt v = Lower false v ∷ []
+comparisonConstraints GtEq v = Lower true v ∷ []
+
+-- A column and a literal: the column enters the table whatever the operator; all but the six comparisons stay opaque.
+abbrev pub classifyColumnLiteral : {Val : Type 0} → ℕ → ℕ → Val → BinaryOp → Conjunct Val
+classifyColumnLiteral n c v (Compare o) = Bounds c (comparisonConstraints o v)
+classifyColumnLiteral n c v EqValidity = Recorded false n c []
+classifyColumnLiteral n c v NotEqValidity = Recorded false n c []
+classifyColumnLiteral n c v And = Recorded false n c []
+classifyColumnLiteral n c v Or = Recorded false n c []
+classifyColumnLiteral n c v Xor = Recorded false n c []
+classifyColumnLiteral n c v LogicalAnd = Recorded false n c []
+classifyColumnLiteral n c v LogicalOr = Recorded false n c []
+
+abbrev pub classifyColumns : {Val : Type 0} → ℕ → ℕ → ℕ → Comparison → Conjunct Val
+classifyColumns n a b Eq = Equality a b n
+classifyColumns n a b NotEq = NonNullPair n a b
+classifyColumns n a b Lt = NonNullPair n a b
+classifyColumns n a b LtEq = NonNullPair n a b
+classifyColumns n a b Gt = NonNullPair n a b
+classifyColumns n a b GtEq = NonNullPair n a b
+
+-- Two columns: only the comparisons that propagate nulls say something, and enter the columns.
+abbrev pub classifyColumnColumn : {Val : Type 0} → ℕ → ℕ → ℕ → BinaryOp → Conjunct Val
+classifyColumnColumn n a b (Compare o) = classifyColumns n a b o
+classifyColumnColumn n a b EqValidity = Opaque n
+classifyColumnColumn n a b NotEqValidity = Opaque n
+classifyColumnColumn n a b And = Opaque n
+classifyColumnColumn n a b Or = Opaque n
+classifyColumnColumn n a b Xor = Opaque n
+classifyColumnColumn n a b LogicalAnd = Opaque n
+classifyColumnColumn n a b LogicalOr = Opaque n
+
+abbrev pub classifyComparison : {Val : Type 0} → ℕ → BinaryOp → Operand Val → Operand Val → Conjunct Val
+classifyComparison n op (AColumn a) (AColumn b) = classifyColumnColumn n a b op
+classifyComparison n op (AColumn c) (ALiteral v) = classifyColumnLiteral n c v op
+classifyComparison n op (AColumn c) (AList values) = Opaque n
+classifyComparison n op (AColumn c) Other = Opaque n
+classifyComparison n op (ALiteral v) (AColumn c) = classifyColumnLiteral n c v (swapOperands op)
+classifyComparison n op (ALiteral v) (ALiteral w) = Opaque n
+classifyComparison n op (ALiteral v) (AList values) = Opaque n
+classifyComparison n op (ALiteral v) Other = Opaque n
+classifyComparison n op (AList values) right = Opaque n
+classifyComparison n op Other right = Opaque n
+
+-- ---- `classify_is_between`: a lower and an upper bound.
+abbrev pub classifyEnds : {Val : Type 0} → ℕ → Bool → Bool → ℕ → Operand Val → Operand Val → Conjunct Val
+classifyEnds n lowClosed highClosed c (ALiteral v) (ALiteral w) =
+    Bounds c (Lower lowClosed v ∷ (Upper highClosed w ∷ []))
+classifyEnds n lowClosed highClosed c (ALiteral v) (AColumn d) = Opaque n
+classifyEnds n lowClosed highClosed c (ALiteral v) (AList values) = Opaque n
+classifyEnds n lowClosed highClosed c (ALiteral v) Other = Opaque n
+classifyEnds n lowClosed highClosed c (AColumn d) high = Opaque n
+classifyEnds n lowClosed highClosed c (AList values) high = Opaque n
+classifyEnds n lowClosed highClosed c Other high = Opaque n
+
+abbrev pub classifyIsBetween : {Val : Type 0} → ℕ → Bool → Bool → Operand Val → Operand Val → Operand Val →
+    Conjunct Val
+classifyIsBetween n lowClosed highClosed (AColumn c) low high = classifyEnds n lowClosed highClosed c low high
+classifyIsBetween n lowClosed highClosed (ALiteral v) low high = Opaque n
+classifyIsBetween n lowClosed highClosed (AList values) low high = Opaque n
+classifyIsBetween n lowClosed highClosed Other low high = Opaque n
+
+-- ---- is_in, or Not of it; `says` is what the list says of the column. The node stays.
+abbrev pub classifyIsIn : {Val : Type 0} → ℕ → (List Val → Constraint Val) → Operand Val → Operand Val → Conjunct Val
+classifyIsIn n says (AColumn c) (AList values) = Recorded false n c (says values ∷ [])
+classifyIsIn n says (AColumn c) (AColumn d) = Opaque n
+classifyIsIn n says (AColumn c) (ALiteral v) = Opaque n
+classifyIsIn n says (AColumn c) Other = Opaque n
+classifyIsIn n says (ALiteral v) list = Opaque n
+classifyIsIn n says (AList values) list = Opaque n
+classifyIsIn n says Other list = Opaque n
+
+-- ---- `classify_null`: the node stays, and reading stops if the column became impossible.
+abbrev pub classifyNull : {Val : Type 0} → ℕ → Nullability → Operand Val → Conjunct Val
+classifyNull n must (AColumn c) = Recorded true n c (Require must ∷ [])
+classifyNull n must (ALiteral v) = Opaque n
+classifyNull n must (AList values) = Opaque n
+classifyNull n must Other = Opaque n
+
+module _ {Val : Type 0} (R : ℕ → AExpr Val) where
+  -- `classify_negation`. A negated is_in with nulls_equal adds its values but does not count as a value constraint.
+  abbrev pub classifyNegation : ℕ → AExpr Val → Conjunct Val
+  classifyNegation n (Column c) = Opaque n
+  classifyNegation n (Literal v) = Opaque n
+  classifyNegation n Null = Opaque n
+  classifyNegation n (BinaryExpr op left right) = Opaque n
+  classifyNegation n (Not a) = Opaque n
+  classifyNegation n (IsNull a) = classifyNull n NonNull (operand (R a))
+  classifyNegation n (IsNotNull a) = classifyNull n required.Null (operand (R a))
+  classifyNegation n (IsBetween lowClosed highClosed a low high) = Opaque n
+  classifyNegation n (ListLiteral holdsNull values) = Opaque n
+  classifyNegation n (IsIn nullsEqual a list) =
+      classifyIsIn n (λ values. Disallow (not nullsEqual) values) (operand (R a)) (operand (R list))
+  classifyNegation n Missing = Opaque n
+
+  abbrev pub classifyRecord : ℕ → AExpr Val → Conjunct Val
+  classifyRecord n (Column c) = Opaque n
+  classifyRecord n (Literal v) = Opaque n
+  classifyRecord n Null = Opaque n
+  classifyRecord n (BinaryExpr op left right) = classifyComparison n op (operand (R left)) (operand (R right))
+  classifyRecord n (Not a) = classifyNegation n (R a)
+  classifyRecord n (IsNull a) = classifyNull n required.Null (operand (R a))
+  classifyRecord n (IsNotNull a) = classifyNull n NonNull (operand (R a))
+  classifyRecord n (IsBetween lowClosed highClosed a low high) =
+      classifyIsBetween n lowClosed highClosed (operand (R a)) (operand (R low)) (operand (R high))
+  classifyRecord n (ListLiteral holdsNull values) = Opaque n
+  classifyRecord n (IsIn nullsEqual a list) =
+      classifyIsIn n (λ values. Allow values) (operand (R a)) (operand (R list))
+  classifyRecord n Missing = Opaque n
+
+  -- `classify_into_constraints`, of node n.
+  abbrev pub classify : ℕ → Conjunct Val
+  classify n = classifyRecord n (R n)
+
+  abbrev pub classifyAll : List ℕ → List (Conjunct Val)
+  classifyAll [] = []
+  classifyAll (n ∷ nodes) = classify n ∷ classifyAll nodes
+
+  -- What is read of the screen's conjuncts, in their order.
+  abbrev pub conjuncts : ℕ → List (Conjunct Val)
+  conjuncts root = classifyAll (minterms R root)

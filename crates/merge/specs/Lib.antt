@@ -1,0 +1,12 @@
+pub mod Minterms
+pub mod Classify
+pub mod Collect
+pub mod Propagate
+pub mod Emit
+pub mod Plain
+pub mod Rebuild
+pub mod Write
+pub mod Rewrite
+pub mod Demand
+pub mod Passes
+pub mod Cases

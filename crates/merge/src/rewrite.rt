@@ -1,0 +1,9 @@
+/// What rewriting answers: a refusal with its number, that nothing changes, or the new root and used count.
+pub enum RewriteAnswer {
+    Refused(u32),
+    Unchanged,
+    /// Root (a false literal) and used.
+    NothingPasses(u64, u64),
+    /// Root and used.
+    Rewritten(u64, u64),
+}

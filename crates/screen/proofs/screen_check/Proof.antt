@@ -1,0 +1,30 @@
+use borrow.Author.Needs.{needs}
+use Rattle.screen.proofs.screen_check.Statement.{statement}
+use Rattle.screen.proofs.screen_check.Tie as tie
+use Rattle.screen.proofs.screen_check.Reads as reads
+use Rattle.screen.proofs.screen_check.Lts as lts
+use Rattle.records.proofs.check.check_screen.Reads as check-screen-reads
+
+-- src/lib.rt:24:11
+check-screen-requires : tie.Need-check-screen-requires
+check-screen-requires c κs = search needs
+
+-- src/lib.rt:25:30
+enum-known-k : tie.Need-enum-known-k
+enum-known-k c = search needs
+
+-- src/lib.rt:26:34
+enum-told : tie.Need-enum-told
+enum-told c = search needs
+
+-- src/lib.rt:14:1
+returns : tie.Need-returns
+returns c = rw (← c .before .before .before .check-screen .ensures, c .before .k .given .1)
+
+-- src/lib.rt:14:1
+returns-2 : tie.Need-returns-2
+returns-2 c = rw (← c .before .before .check-screen .ensures, c .enum-told .given .1)
+
+pub screen-check-spec : {M : Type 1} → statement M
+screen-check-spec =
+    tie.close (tie.spec check-screen-requires enum-known-k enum-told returns returns-2)

@@ -1,0 +1,57 @@
+use native.Mathlib.Omega.{arith}
+use mathlib.Core.Path.{refl, sym, _∙_}
+use Rattle.records.proofs.Answers.{columns-refused, columns-found}
+use Rattle.records.proofs.Bits.{word-reaches}
+use borrow.Author.Needs.{needs}
+use Rattle.screen.proofs.screen_columns_read.Statement.{statement}
+use Rattle.screen.proofs.screen_columns_read.Tie as tie
+use Rattle.screen.proofs.screen_columns_read.Reads as reads
+use Rattle.screen.proofs.screen_columns_read.Lts as lts
+use Rattle.records.proofs.columns.columns_read.Reads as columns-read-reads
+
+-- src/lib.rt:47:11
+columns-read-requires : tie.Need-columns-read-requires
+columns-read-requires c κs = search needs
+
+-- src/lib.rt:48:32
+enum-known-k : tie.Need-enum-known-k
+enum-known-k c = search needs
+
+-- src/lib.rt:49:29
+enum-known-word : tie.Need-enum-known-word
+enum-known-word c = search needs
+
+-- src/lib.rt:32:1
+returns : tie.Need-returns
+returns c =
+    let e = sym (c .before .before .before .columns-read .ensures) ∙ c .before .k .given .1 in
+    rw e (
+      refl,
+      (
+        refl,
+        (
+          refl,
+          λ q. let h = columns-refused _ _ _ _ _ _ e in absurd (omega (arith, h, q)),
+        ),
+      ),
+    )
+
+-- src/lib.rt:32:1
+returns-2 : tie.Need-returns-2
+returns-2 c =
+    let e = sym (c .before .before .before .columns-read .ensures) ∙ c .before .word .given .1 in
+    let f = columns-found _ _ _ _ _ _ _ e in
+    rw e (
+      refl,
+      (
+        refl,
+        (
+          refl,
+          λ q. ((λ k h. rw (← f .0) (word-reaches _ _ k h)), sym (f .1)),
+        ),
+      ),
+    )
+
+pub screen-columns-read-spec : {M : Type 1} → statement M
+screen-columns-read-spec =
+    tie.close (tie.spec columns-read-requires enum-known-k enum-known-word returns returns-2)

@@ -1,0 +1,228 @@
+-- The rules of document 01's row test as rows of one table: each kind of record, each operator and code, from bytes to
+-- the answer. One proof shows that the definitions yield them all.
+-- Assumes nothing.
+use mathlib.Core.Path.{_≡_, refl}
+use mathlib.Core.List.{List, [], _∷_, _++_}
+use Prim.Native.Nat.{ℕ, _-_}
+use Rattle.records.specs.Bytes.{word, valueAt, all, first}
+use Rattle.records.specs.Course.{upTo, course}
+use Rattle.records.specs.Operator.{operatorAt}
+use Rattle.records.specs.Record.{fieldsAt, closedAt, decode, recordAt}
+use Rattle.records.specs.Shape.{knownType, inType, maxCode, isTyped, usesA, usesB, usesC, knownOk, zeroOr, unusedOk}
+use Rattle.records.specs.Shape.{literalOk}
+use Rattle.records.specs.Shape.{shapeOk}
+use Rattle.records.specs.Fit.{allFit, listOk, reachOk, servedOk, typeOf, typeAt, sameType, binaryFits, betweenFits}
+use Rattle.records.specs.Fit.{isBinary, memberFits, typesOk}
+use Rattle.records.specs.Check.{typesKnown, tableOk, sizesOk, meaningFault, recordFault, firstFault, recordsAnswer}
+use Rattle.records.specs.Check.{checkAnswer}
+use Rattle.truth.specs.declared.logic.Truth.the-variants.{False, Unknown, True}
+use Rattle.truth.specs.declared.test.RowAnswer.{RowAnswer}
+use Rattle.truth.specs.declared.test.RowAnswer.the-variants.{Refused, Tested}
+use Rattle.truth.specs.FromBytes.{valuesFrom, aexprOf, aexprAt, rowOf}
+use Rattle.truth.specs.RowTest.{columnOk, columnsOk, rowFault, checkedAnswer, testRowAnswer}
+
+-- a record of sixteen bytes, its fields below 256; a value of eight bytes
+abbrev entry : ℕ → ℕ → ℕ → ℕ → ℕ → ℕ → List ℕ
+entry kind code ty a b c = kind ∷ code ∷ ty ∷ 0 ∷ a ∷ 0 ∷ 0 ∷ 0 ∷ b ∷ 0 ∷ 0 ∷ 0 ∷ c ∷ 0 ∷ 0 ∷ 0 ∷ []
+
+abbrev int : ℕ → List ℕ
+int v = v ∷ 0 ∷ 0 ∷ 0 ∷ 0 ∷ 0 ∷ 0 ∷ 0 ∷ []
+
+abbrev minus : ℕ → List ℕ
+minus v = (256 - v) ∷ 255 ∷ 255 ∷ 255 ∷ 255 ∷ 255 ∷ 255 ∷ 255 ∷ []
+
+-- column 0 and column 1 under an operator: two Ints, two Truths
+abbrev two : ℕ → ℕ → List ℕ → List ℕ → ℕ → RowAnswer
+two ty o x y nulls =
+    testRowAnswer (ty ∷ ty ∷ []) (entry 1 0 0 0 0 0 ++ (entry 1 0 0 1 0 0 ++ entry 4 o 0 0 1 0)) [] 3 2 (x ++ y) nulls
+
+abbrev compare : ℕ → List ℕ → List ℕ → ℕ → RowAnswer
+compare = two 1
+
+abbrev logic : ℕ → List ℕ → List ℕ → ℕ → RowAnswer
+logic = two 3
+
+-- a kind of one input above column 0 of a type
+abbrev one : ℕ → ℕ → List ℕ → ℕ → RowAnswer
+one ty kind x nulls = testRowAnswer (ty ∷ []) (entry 1 0 0 0 0 0 ++ entry kind 0 0 0 0 0) [] 2 1 x nulls
+
+-- is_null of (c0 == c1) at a null; (c0 == c1) < true, where it is false
+abbrev unknown-is-null : RowAnswer
+unknown-is-null =
+    testRowAnswer (1 ∷ 1 ∷ []) (entry 1 0 0 0 0 0 ++ (entry 1 0 0 1 0 0 ++ (entry 4 0 0 0 1 0 ++ entry 6 0 0 2 0 0)))
+    [] 4 3
+    (int 0 ++ int 4) 1
+
+abbrev false-below-true : RowAnswer
+false-below-true =
+    testRowAnswer (1 ∷ 1 ∷ [])
+    (entry 1 0 0 0 0 0 ++ (entry 1 0 0 1 0 0 ++ (entry 4 0 0 0 1 0 ++ (entry 2 0 3 0 1 0 ++ entry 4 4 0 2 3 0)))) [] 5 4
+    (int 3 ++ int 4) 0
+
+-- is_between of column 0 and the literals 1 and 5; with a null for the high end and 7 for the low one
+abbrev between : ℕ → List ℕ → ℕ → RowAnswer
+between code x nulls =
+    testRowAnswer (1 ∷ [])
+    (entry 1 0 0 0 0 0 ++ (entry 2 0 1 0 1 0 ++ (entry 2 0 1 0 5 0 ++ entry 8 code 0 0 1 2))) [] 4 3 x nulls
+
+abbrev between-null : RowAnswer
+between-null =
+    testRowAnswer (1 ∷ []) (entry 1 0 0 0 0 0 ++ (entry 2 0 1 0 7 0 ++ (entry 3 0 1 0 0 0 ++ entry 8 0 0 0 1 2))) [] 4 3
+    (int 3) 0
+
+-- is_in of column 0 and the first values of 1, 2: nulls_equal, whether the list holds a null, its count
+abbrev member : ℕ → ℕ → ℕ → List ℕ → ℕ → RowAnswer
+member equal holds count x nulls =
+    testRowAnswer (1 ∷ []) (entry 1 0 0 0 0 0 ++ (entry 9 holds 1 0 count 0 ++ entry 10 equal 0 0 1 0))
+    (int 1 ++ int 2) 3 2
+    x nulls
+
+-- a record alone, beside a Truth column
+abbrev alone : List ℕ → ℕ → RowAnswer
+alone r nulls = testRowAnswer (3 ∷ []) r [] 1 0 (int 0) nulls
+
+record Case : Type 0 where
+  asked : RowAnswer
+  told : RowAnswer
+
+abbrev is : RowAnswer → RowAnswer → Case
+is x y = record { asked = x; told = y }
+
+abbrev askedOf : List Case → List RowAnswer
+askedOf [] = []
+askedOf (c ∷ l) = c .asked ∷ askedOf l
+
+abbrev toldOf : List Case → List RowAnswer
+toldOf [] = []
+toldOf (c ∷ l) = c .told ∷ toldOf l
+
+abbrev cases : List Case
+cases =
+    -- Eq: 3 and 5, 5 and 5, a null and 5
+    is (compare 0 (int 3) (int 5) 0) (Tested False)
+    ∷ is (compare 0 (int 5) (int 5) 0) (Tested True)
+    ∷ is (compare 0 (int 0) (int 5) 1) (Tested Unknown)
+    -- EqValidity: 3 and 5, 5 and 5, a null and 5
+    ∷ is (compare 1 (int 3) (int 5) 0) (Tested False)
+    ∷ is (compare 1 (int 5) (int 5) 0) (Tested True)
+    ∷ is (compare 1 (int 0) (int 5) 1) (Tested False)
+    -- NotEq: 3 and 5, 5 and 5, a null and 5
+    ∷ is (compare 2 (int 3) (int 5) 0) (Tested True)
+    ∷ is (compare 2 (int 5) (int 5) 0) (Tested False)
+    ∷ is (compare 2 (int 0) (int 5) 1) (Tested Unknown)
+    -- NotEqValidity: 3 and 5, 5 and 5, a null and 5
+    ∷ is (compare 3 (int 3) (int 5) 0) (Tested True)
+    ∷ is (compare 3 (int 5) (int 5) 0) (Tested False)
+    ∷ is (compare 3 (int 0) (int 5) 1) (Tested True)
+    -- Lt: 3 and 5, 5 and 5, a null and 5
+    ∷ is (compare 4 (int 3) (int 5) 0) (Tested True)
+    ∷ is (compare 4 (int 5) (int 5) 0) (Tested False)
+    ∷ is (compare 4 (int 0) (int 5) 1) (Tested Unknown)
+    -- LtEq: 3 and 5, 5 and 5, a null and 5
+    ∷ is (compare 5 (int 3) (int 5) 0) (Tested True)
+    ∷ is (compare 5 (int 5) (int 5) 0) (Tested True)
+    ∷ is (compare 5 (int 0) (int 5) 1) (Tested Unknown)
+    -- Gt: 3 and 5, 5 and 5, a null and 5
+    ∷ is (compare 6 (int 3) (int 5) 0) (Tested False)
+    ∷ is (compare 6 (int 5) (int 5) 0) (Tested False)
+    ∷ is (compare 6 (int 0) (int 5) 1) (Tested Unknown)
+    -- GtEq: 3 and 5, 5 and 5, a null and 5
+    ∷ is (compare 7 (int 3) (int 5) 0) (Tested False)
+    ∷ is (compare 7 (int 5) (int 5) 0) (Tested True)
+    ∷ is (compare 7 (int 0) (int 5) 1) (Tested Unknown)
+    -- EqValidity and NotEqValidity take two nulls as one value; no other comparison does
+    ∷ is (compare 1 (int 0) (int 0) 3) (Tested True)
+    ∷ is (compare 3 (int 0) (int 0) 3) (Tested False)
+    ∷ is (compare 0 (int 0) (int 0) 3) (Tested Unknown)
+    -- values are signed
+    ∷ is (compare 4 (minus 1) (int 0) 0) (Tested True)
+    ∷ is (compare 6 (minus 1) (int 0) 0) (Tested False)
+    -- And: false and unknown, true and unknown, true and false, true and true
+    ∷ is (logic 15 (int 0) (int 0) 2) (Tested False)
+    ∷ is (logic 15 (int 1) (int 0) 2) (Tested Unknown)
+    ∷ is (logic 15 (int 1) (int 0) 0) (Tested False)
+    ∷ is (logic 15 (int 1) (int 1) 0) (Tested True)
+    -- Or: false and unknown, true and unknown, true and false, true and true
+    ∷ is (logic 16 (int 0) (int 0) 2) (Tested Unknown)
+    ∷ is (logic 16 (int 1) (int 0) 2) (Tested True)
+    ∷ is (logic 16 (int 1) (int 0) 0) (Tested True)
+    ∷ is (logic 16 (int 1) (int 1) 0) (Tested True)
+    -- Xor: false and unknown, true and unknown, true and false, true and true
+    ∷ is (logic 17 (int 0) (int 0) 2) (Tested Unknown)
+    ∷ is (logic 17 (int 1) (int 0) 2) (Tested Unknown)
+    ∷ is (logic 17 (int 1) (int 0) 0) (Tested True)
+    ∷ is (logic 17 (int 1) (int 1) 0) (Tested False)
+    -- LogicalAnd: false and unknown, true and unknown, true and false, true and true
+    ∷ is (logic 18 (int 0) (int 0) 2) (Tested False)
+    ∷ is (logic 18 (int 1) (int 0) 2) (Tested Unknown)
+    ∷ is (logic 18 (int 1) (int 0) 0) (Tested False)
+    ∷ is (logic 18 (int 1) (int 1) 0) (Tested True)
+    -- LogicalOr: false and unknown, true and unknown, true and false, true and true
+    ∷ is (logic 19 (int 0) (int 0) 2) (Tested Unknown)
+    ∷ is (logic 19 (int 1) (int 0) 2) (Tested True)
+    ∷ is (logic 19 (int 1) (int 0) 0) (Tested True)
+    ∷ is (logic 19 (int 1) (int 1) 0) (Tested True)
+    -- Not of false, true, unknown
+    ∷ is (one 3 5 (int 0) 0) (Tested True)
+    ∷ is (one 3 5 (int 1) 0) (Tested False)
+    ∷ is (one 3 5 (int 0) 1) (Tested Unknown)
+    -- is_null and is_not_null of a value and of null
+    ∷ is (one 1 6 (int 7) 0) (Tested False)
+    ∷ is (one 1 6 (int 0) 1) (Tested True)
+    ∷ is (one 1 7 (int 7) 0) (Tested True)
+    ∷ is (one 1 7 (int 0) 1) (Tested False)
+    -- an unknown comparison is null as a value
+    ∷ is (unknown-is-null) (Tested True)
+    -- false is below true
+    ∷ is (false-below-true) (Tested True)
+    -- is_between 1 and 5, code 0, of 1 and of 5
+    ∷ is (between 0 (int 1) 0) (Tested True)
+    ∷ is (between 0 (int 5) 0) (Tested True)
+    -- is_between 1 and 5, code 1, of 1 and of 5
+    ∷ is (between 1 (int 1) 0) (Tested True)
+    ∷ is (between 1 (int 5) 0) (Tested False)
+    -- is_between 1 and 5, code 2, of 1 and of 5
+    ∷ is (between 2 (int 1) 0) (Tested False)
+    ∷ is (between 2 (int 5) 0) (Tested True)
+    -- is_between 1 and 5, code 3, of 1 and of 5
+    ∷ is (between 3 (int 1) 0) (Tested False)
+    ∷ is (between 3 (int 5) 0) (Tested False)
+    -- inside; null
+    ∷ is (between 0 (int 3) 0) (Tested True)
+    ∷ is (between 3 (int 3) 0) (Tested True)
+    ∷ is (between 0 (int 0) 1) (Tested Unknown)
+    -- false with one bound null
+    ∷ is (between-null) (Tested False)
+    -- a list of count 0 is empty: a null is not in it, marked or not, nulls_equal or not
+    ∷ is (member 0 0 0 (int 0) 1) (Tested False)
+    ∷ is (member 1 1 0 (int 0) 1) (Tested False)
+    -- found; not found; not found though the list holds a null
+    ∷ is (member 0 0 2 (int 2) 0) (Tested True)
+    ∷ is (member 0 0 2 (int 9) 0) (Tested False)
+    ∷ is (member 0 1 2 (int 9) 0) (Tested False)
+    -- a null value: unknown, or with nulls_equal whether the list holds a null
+    ∷ is (member 0 0 2 (int 0) 1) (Tested Unknown)
+    ∷ is (member 0 1 2 (int 0) 1) (Tested Unknown)
+    ∷ is (member 1 0 2 (int 0) 1) (Tested False)
+    ∷ is (member 1 1 2 (int 0) 1) (Tested True)
+    -- a literal, a null and a column as the root
+    ∷ is (alone (entry 2 0 3 0 1 0) 0) (Tested True)
+    ∷ is (alone (entry 2 0 3 0 0 0) 0) (Tested False)
+    ∷ is (alone (entry 3 0 3 0 0 0) 0) (Tested Unknown)
+    ∷ is (alone (entry 1 0 0 0 0 0) 1) (Tested Unknown)
+    -- refusals: checking, the length, the marks, the values; a null column holds zero
+    ∷ is (testRowAnswer (3 ∷ []) (entry 1 0 0 0 0 0) [] 1 1 (int 1) 0) (Refused 3)
+    ∷ is (testRowAnswer (3 ∷ []) (entry 1 0 0 0 0 0) [] 1 0 [] 0) (Refused 12)
+    ∷ is (testRowAnswer (3 ∷ []) (entry 1 0 0 0 0 0) [] 1 0 (int 1 ++ int 1) 0) (Refused 12)
+    ∷ is (testRowAnswer (3 ∷ []) (entry 1 0 0 0 0 0) [] 1 0 (int 1) 2) (Refused 13)
+    ∷ is (testRowAnswer (3 ∷ []) (entry 1 0 0 0 0 0) [] 1 0 (int 2) 0) (Refused 13)
+    ∷ is (testRowAnswer (3 ∷ []) (entry 1 0 0 0 0 0) [] 1 0 (int 1) 1) (Refused 13)
+    ∷ []
+
+all-hold : askedOf cases ≡ toldOf cases
+unfolding isBinary word valueAt all first upTo course operatorAt fieldsAt closedAt decode recordAt knownType
+    inType maxCode isTyped usesA usesB usesC knownOk zeroOr unusedOk literalOk shapeOk allFit listOk reachOk
+    servedOk typeOf typeAt sameType binaryFits betweenFits memberFits typesOk typesKnown tableOk sizesOk
+    meaningFault recordFault firstFault recordsAnswer checkAnswer valuesFrom aexprOf aexprAt rowOf columnOk
+    columnsOk rowFault checkedAnswer testRowAnswer
+all-hold = refl

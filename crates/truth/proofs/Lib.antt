@@ -1,0 +1,13 @@
+pub mod Orders
+pub mod HalfPoints
+pub mod Keys
+pub mod Tables
+pub mod Cells
+pub mod Agree
+pub mod Lists
+pub mod Evaluation
+pub mod Ready
+pub mod Marks
+pub mod Answers
+mod Cases
+pub mod TypedRows

@@ -1,0 +1,10 @@
+pub mod Order
+pub mod Halves
+pub mod Comparison
+pub mod Logic
+pub mod AExpr
+pub mod Membership
+pub mod Cell
+pub mod FromBytes
+pub mod Evaluate
+pub mod RowTest

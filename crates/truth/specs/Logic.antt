@@ -1,0 +1,65 @@
+-- The truth values of ISO/IEC 9075 and its tables for And, Or and Not.
+-- Xor, which the standard lacks, is unknown if either side is.
+use mathlib.Core.Bool.{Bool, true, false, cond}
+use Prim.Native.Nat.{ℕ}
+use lib.Dec.{eqb}
+use Rattle.truth.specs.declared.logic.Truth.{Truth}
+use Rattle.truth.specs.declared.logic.Truth.the-variants.{False, Unknown, True}
+
+abbrev pub and3 : Truth → Truth → Truth
+and3 True True = True
+and3 True Unknown = Unknown
+and3 True False = False
+and3 Unknown True = Unknown
+and3 Unknown Unknown = Unknown
+and3 Unknown False = False
+and3 False True = False
+and3 False Unknown = False
+and3 False False = False
+
+abbrev pub or3 : Truth → Truth → Truth
+or3 True True = True
+or3 True Unknown = True
+or3 True False = True
+or3 Unknown True = True
+or3 Unknown Unknown = Unknown
+or3 Unknown False = Unknown
+or3 False True = True
+or3 False Unknown = Unknown
+or3 False False = False
+
+abbrev pub xor3 : Truth → Truth → Truth
+xor3 True True = False
+xor3 True Unknown = Unknown
+xor3 True False = True
+xor3 Unknown True = Unknown
+xor3 Unknown Unknown = Unknown
+xor3 Unknown False = Unknown
+xor3 False True = True
+xor3 False Unknown = Unknown
+xor3 False False = False
+
+abbrev pub not3 : Truth → Truth
+not3 True = False
+not3 Unknown = Unknown
+not3 False = True
+
+-- The truth of a test that is never unknown.
+abbrev pub ofBool : Bool → Truth
+ofBool true = True
+ofBool false = False
+
+-- A row passes on true only.
+abbrev pub isTrue : Truth → Bool
+isTrue True = true
+isTrue Unknown = false
+isTrue False = false
+
+-- The codes by which the code's tables are indexed.
+abbrev pub truthCode : Truth → ℕ
+truthCode False = 0
+truthCode Unknown = 1
+truthCode True = 2
+
+unfoldable pub truthOf : ℕ → Truth
+truthOf code = cond (eqb code 0) False (cond (eqb code 1) Unknown True)

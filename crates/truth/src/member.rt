@@ -1,0 +1,57 @@
+// Membership: the list rule of specs/Membership.antt. Lists are searched in place, in the pool.
+ghost use mathlib.Core.Path.{_≡_};
+ghost use Prim.Native.Nat.{_+_, _*_, _≤_};
+ghost use lib.ListN.{length};
+ghost use Rattle.truth.specs.Halves.{key};
+ghost use Rattle.truth.specs.Membership.{nullIn3};
+ghost use Rattle.truth.specs.FromBytes.{valuesFrom};
+ghost use Rattle.truth.specs.Evaluate.{keyed, holdsKey, memberOf};
+use crate::logic::Truth;
+use crate::logic::truth_of_bool;
+use crate::read::value_in;
+use crate::scalar::Scalar;
+use crate::scalar::scalar_cmp;
+use crate::value::Value;
+use crate::value::is_equal;
+use records::record::Fields;
+
+// Whether one of `count` values of the pool, from the one numbered `start` on, equals `v`.
+fn listed(pool: &[u8], start: u32, count: u32, v: Scalar) -> bool
+    requires { ⌜ 8 * (start + count) ≤ length (now pool) ⌝ }
+    ensures { λ r. ⌜ r ≡ holdsKey (key (v .0)) (valuesFrom (now (pool .entry)) start count) ⌝ }
+{
+    let mut i = start as usize;
+    let end = start as usize + count as usize;
+    while i < end {
+        let w = Scalar(value_in(pool, i));
+        if is_equal(scalar_cmp(v, w)) {
+            return true;
+        }
+        i += 1;
+    }
+    false
+}
+
+// A null in a list that is not empty.
+fn null_in(equal: bool, holds: bool) -> Truth
+    ensures { λ r. ⌜ r ≡ nullIn3 equal holds ⌝ }
+{
+    if equal {
+        return truth_of_bool(holds);
+    }
+    Truth::Unknown
+}
+
+// is_in of the value `x` and the record of a list; `equal` is nulls_equal.
+pub fn member(pool: &[u8], list: Fields, equal: bool, x: Value) -> Truth
+    requires { ⌜ 8 * (list .a + list .b) ≤ length (now pool) ⌝ }
+    ensures { λ r. ⌜ r ≡ memberOf (now (pool .entry)) list equal (keyed x) ⌝ }
+{
+    if list.b == 0 {
+        return Truth::False;
+    }
+    match x {
+        Value::Null => null_in(equal, list.code == 1),
+        Value::Known(v) => truth_of_bool(listed(pool, list.a, list.b, v)),
+    }
+}

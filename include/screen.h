@@ -1,0 +1,249 @@
+/*
+ * screen.h: the lines of an option screen, checked, read and rewritten.
+ *
+ * A screen is a tree of lines ("c0 > 5", "c1 is null", "c2 in [1, 2]") that a row of an option chain passes or not.
+ * The caller lends it as plain bytes; nothing is allocated and nothing is kept after a call. Calls may run at the same
+ * time on different threads if no buffer that one writes is lent to another. Every call is proved to give the answer
+ * stated here on every input, damaged bytes and any 64-bit numbers too, and to read nothing outside what was lent.
+ *
+ * WHAT IS LENT
+ *
+ *   table    one byte for each column, its type (SCREEN_TYPE_..). At most 64 columns; none at all is fine.
+ *   records  16 bytes for each record, laid out as below. Bytes after the last whole record are allowed and left alone.
+ *   pool     the values of lists: 8 bytes each, 64-bit two's complement, little-endian. At most 8,192 values.
+ *   used     how many records, from record 0 on, belong to the screen. At most 4,096, and no more than were lent.
+ *   root     the number of the record that the screen means, below used. Records count from 0.
+ *
+ * Records, the pool and all other slices are a pointer and a length IN BYTES. A slice of length 0 may come with any
+ * pointer, NULL too. A slice of another length must point to that many bytes. Lent buffers and out-parameters must not
+ * overlap each other: nothing can check that, and the answer is not stated if they do. Byte slices need no alignment.
+ *
+ * THE 16 BYTES OF A RECORD
+ *
+ *   byte 0 kind, byte 1 code, byte 2 type, byte 3 zero; A = bytes 4-7, B = bytes 8-11, C = bytes 12-15, little-endian.
+ *   Every field that a kind does not use is zero. An input is the number of an earlier record.
+ *
+ *   kind                     code              type  A              B            C
+ *   SCREEN_KIND_COLUMN       -                 -     column number  -            -
+ *   SCREEN_KIND_LITERAL      -                 yes   -              B and C: the value, 64-bit two's complement
+ *   SCREEN_KIND_NULL         -                 yes   -              -            -
+ *   SCREEN_KIND_BINARY       SCREEN_OP_..      -     left input     right input  -
+ *   SCREEN_KIND_NOT          -                 -     input          -            -
+ *   SCREEN_KIND_IS_NULL      -                 -     input          -            -
+ *   SCREEN_KIND_IS_NOT_NULL  -                 -     input          -            -
+ *   SCREEN_KIND_IS_BETWEEN   SCREEN_CLOSED_..  -     value input    low input    high input
+ *   SCREEN_KIND_LIST         1: holds a null   yes   start in pool  count        -
+ *   SCREEN_KIND_IS_IN        1: nulls_equal    -     value input    list input   -
+ *
+ *   Start and count of a list are in values, not bytes. The code of a list or an is_in is otherwise 0.
+ *
+ * ANSWERS
+ *
+ * An answer below 256 is a refusal: the number says why (enum screen_refusal, screen_refusal_text), and nothing was
+ * written. 256 and above is an answer of the call, named where the call is declared.
+ */
+#ifndef SCREEN_H
+#define SCREEN_H
+
+#include <stddef.h>
+#include <stdint.h>
+
+#ifdef __cplusplus
+extern "C" {
+#endif
+
+/* The limits: the value itself is still accepted. */
+enum screen_limit {
+    SCREEN_MAX_COLUMNS = 64,
+    SCREEN_MAX_RECORDS = 4096,
+    SCREEN_MAX_POOL_VALUES = 8192,
+    SCREEN_MAX_TREE = 4096, /* records of a root's tree, a shared one counted each time it is reached */
+    SCREEN_RECORD_BYTES = 16,
+    SCREEN_VALUE_BYTES = 8
+};
+
+/* Types of columns, literals, nulls and lists. */
+enum screen_type {
+    SCREEN_TYPE_INT = 1,  /* 64-bit signed */
+    SCREEN_TYPE_DAY = 2,  /* 32-bit signed, held in 64 bits */
+    SCREEN_TYPE_TRUTH = 3 /* 0 false, 1 true */
+};
+
+/* Byte 0 of a record. */
+enum screen_kind {
+    SCREEN_KIND_COLUMN = 1,
+    SCREEN_KIND_LITERAL = 2,
+    SCREEN_KIND_NULL = 3,
+    SCREEN_KIND_BINARY = 4,
+    SCREEN_KIND_NOT = 5, /* not above a binary record */
+    SCREEN_KIND_IS_NULL = 6,
+    SCREEN_KIND_IS_NOT_NULL = 7,
+    SCREEN_KIND_IS_BETWEEN = 8,
+    SCREEN_KIND_LIST = 9,
+    SCREEN_KIND_IS_IN = 10
+};
+
+/* The code of a binary record. Codes 8 to 14 are arithmetic, which is left out: a record with one is refused. */
+enum screen_operator {
+    SCREEN_OP_EQ = 0,
+    SCREEN_OP_EQ_VALIDITY = 1, /* equal, null taken as a value */
+    SCREEN_OP_NOT_EQ = 2,
+    SCREEN_OP_NOT_EQ_VALIDITY = 3, /* not equal, null taken as a value */
+    SCREEN_OP_LT = 4,
+    SCREEN_OP_LT_EQ = 5,
+    SCREEN_OP_GT = 6,
+    SCREEN_OP_GT_EQ = 7,
+    SCREEN_OP_AND = 15,
+    SCREEN_OP_OR = 16,
+    SCREEN_OP_XOR = 17,
+    SCREEN_OP_LOGICAL_AND = 18,
+    SCREEN_OP_LOGICAL_OR = 19
+};
+
+/* The code of an is_between record: which ends belong to the range. */
+enum screen_closed {
+    SCREEN_CLOSED_BOTH = 0,
+    SCREEN_CLOSED_LEFT = 1,  /* the low end only */
+    SCREEN_CLOSED_RIGHT = 2, /* the high end only */
+    SCREEN_CLOSED_NONE = 3
+};
+
+/*
+ * Why a call refused. The numbers are looked for in this order and the first that applies is given: 1, 2, 3; then the
+ * used records from record 0 up, reached by the root or not, and for each of them 4, 5, 6, 7; then 7 for the root.
+ * After these come the numbers of the single calls, in rising order.
+ */
+enum screen_refusal {
+    /* Over 64 columns, or a byte of the table that is no type. */
+    SCREEN_REFUSED_TABLE = 1,
+    /* used is over 4,096 or over the whole records lent, or the pool is over 8,192 values or not whole values. */
+    SCREEN_REFUSED_SIZE = 2,
+    /* The root is not below used. */
+    SCREEN_REFUSED_ROOT = 3,
+    /* A record of unknown kind, code or type, with a nonzero unused field, or a literal outside its type. */
+    SCREEN_REFUSED_RECORD = 4,
+    /*
+     * A record with an input that is not below it, a column that is not in the table, or a list whose start plus count
+     * is past the pool (also with count 0) or that has a value outside its type. Pool values in no list do not matter.
+     */
+    SCREEN_REFUSED_REFERENCE = 5,
+    /* A binary record with an arithmetic operator, or a Not whose input is a binary record. */
+    SCREEN_REFUSED_OPERATOR = 6,
+    /*
+     * Types that do not fit. Comparisons and is_between take values of one type, Truth too; logic and Not take Truth; a
+     * list serves only as the second input of is_in, and is of the type of its first. The root must be Truth.
+     */
+    SCREEN_REFUSED_TYPES = 7,
+    /* The root's tree has over 4,096 records, a shared record counted each time it is reached, lists too. */
+    SCREEN_REFUSED_TREE = 8,
+    /* The row has not exactly eight bytes for each column. */
+    SCREEN_REFUSED_ROW_LENGTH = 12,
+    /*
+     * A null mark at or above the number of columns, a value outside its column's type, or a column marked null whose
+     * eight bytes are not zero. Every column counts, read by the root or not.
+     */
+    SCREEN_REFUSED_ROW = 13
+};
+
+/* The plain sentence for a refusal number, for those who look numbers up. Never NULL. */
+static inline const char *screen_refusal_text(uint32_t answer)
+{
+    switch (answer) {
+    case SCREEN_REFUSED_TABLE:
+        return "The table has more than 64 columns, or a column of an unknown type.";
+    case SCREEN_REFUSED_SIZE:
+        return "More than 4,096 records are used or more than were lent, or the pool is over 8,192 values or ends "
+               "inside a value.";
+    case SCREEN_REFUSED_ROOT:
+        return "The root is not one of the used records.";
+    case SCREEN_REFUSED_RECORD:
+        return "A record has an unknown kind, code or type, an unused field that is not zero, or a literal outside its "
+               "type.";
+    case SCREEN_REFUSED_REFERENCE:
+        return "A record names an input that is not before it, a column that does not exist, or a list that is not in "
+               "the pool or has a value outside its type.";
+    case SCREEN_REFUSED_OPERATOR:
+        return "A record uses an arithmetic operator, or a Not stands directly above a binary record.";
+    case SCREEN_REFUSED_TYPES:
+        return "The types of a record's inputs do not fit it, or the root is not a truth.";
+    case SCREEN_REFUSED_TREE:
+        return "The screen has more than 4,096 records, shared ones counted each time they are reached.";
+    case SCREEN_REFUSED_ROW_LENGTH:
+        return "The row does not have exactly eight bytes for each column.";
+    case SCREEN_REFUSED_ROW:
+        return "The row has a null mark beyond its columns, a value outside its column's type, or a null whose value "
+               "is not zero.";
+    default:
+        return answer < 256 ? "No refusal has this number." : "Not refused.";
+    }
+}
+
+/* ------------------------------------------------------------------------------------------------ checking a screen */
+
+/* The answer of screen_check. */
+enum screen_check_answer {
+    SCREEN_ACCEPTED = 256 /* the screen is well formed */
+};
+
+/*
+ * Is this a well-formed screen? Answers SCREEN_ACCEPTED, or a refusal, 1 to 7. Writes nothing.
+ *
+ *   table, table_len      the column types; table_len is the number of columns
+ *   records, records_len  the records; records_len / 16, rounded down, are lent
+ *   pool, pool_len        the values of lists; pool_len is 8 times their number
+ *   used                  how many of the records belong to the screen; any number, one too large is refused
+ *   root                  the record that the screen means; any number, one not below used is refused
+ */
+uint32_t screen_check(const uint8_t *table, size_t table_len, const uint8_t *records, size_t records_len,
+                      const uint8_t *pool, size_t pool_len, uint64_t used, uint64_t root);
+
+/* ---------------------------------------------------------------------------------------------------- testing a row */
+
+/* The answers of screen_test_row. A row passes on SCREEN_TRUE only. */
+enum screen_test_row_answer {
+    SCREEN_FALSE = 256,
+    SCREEN_UNKNOWN = 257, /* a null stood in the way of an answer */
+    SCREEN_TRUE = 258
+};
+
+/*
+ * What does the screen say of this row, by the three-valued logic of ISO/IEC 9075? Answers one of the above, or a
+ * refusal: 1 to 7, 8, 12, 13. Writes nothing.
+ *
+ *   table .. root  as in screen_check
+ *   row, row_len   for each column in the table's order its value, 8 bytes, two's complement, little-endian, within the
+ *                  column's type; 8 zero bytes for a null. row_len is 8 times the number of columns
+ *   nulls          the null marks: bit i, counted from the lowest, is set if column i is null
+ *
+ * The depth of the calls inside follows the depth of the screen; the deepest, a chain of 4,096 records, needs less than
+ * 1 MB of stack.
+ */
+uint32_t screen_test_row(const uint8_t *table, size_t table_len, const uint8_t *records, size_t records_len,
+                         const uint8_t *pool, size_t pool_len, uint64_t used, uint64_t root,
+                         const uint8_t *row, size_t row_len, uint64_t nulls);
+
+/* ----------------------------------------------------------------------------------------------------- columns read */
+
+/* The answer of screen_columns_read. */
+enum screen_columns_read_answer {
+    SCREEN_COLUMNS = 256 /* *columns and *count are written */
+};
+
+/*
+ * Which columns does the screen read? Answers SCREEN_COLUMNS, or a refusal, 1 to 7.
+ *
+ *   table .. root  as in screen_check
+ *   columns        not NULL. Written with SCREEN_COLUMNS: bit i, counted from the lowest, is set exactly if the root
+ *                  reaches a record of column i. Keeps its value with a refusal
+ *   count          not NULL, and not the same as columns. Written with SCREEN_COLUMNS: the number of ones in *columns.
+ *                  Keeps its value with a refusal
+ */
+uint32_t screen_columns_read(const uint8_t *table, size_t table_len, const uint8_t *records, size_t records_len,
+                             const uint8_t *pool, size_t pool_len, uint64_t used, uint64_t root,
+                             uint64_t *columns, uint64_t *count);
+
+#ifdef __cplusplus
+}
+#endif
+
+#endif

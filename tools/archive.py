@@ -1,0 +1,65 @@
+"""The library as hosts link it, called from Python: the archive made into a shared object, its calls through ctypes.
+
+Every call gets buffers of exactly the length lent, and each answer comes with whether any byte changed that may not.
+"""
+
+import ctypes
+import os
+import subprocess
+import tempfile
+
+REPO = os.path.dirname(os.path.dirname(os.path.abspath(__file__)))
+ARCHIVE = os.path.join(REPO, "target", "staticlib", "libscreen.a")
+MARKS = (0x0123456789ABCDEF, 0xFEDCBA9876543210)  # out-parameters before a call
+
+
+class Changed(Exception):
+    """A call wrote to a byte that it must keep."""
+
+
+class Archive:
+    def __init__(self, path=ARCHIVE):
+        with tempfile.TemporaryDirectory() as work:
+            shared = os.path.join(work, "libscreen.so")
+            subprocess.run(["gcc", "-shared", "-o", shared, "-Wl,--whole-archive", path, "-Wl,--no-whole-archive"],
+                           check=True)
+            self.lib = ctypes.CDLL(shared)
+
+    def has(self, call):
+        return hasattr(self.lib, call)
+
+    def _call(self, name, s, *more, writes_records=False):
+        """The answer and the records at exit; `more` are the arguments after those that all calls share."""
+        slices = []
+        for data in (s.table, s.records, s.pool):
+            lent = (ctypes.c_uint8 * len(data)).from_buffer_copy(data) if data else None
+            slices += [lent, ctypes.c_size_t(len(data))]
+        function = getattr(self.lib, name)
+        function.restype = ctypes.c_uint32
+        answer = function(*slices, ctypes.c_uint64(s.used), ctypes.c_uint64(s.root), *more)
+        table, records, pool = (bytes(slices[i] or b"") for i in (0, 2, 4))
+        if (table, pool) != (s.table, s.pool) or not writes_records and records != s.records:
+            raise Changed(name)
+        return answer, records
+
+    def check(self, s):
+        return self._call("screen_check", s)[0]
+
+    def columns_read(self, s):
+        """The answer and the two out-parameters, which stand at MARKS before the call."""
+        out = [ctypes.c_uint64(mark) for mark in MARKS]
+        answer, _ = self._call("screen_columns_read", s, *map(ctypes.byref, out))
+        return answer, out[0].value, out[1].value
+
+    def test_row(self, s, row, nulls):
+        lent = (ctypes.c_uint8 * len(row)).from_buffer_copy(row) if row else None
+        answer, _ = self._call("screen_test_row", s, lent, ctypes.c_size_t(len(row)), ctypes.c_uint64(nulls))
+        if bytes(lent or b"") != row:
+            raise Changed("screen_test_row")
+        return answer
+
+    def rewrite(self, s):
+        """The answer, the two out-parameters, which stand at MARKS before the call, and the records at exit."""
+        out = [ctypes.c_uint64(mark) for mark in MARKS]
+        answer, records = self._call("screen_rewrite", s, *map(ctypes.byref, out), writes_records=True)
+        return answer, out[0].value, out[1].value, records

@@ -1,0 +1,442 @@
+"""Random screens and rows of all kinds. Everything follows from the random generator handed in, so a seed names a list.
+
+`screen` draws one of the kinds below; each can be asked for by name, too:
+  plain    conjunctions of plain lines: comparisons either way round, ranges, lists, null tests, negations, equalities
+  merging  plain lines that some row passes, so that there is more to merge than a contradiction
+  mixed    plain lines among all others: every record kind, operator and type, nested, with shared records
+  limits   127 to 129 conjuncts, trees of 4,095 to 4,097, full tables, pools and records, long lists
+  damaged  one of the above with bytes, lengths or numbers changed
+  garbage  bytes that were never a screen
+"""
+
+import model as m
+from model import Screen
+
+PLAIN_COMPARISONS = (m.EQ, m.NOT_EQ, m.LT, m.LT_EQ, m.GT, m.GT_EQ)
+COMPARISONS = tuple(range(m.EQ, m.GT_EQ + 1))
+LOGIC = (m.AND, m.OR, m.XOR, m.LOGICAL_AND, m.LOGICAL_OR)
+EXTREMES = {m.INT: (-2**63, 2**63 - 1, 2**31, -2**31 - 1, 2**32), m.DAY: (-2**31, 2**31 - 1), m.TRUTH: (0, 1)}
+ODD_NUMBERS = (2**64 - 1, 2**63, 2**60, 2**32, 2**32 + 1, 2**16, 4096, 4097, 8192)
+
+
+def value_bytes(v):
+    return (v & (2**64 - 1)).to_bytes(8, "little")
+
+
+class Builder:
+    """A screen under construction. Columns, literals and whole lines are sometimes used again instead of made anew."""
+
+    def __init__(self, rng, table, spread=7, share=0.3):
+        self.rng, self.table, self.spread, self.share = rng, bytes(table), spread, share
+        self.records, self.values, self.made = bytearray(), [], {}
+
+    def put(self, kind, code=0, type_=0, a=0, b=0, c=0):
+        key = (kind, code, type_, a, b, c)
+        if key in self.made and self.rng.random() < self.share:
+            return self.made[key]
+        self.records += bytes((kind, code, type_, 0))
+        for field in (a, b, c):
+            self.records += field.to_bytes(4, "little")
+        self.made[key] = len(self.records) // 16 - 1
+        return self.made[key]
+
+    def used(self):
+        return len(self.records) // 16
+
+    def screen(self, root, room=b""):
+        pool = b"".join(value_bytes(v) for v in self.values)
+        return Screen(self.table, bytes(self.records) + room, pool, self.used(), root)
+
+    # Leaves
+
+    def draw(self, type_):
+        if type_ == m.TRUTH:
+            return self.rng.randrange(2)
+        if self.rng.random() < 0.03:
+            return self.rng.choice(EXTREMES[type_])
+        return self.rng.randrange(self.spread) - self.spread // 3
+
+    def columns(self, types):
+        return [i for i, t in enumerate(self.table) if t in types]
+
+    def column(self, number):
+        return self.put(m.COLUMN, a=number)
+
+    def literal(self, type_, v=None):
+        bits = (self.draw(type_) if v is None else v) & (2**64 - 1)
+        return self.put(m.LITERAL, type_=type_, b=bits & (2**32 - 1), c=bits >> 32)
+
+    def list(self, type_, count=None, holds_null=0, values=None):
+        if count is None:
+            count = self.rng.choice((0, 1, 1, 2, 2, 3, 4, 6))
+        if values is None and count <= len(self.values) and type_ == m.INT and self.rng.random() < 0.2:
+            start = self.rng.randrange(len(self.values) - count + 1)  # a part of the pool that others use, too
+        else:
+            start = len(self.values)
+            self.values += values if values is not None else [self.draw(type_) for _ in range(count)]
+        return self.put(m.LIST, code=holds_null, type_=type_, a=start, b=count)
+
+    # Lines of a plain screen. `number` is an Int or Day column.
+
+    def comparison(self, number):
+        x, v = self.column(number), self.literal(self.table[number])
+        code = self.rng.choice(PLAIN_COMPARISONS)
+        return self.put(m.BINARY, code, 0, *((x, v) if self.rng.random() < 0.7 else (v, x)))
+
+    def range(self, number):
+        type_ = self.table[number]
+        return self.put(m.IS_BETWEEN, self.rng.randrange(4), 0, self.column(number), self.literal(type_),
+                        self.literal(type_))
+
+    def member(self, number):
+        list_ = self.list(self.table[number])
+        return self.put(m.IS_IN, self.rng.randrange(2), 0, self.column(number), list_)
+
+    def negated_member(self, number):
+        return self.put(m.NOT, a=self.member(number))
+
+    def null_test(self, number):
+        return self.put(self.rng.choice((m.IS_NULL, m.IS_NOT_NULL)), a=self.column(number))
+
+    def negated_null_test(self, number):
+        return self.put(m.NOT, a=self.null_test(number))
+
+    def equality(self, number):
+        other = self.rng.choice(self.columns((self.table[number],)))
+        return self.put(m.BINARY, m.EQ, 0, self.column(number), self.column(other))
+
+    def plain_line(self, mix=None):
+        number = self.rng.choice(self.columns((m.INT, m.DAY)))
+        make = (self.comparison, self.range, self.member, self.negated_member, self.null_test, self.negated_null_test,
+                self.equality)
+        return self.rng.choices(make, mix or (8, 2, 2, 2, 1, 1, 3))[0](number)
+
+    # Anything
+
+    def value(self, type_, depth):
+        kind = self.rng.random()
+        numbers = self.columns((type_,))
+        if numbers and kind < 0.5:
+            return self.column(self.rng.choice(numbers))
+        if kind < 0.85 or type_ != m.TRUTH:
+            return self.put(m.NULL, type_=type_) if self.rng.random() < 0.15 else self.literal(type_)
+        return self.truth(depth)
+
+    def truth(self, depth):
+        rng = self.rng
+        if depth <= 0 or rng.random() < 0.1:
+            return self.value(m.TRUTH, 0)
+        type_ = rng.choice((m.INT, m.INT, m.DAY, m.TRUTH))
+        kind = rng.choice((m.BINARY,) * 5 + (m.NOT, m.IS_NULL, m.IS_NOT_NULL, m.IS_BETWEEN, m.IS_IN))
+        if kind == m.BINARY and rng.random() < 0.4:
+            return self.put(kind, rng.choice(LOGIC), 0, self.truth(depth - 1), self.truth(depth - 1))
+        if kind == m.BINARY:
+            sides = [self.value(type_, depth - 1) for _ in range(2)]
+            return self.put(kind, rng.choice(COMPARISONS), 0, *sides)
+        if kind == m.NOT:
+            inner = self.truth(depth - 1)
+            return inner if self.records[16 * inner] == m.BINARY else self.put(kind, a=inner)
+        if kind == m.IS_BETWEEN:
+            values = [self.value(type_, depth - 1) for _ in range(3)]
+            return self.put(kind, rng.randrange(4), 0, *values)
+        if kind == m.IS_IN:
+            inner = self.value(type_, depth - 1)
+            return self.put(kind, rng.randrange(2), 0, inner, self.list(type_, holds_null=rng.randrange(2)))
+        return self.put(kind, a=self.value(type_, depth - 1))
+
+    def near_plain(self):
+        """A line that is almost plain, so that reading it must stop at the right place."""
+        rng = self.rng
+        number = rng.randrange(len(self.table))
+        type_ = self.table[number]
+        x = self.column(number)
+        kind = rng.randrange(8)
+        if kind == 0:
+            return self.put(m.BINARY, rng.choice(COMPARISONS), 0, x, self.put(m.NULL, type_=type_))
+        if kind == 1:
+            return self.put(m.BINARY, rng.choice((m.EQ_VALIDITY, m.NOT_EQ_VALIDITY)), 0, x, self.literal(type_))
+        if kind == 2:
+            other = self.column(rng.choice(self.columns((type_,))))
+            return self.put(m.BINARY, rng.choice(COMPARISONS), 0, x, other)
+        if kind == 3:
+            in_ = self.put(m.IS_IN, rng.randrange(2), 0, x, self.list(type_, holds_null=1))
+            return rng.choice((in_, self.put(m.NOT, a=in_)))
+        if kind == 4:
+            values = [self.draw(type_) for _ in range(rng.choice((99, 100, 101)))]
+            return self.put(m.IS_IN, rng.randrange(2), 0, x, self.list(type_, len(values), values=values))
+        if kind == 5:
+            values = [rng.choice((self.literal(type_), x, self.put(m.NULL, type_=type_))) for _ in range(2)]
+            return self.put(m.IS_BETWEEN, rng.randrange(4), 0, x, *values)
+        if kind == 6:
+            line = self.put(m.IS_NULL, a=x)
+            return self.put(m.NOT, a=self.put(m.NOT, a=line))
+        a, b = self.literal(type_), self.literal(type_)
+        return self.put(m.BINARY, rng.choice(COMPARISONS), 0, a, b)
+
+    # Conjunctions
+
+    def conjunction(self, lines):
+        """Joins the lines in order: mostly a chain as a parser makes it, sometimes a tree of any shape."""
+        any_shape = self.rng.random() < 0.3
+        while len(lines) > 1:
+            i = self.rng.randrange(len(lines) - 1) if any_shape else 0
+            code = m.LOGICAL_AND if self.rng.random() < 0.3 else m.AND
+            lines[i:i + 2] = [self.put(m.BINARY, code, 0, lines[i], lines[i + 1])]
+        return lines[0]
+
+    def repeat(self, lines):
+        """Sometimes a line stands twice."""
+        return [x for line in lines for x in ([line, line] if self.rng.random() < 0.04 else [line])]
+
+
+def table_of(rng, types=(m.INT, m.INT, m.INT, m.DAY, m.TRUTH)):
+    table = [rng.choice(types) for _ in range(rng.choice((1, 2, 2, 3, 3, 4, 5, 8)))]
+    return table if m.INT in table or m.DAY in table else table + [m.INT]
+
+
+def room(rng):
+    """Lent places past the used ones: none, some, a part of one; with bytes that no record has."""
+    whole = rng.choice((0, 0, 1, 2, 3, 5, 8, 12, 20, 40))
+    return bytes(rng.randrange(256) for _ in range(16 * whole + rng.choice((0, 0, 0, 1, 15))))
+
+
+def plain(rng, most=12):
+    b = Builder(rng, table_of(rng), rng.choice((3, 5, 7, 20)), rng.choice((0, 0.3, 0.9)))
+    # Some screens have many equalities, some only lists and null tests, so that each meets each.
+    mix = rng.choice((None, None, (4, 1, 1, 1, 1, 1, 8), (1, 1, 4, 4, 2, 2, 1), (8, 1, 0, 0, 0, 0, 0)))
+    lines = [b.plain_line(mix) for _ in range(rng.randint(1, rng.choice((2, 4, most))))]
+    return b.screen(b.conjunction(b.repeat(lines)), room(rng))
+
+
+def merging(rng, most=10):
+    table = [rng.choice((m.INT, m.INT, m.DAY)) for _ in range(rng.choice((1, 2, 3, 4)))]
+    b = Builder(rng, table, rng.choice((5, 9, 20)), rng.choice((0, 0.3, 0.9)))
+    row = [None if rng.random() < 0.05 else rng.randrange(b.spread) - b.spread // 3 for _ in table]
+    lines, wanted = [], rng.randint(2, most)
+    while len(lines) < wanted:
+        before = len(b.records), len(b.values), dict(b.made)
+        line = b.plain_line()
+        if m.evaluate(b.screen(line), row) == 1:
+            lines.append(line)
+        else:
+            del b.records[before[0]:], b.values[before[1]:]
+            b.made = before[2]
+    return b.screen(b.conjunction(b.repeat(lines)), room(rng))
+
+
+def mixed(rng, most=8):
+    b = Builder(rng, table_of(rng), rng.choice((3, 5, 9)), rng.choice((0, 0.3, 0.9)))
+    makes = (b.plain_line, b.near_plain, lambda: b.truth(rng.randint(1, 4)))
+    weights = rng.choice(((3, 1, 1), (1, 1, 1), (0, 0, 1), (6, 1, 0)))
+    lines = [rng.choices(makes, weights)[0]() for _ in range(rng.randint(1, rng.choice((1, 3, most))))]
+    return b.screen(b.conjunction(b.repeat(lines)), room(rng))
+
+
+def many_conjuncts(rng):
+    b = Builder(rng, [m.INT] * rng.choice((1, 3, 64)), 2000, 0.9)
+    lines = [b.plain_line() for _ in range(rng.choice((127, 128, 129)))]
+    return b.screen(b.conjunction(lines), b"\xa5" * (16 * rng.choice((0, 3, 200, 600))))
+
+
+def chain_of_equalities(rng):
+    n = rng.choice((2, 5, 63, 64))
+    b = Builder(rng, [m.INT] * n, 100, 0.5)
+    edges = [(i, i + 1) if rng.random() < 0.5 else (i + 1, i) for i in range(n - 1)]
+    order = rng.choice((edges, edges[::-1], rng.sample(edges, len(edges))))
+    lines = [b.put(m.BINARY, m.EQ, 0, b.column(x), b.column(y)) for x, y in order]
+    lines.insert(rng.randrange(len(lines) + 1), b.comparison(rng.choice((0, n - 1))))
+    return b.screen(b.conjunction(lines), b"\xa5" * (16 * rng.choice((0, 5, 450))))
+
+
+def tree_of(rng, size):
+    """A screen whose root's tree has exactly `size` records, by sharing: far fewer are used."""
+    b = Builder(rng, [m.TRUTH, m.INT], share=1)
+    ladder = [b.column(0)]  # the trees of ladder[i] have 2^(i+1) - 1 records
+    while 2**(len(ladder) + 1) - 1 <= size:
+        ladder.append(b.put(m.BINARY, rng.choice(LOGIC), 0, ladder[-1], ladder[-1]))
+    top = ladder[-1]
+    left = size - (2**len(ladder) - 1)
+    while left > 0:
+        # One more binary record adds itself and a tree of the ladder; Not adds one where it may stand.
+        fit = [i for i in range(len(ladder)) if 2**(i + 1) <= left]
+        if fit:
+            top = b.put(m.BINARY, rng.choice(LOGIC), 0, top, ladder[fit[-1]])
+            left -= 2**(fit[-1] + 1)
+        else:
+            top = b.put(m.IS_NULL, a=top)
+            left -= 1
+    return b.screen(top, room(rng))
+
+
+def tree_limit(rng):
+    return tree_of(rng, rng.choice((4095, 4096, 4097)))
+
+
+def full_records(rng):
+    n = rng.choice((4094, 4095, 4096, 4097))
+    b = Builder(rng, table_of(rng), share=0)
+    root = b.conjunction([b.plain_line() for _ in range(3)])
+    while b.used() < n:
+        b.literal(m.INT)
+    return b.screen(root, b"\x5a" * (16 * rng.choice((0, 1, 3, 20))))
+
+
+def full_pool(rng):
+    b = Builder(rng, [m.INT, m.DAY])
+    n = rng.choice((8191, 8192, 8193))
+    b.values = [rng.randrange(50) for _ in range(n)]
+    start = rng.choice((0, n - 100, n - 1, n))
+    root = b.put(m.IS_IN, 0, 0, b.column(1), b.put(m.LIST, 0, m.DAY, start, min(n - start, rng.choice((1, 100, 9000)))))
+    return b.screen(root, room(rng))
+
+
+def wide_table(rng):
+    n = rng.choice((63, 64, 65))
+    b = Builder(rng, [rng.choice((m.INT, m.DAY)) for _ in range(n)])
+    lines = [b.put(m.IS_NOT_NULL, a=b.column(n - 1)), b.comparison(n - 1)] + [b.plain_line() for _ in range(4)]
+    return b.screen(b.conjunction(lines), room(rng))
+
+
+def long_list(rng):
+    b = Builder(rng, [m.INT], 300)
+    n = rng.choice((99, 100, 101))
+    values = [rng.randrange(3) for _ in range(n)]
+    x = b.column(0)
+    in_ = b.put(m.IS_IN, rng.randrange(2), 0, x, b.list(m.INT, n, values=values))
+    lines = [rng.choice((in_, b.put(m.NOT, a=in_))), b.comparison(0)]
+    return b.screen(b.conjunction(lines), room(rng))
+
+
+LIMITS = (many_conjuncts, chain_of_equalities, tree_limit, full_records, full_pool, wide_table, long_list)
+
+
+def limits(rng):
+    return rng.choice(LIMITS)(rng)
+
+
+def odd_number(rng, below):
+    return rng.choice((rng.randrange(below + 2), below, below + 1, rng.choice(ODD_NUMBERS)))
+
+
+def damaged(rng):
+    s = rng.choice((plain, merging, mixed))(rng)
+    for _ in range(rng.choice((1, 1, 1, 2, 5))):
+        kind = rng.randrange(16)
+        if kind == 0:
+            s = s.but(used=odd_number(rng, s.used))
+        elif kind == 1:
+            s = s.but(root=odd_number(rng, s.used))
+        elif kind == 2:
+            s = s.but(records=s.records[:max(0, len(s.records) - rng.randrange(40))])
+        elif kind == 3:
+            s = s.but(pool=s.pool[:max(0, len(s.pool) - rng.randrange(20))])
+        elif kind == 4:
+            table = bytearray(s.table)
+            table[rng.randrange(len(table))] = rng.choice((0, 1, 2, 3, 4, 255))
+            s = s.but(table=bytes(table))
+        elif kind == 5 and s.pool:
+            pool = bytearray(s.pool)
+            pool[rng.randrange(len(pool))] = rng.randrange(256)
+            s = s.but(pool=bytes(pool))
+        elif kind < 9 and s.records:
+            at = rng.randrange(len(s.records))
+            s = s.but(records=s.records[:at] + bytes((rng.randrange(256),)) + s.records[at + 1:])
+        elif kind < 14 and len(s.records) >= 16:
+            s = s.but(records=redirected(rng, s.records))
+        elif len(s.records) >= 16:
+            s = s.but(records=left_out(rng, s.records))
+    return s
+
+
+def left_out(rng, records):
+    """Arithmetic, or Not above a binary record, where there is one."""
+    binary = [n for n in range(len(records) // 16) if records[16 * n] == m.BINARY]
+    changed = bytearray(records)
+    if binary:
+        n = rng.choice(binary)
+        if rng.random() < 0.5:
+            changed[16 * n + 1] = rng.randrange(m.PLUS, m.MODULUS + 1)
+        elif n + 1 < len(records) // 16:
+            changed[16 * n + 16:16 * n + 32] = bytes((m.NOT, 0, 0, 0)) + n.to_bytes(4, "little") + bytes(8)
+    return bytes(changed)
+
+
+def redirected(rng, records):
+    """One field of a record changed so that it mostly stays known: another operator, input, column or list."""
+    n = rng.randrange(len(records) // 16)
+    changed = bytearray(records)
+    at = 16 * n + rng.choice((0, 1, 1, 2, 4, 4, 8, 8, 12))
+    if at == 16 * n:
+        changed[at] = rng.randrange(1, 11)
+    elif at == 16 * n + 1:
+        changed[at] = rng.randrange(21 if changed[16 * n] == m.BINARY else 3)
+    else:
+        changed[at] = rng.choice((rng.randrange(5), rng.randrange(n + 2) % 256))
+    return bytes(changed)
+
+
+def garbage(rng):
+    """Bytes of which only the kinds and the table are likely; or not even these."""
+
+    def some(count, top):
+        return bytes(rng.randrange(top) for _ in range(count))
+
+    if rng.random() < 0.2:
+        return Screen(some(rng.randrange(4), 256), some(rng.randrange(80), 256), some(rng.randrange(30), 256),
+                      rng.randrange(6), rng.randrange(6))
+    n = rng.randrange(1, 6)
+    records = b"".join(bytes((rng.randrange(1, 11), rng.choice((0, 0, rng.randrange(20))),
+                              rng.choice((0, 0, 1, 3)), 0, rng.randrange(n), 0, 0, 0, rng.choice((0, rng.randrange(n))),
+                              0, 0, 0, 0, 0, 0, 0)) for _ in range(n))
+    return Screen(bytes(rng.choices((m.INT, m.DAY, m.TRUTH), k=rng.randrange(1, 4))), records,
+                  some(8 * rng.randrange(4), 3), n, rng.randrange(n))
+
+
+def screen(rng):
+    return rng.choices((plain, merging, mixed, limits, damaged, garbage), (20, 20, 30, 1, 25, 4))[0](rng)
+
+
+# Rows
+
+
+def literals(s):
+    """Values worth trying: those of the screen and their neighbours."""
+    found = {0, 1, 2, 3}
+    for n in range(min(s.used, len(s.records) // 16)):
+        r = m.record_at(s.records, n)
+        if r.kind == m.LITERAL:
+            found.add(r.value)
+    found.update(m.number(s.pool[i:i + 8], True) for i in range(0, min(len(s.pool), 800), 8))
+    return sorted(v + d for v in found for d in (-1, 0, 1))
+
+
+def cells(rng, s, halves=False):
+    """A row as the definition has it: for each column None or a number, with `halves` also half way between two."""
+    values, row = literals(s), []
+    nulls = rng.choice((0, 0.2, 0.5))
+    for type_ in s.table:
+        if rng.random() < nulls:
+            row.append(None)
+        elif type_ == m.TRUTH:
+            row.append(rng.randrange(2))
+        elif halves:
+            row.append(rng.choice(values) + rng.choice((0, 0, 0.5)))
+        else:
+            row.append(rng.choice([v for v in values if m.in_type(type_, v)]))
+    return row
+
+
+def lent_row(rng, s, damage=0.1):
+    """A row as the call takes it, sometimes one to refuse: its bytes and its null marks."""
+    row = cells(rng, s)
+    nulls = sum(1 << i for i, v in enumerate(row) if v is None)
+    data = bytearray(b"".join(value_bytes(v or 0) for v in row))
+    if rng.random() < damage:
+        kind = rng.randrange(4)
+        if kind == 0:
+            data = data[:max(0, len(data) - rng.choice((1, 7, 8)))] if rng.random() < 0.5 else data + b"\0" * 8
+        elif kind == 1:
+            nulls |= 1 << rng.choice((len(row) % 64, 63))
+        elif data:
+            data[rng.randrange(len(data))] = rng.randrange(1, 256)
+    return bytes(data), nulls
