@@ -1,7 +1,6 @@
 -- What the code's column stands for: numbers of conjuncts stand for the values that those conjuncts give. The
--- contracts say
--- that a function's result stands for what the definition gives of what its arguments stand for.
--- Read `Conjuncts`, then `columnOf`.
+-- contracts say that a function's result stands for what the definition gives of what its arguments stand for. Read
+-- `Conjuncts`, then `columnOf`.
 use Prim.Native.Nat.{ℕ, zero, suc, _+_, _<_}
 use mathlib.Core.Path.{_≡_}
 use mathlib.Core.Bool.{Bool, true, false, cond, _||_}
@@ -24,8 +23,7 @@ use Rattle.constraints.specs.declared.comparisons.Compared.{Compared}
 use Rattle.constraints.specs.declared.comparisons.Compared.the-variants as m
 
 -- What the conjuncts' numbers stand for: each has a kind (0 an excluded literal, 1 an is_in list, 2 a negated one,
--- else
--- none of these), a literal, and a part of the pool.
+-- else none of these), a literal, and a part of the pool.
 pub record Conjuncts : Type 0 where
   pub kinds : List ℕ
   pub values : List ℕ

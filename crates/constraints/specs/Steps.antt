@@ -1,6 +1,5 @@
 -- One number of a conjunct after the other: what the loops over a column's numbers compute, as folds. The laws that
--- these are
--- the definitions of Column, Resolve and Comparisons are in proofs/.
+-- these are the definitions of Column, Resolve and Comparisons are in proofs/.
 use Prim.Native.Nat.{ℕ, zero, suc, _+_, _-_}
 use mathlib.Core.Bool.{Bool, false, not, cond, _&&_, _||_}
 use mathlib.Core.Path.{_≡_}
@@ -79,8 +78,7 @@ unfoldable pub takeMarks : Conjuncts → List ℕ → ℕ → Merging → Mergin
 takeMarks t a zero m = m
 takeMarks t a (suc n) m = takeMark t (getD a n 0) (takeMarks t a n m)
 
--- ---- resolving
--- The column with its bounds compared.
+-- ---- resolving The column with its bounds compared.
 abbrev pub consistent : q.ColumnConstraints ℕ → q.ColumnConstraints ℕ
 consistent cc = q.setUnsat (cc .unsat || b.crosses payload (cc .lower) (cc .upper)) cc
 

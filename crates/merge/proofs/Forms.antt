@@ -1,6 +1,5 @@
 -- Every form that a conjunct is read as, once: what holds of each form, given what holds of the operands, holds of
--- every
--- conjunct.
+-- every conjunct.
 use mathlib.Core.Bool.{Bool, true, false, not}
 use mathlib.Core.List.{List, [], _∷_}
 use Prim.Native.Nat.{ℕ}

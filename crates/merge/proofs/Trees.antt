@@ -1,6 +1,5 @@
 -- The rebuilt root's tree, reckoned without writing: the trees of the kept nodes, three records a comparison, and an
--- And
--- less than there are conjuncts.
+-- And less than there are conjuncts.
 use mathlib.Core.Path.{_≡_, refl, sym, _∙_, ap, subst}
 use mathlib.Core.Bool.{Bool, true, false, true≢false}
 use mathlib.Core.List.{List, [], _∷_, _++_}

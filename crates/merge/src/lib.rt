@@ -3,7 +3,3 @@
 //! table of columns), Propagate (the passes over the equalities), Emit (what is decided), Rebuild and Write (the records added),
 //! Rewrite (refusals, answer, bytes at exit). Demand, Plain and Passes state what is promised, Cases the worked cases of 01.
 pub mod rewrite;
-
-pub fn same(x: u64) -> u64 {
-    x
-}
