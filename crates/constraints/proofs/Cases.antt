@@ -4,10 +4,12 @@ use mathlib.Core.Bool.{Bool, true, false}
 use mathlib.Core.List.{List, [], _∷_, map}
 use Prim.Native.Nat.{ℕ}
 use Rattle.constraints.specs.declared.column.Nullability.the-variants.{Null, NonNull}
-use Rattle.constraints.specs.Column.{ColumnConstraints, Constraint, Lower, Upper, Exclude, Allow, Disallow, Require}
+use Rattle.constraints.specs.Column.{ColumnConstraints, Constraint, Lower, Upper, Exclude, Allow, Disallow}
+use Rattle.constraints.specs.Column.{Require}
 use Rattle.constraints.specs.Column.{empty, addAll}
 use Rattle.constraints.specs.Resolve.{resolveDeferred}
-use Rattle.constraints.specs.Comparisons.{ColumnComparison, IsEq, IsLower, IsUpper, IsNotEq, collectColumnComparisons}
+use Rattle.constraints.specs.Comparisons.{ColumnComparison, IsEq, IsLower, IsUpper, IsNotEq}
+use Rattle.constraints.specs.Comparisons.{collectColumnComparisons}
 use Rattle.constraints.specs.Payload.{payload}
 
 -- Constraints, whether they are impossible together, what is written out if not.
@@ -26,7 +28,12 @@ table =
     -- >= 3, != 3
     ∷ (Lower true 3 ∷ Exclude 3 ∷ [], false, IsLower false 3 ∷ [])
     -- != 5, != 3, != 5, != 4 with <= 9: in order of insertion
-    ∷ (Exclude 5 ∷ Exclude 3 ∷ Exclude 5 ∷ Exclude 4 ∷ Upper true 9 ∷ [], false, IsUpper true 9 ∷ IsNotEq 5 ∷ IsNotEq 3 ∷ IsNotEq 4 ∷ [])
+    ∷ (
+      Exclude 5 ∷ Exclude 3 ∷ Exclude 5 ∷ Exclude 4 ∷ Upper true 9 ∷ [],
+      false,
+      IsUpper true 9 ∷ IsNotEq 5 ∷ IsNotEq
+          3 ∷ IsNotEq 4 ∷ [],
+    )
     -- != 3, != 9 with > 3, <= 8: both drop
     ∷ (Exclude 3 ∷ Exclude 9 ∷ Lower false 3 ∷ Upper true 8 ∷ [], false, IsLower false 3 ∷ IsUpper true 8 ∷ [])
     -- in [1, 2], in [2, 3], != 2

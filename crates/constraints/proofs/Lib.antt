@@ -6,10 +6,3 @@ pub mod Resolves
 pub mod Resolved
 pub mod Facts
 pub mod Cases
-pub mod Pigeon
-pub mod Numbers
-pub mod Insertions
-pub mod Lists
-pub mod Mergings
-pub mod Resolutions
-pub mod Written

@@ -5,5 +5,3 @@ pub mod Column
 pub mod Resolve
 pub mod Comparisons
 pub mod Payload
-pub mod Abstraction
-pub mod Steps

@@ -140,7 +140,8 @@ module _ {K Val : Type 0} (S : Scalars K Val) where
   abbrev pub withLists : ColumnConstraints Val → ColumnConstraints Val
   withLists cc =
       setUnsat
-      (cc .unsat || (not (allowedFeasible cc (cc .allowed)) || fixedDisallowed cc (fixedAt (cc .lower) (cc .upper)))) cc
+      (cc .unsat || (not (allowedFeasible cc (cc .allowed)) || fixedDisallowed cc (fixedAt (cc .lower) (cc .upper))))
+      cc
 
   -- `resolve_deferred`.
   abbrev pub resolveDeferred : ColumnConstraints Val → ColumnConstraints Val
