@@ -1,5 +1,5 @@
 /*
- * screen.h: the lines of an option screen, checked, read and rewritten.
+ * screen.h: the lines of an option screen, checked, and run on the rows of a chain.
  *
  * A screen is a tree of lines ("c0 > 5", "c1 is null", "c2 in [1, 2]") that a row of an option chain passes or not.
  * The caller lends it as plain bytes; nothing is allocated and nothing is kept after a call. Calls may run at the same
