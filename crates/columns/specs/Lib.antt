@@ -1,2 +1,0 @@
-pub mod Abstraction
-pub mod Steps

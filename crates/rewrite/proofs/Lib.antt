@@ -1,4 +1,0 @@
-pub mod Walks
-pub mod Classifying
-pub mod Writing
-pub mod Telling

@@ -1,4 +1,0 @@
-pub mod Walk
-pub mod Read
-pub mod Told
-pub mod Written
