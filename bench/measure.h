@@ -69,7 +69,7 @@ static inline void print_ratio(const char *name, const double *ours, const doubl
     double ratios[ROUNDS];
     for (unsigned r = 0; r < rounds; r++)
         ratios[r] = ours[r] / other[r];
-    printf("%-52s %12.0f ns   %s %12.0f ns   ratio %.2f\n", name, measure_median(ours, rounds), other_name,
+    printf("%-60s %12.0f ns   %s %12.0f ns   ratio %.2f\n", name, measure_median(ours, rounds), other_name,
            measure_median(other, rounds), measure_median(ratios, rounds));
 }
 

@@ -1,5 +1,5 @@
 /*
- * screen.h: the lines of an option screen, checked, and run on the rows of a chain.
+ * screen.h: the lines of an option screen, checked, merged, and run on the rows of a chain.
  *
  * A screen is a tree of lines ("c0 > 5", "c1 is null", "c2 in [1, 2]") that a row of an option chain passes or not.
  * The caller lends it as plain bytes; nothing is allocated and nothing is kept after a call. Calls may run at the same
@@ -57,7 +57,8 @@ enum screen_limit {
     SCREEN_MAX_COLUMNS = 64,
     SCREEN_MAX_RECORDS = 4096,
     SCREEN_MAX_POOL_VALUES = 8192,
-    SCREEN_MAX_TREE = 4096, /* records of a root's tree, a shared one counted each time it is reached */
+    SCREEN_MAX_TREE = 4096,     /* records of a root's tree, a shared one counted each time it is reached */
+    SCREEN_MAX_CONJUNCTS = 128, /* conjuncts of a root, a shared one counted each time it is reached */
     SCREEN_RECORD_BYTES = 16,
     SCREEN_VALUE_BYTES = 8
 };
@@ -136,6 +137,18 @@ enum screen_refusal {
     SCREEN_REFUSED_TYPES = 7,
     /* The root's tree has over 4,096 records, a shared record counted each time it is reached, lists too. */
     SCREEN_REFUSED_TREE = 8,
+    /*
+     * Over 128 conjuncts. They are what the root joins by And and LogicalAnd, from left to right through both of their
+     * inputs; a record that is reached as a conjunct twice counts twice. All count, even if an early one is impossible.
+     */
+    SCREEN_REFUSED_CONJUNCTS = 9,
+    /* The rewritten screen would have no conjunct. No screen is refused with this number. */
+    SCREEN_REFUSED_EMPTY = 10,
+    /*
+     * No room for what rewriting would add: used with the added records would be over 4,096 or over the whole records
+     * lent, or the rewritten root's tree, counted as for 8, would have over 4,096 records.
+     */
+    SCREEN_REFUSED_ROOM = 11,
     /* The row has not exactly eight bytes for each column. */
     SCREEN_REFUSED_ROW_LENGTH = 12,
     /*
@@ -168,6 +181,13 @@ static inline const char *screen_refusal_text(uint32_t answer)
         return "The types of a record's inputs do not fit it, or the root is not a truth.";
     case SCREEN_REFUSED_TREE:
         return "The screen has more than 4,096 records, shared ones counted each time they are reached.";
+    case SCREEN_REFUSED_CONJUNCTS:
+        return "The screen has more than 128 conjuncts, shared ones counted each time they are reached.";
+    case SCREEN_REFUSED_EMPTY:
+        return "The rewritten screen would have no conjunct.";
+    case SCREEN_REFUSED_ROOM:
+        return "The rewritten screen has no room: it would pass 4,096 records or those lent, or its tree would have "
+               "more than 4,096.";
     case SCREEN_REFUSED_ROW_LENGTH:
         return "The row does not have exactly eight bytes for each column.";
     case SCREEN_REFUSED_ROW:
@@ -196,6 +216,53 @@ enum screen_check_answer {
  */
 uint32_t screen_check(const uint8_t *table, size_t table_len, const uint8_t *records, size_t records_len,
                       const uint8_t *pool, size_t pool_len, uint64_t used, uint64_t root);
+
+/* ---------------------------------------------------------------------------------------------- rewriting a screen */
+
+/* The answers of screen_rewrite. */
+enum screen_rewrite_answer {
+    SCREEN_UNCHANGED = 256,      /* there is nothing to merge; nothing is written */
+    SCREEN_NOTHING_PASSES = 257, /* no row passes; the new root is a false literal, the one record added */
+    SCREEN_REWRITTEN = 258       /* the new root is the merged screen */
+};
+
+/*
+ * Merges the lines of a screen: "c0 > 3" and "c0 > 5" become "c0 > 5", a range and a value outside it let nothing pass,
+ * "c0 == c1" carries what is known of c0 to c1. Answers one of the above, or a refusal: 1 to 7, 8, 9, 11.
+ *
+ *   table .. root  as in screen_check, but the records may be written
+ *   new_root       not NULL. Written with SCREEN_NOTHING_PASSES and SCREEN_REWRITTEN: the root of the screen returned.
+ *                  Keeps its value with SCREEN_UNCHANGED and with a refusal
+ *   new_used       not NULL, and not the same as new_root. Written with the same two answers: how many records belong
+ *                  to the screen returned. Keeps its value with SCREEN_UNCHANGED and with a refusal
+ *
+ * The screen returned is the one sent with the records as they are after the call, *new_root and *new_used; with
+ * SCREEN_UNCHANGED it is the one sent. It keeps its table and its pool.
+ *
+ * What is written: with SCREEN_NOTHING_PASSES and SCREEN_REWRITTEN the records from number `used` up to, not including,
+ * number *new_used, each whole. Those before them are the screen sent, which can still be used with its old root;
+ * those behind them, and bytes after the last whole record, keep their values. With SCREEN_UNCHANGED and with a refusal
+ * no byte is written.
+ *
+ * So the call needs room: lend more records than are used. SCREEN_NOTHING_PASSES needs one; SCREEN_REWRITTEN three for
+ * each comparison of a column with a value that the merged screen has, and one for each And that joins its conjuncts.
+ * Without room the answer is SCREEN_REFUSED_ROOM, and the same call with more records lent may succeed; lending 4,096
+ * records is all the room there is, since no more can be used. SCREEN_UNCHANGED needs none.
+ *
+ * What holds of the screen returned: a row passes it exactly if it passes the screen sent, whatever the row holds; so
+ * with SCREEN_NOTHING_PASSES no row passes. That answer is not given of every screen that no row passes: "c0 > 3" and
+ * "c0 < 4" are left as they are, though no whole number passes both. Of a plain screen that is not refused it is given
+ * exactly if no row passes even where values half way between two whole numbers are allowed. A screen is plain if it
+ * reads no Truth column and each of its conjuncts is one of these:
+ *
+ *   a column against a literal, either way round, by Eq, NotEq, Lt, LtEq, Gt or GtEq; a column against a column by Eq
+ *   is_between of a column and two literals
+ *   is_in of a column over a list of at most 100 values that holds no null; Not of that
+ *   is_null or is_not_null of a column; Not of that
+ */
+uint32_t screen_rewrite(const uint8_t *table, size_t table_len, uint8_t *records, size_t records_len,
+                        const uint8_t *pool, size_t pool_len, uint64_t used, uint64_t root,
+                        uint64_t *new_root, uint64_t *new_used);
 
 /* ---------------------------------------------------------------------------------------------------- testing a row */
 

@@ -9,6 +9,8 @@
   garbage  bytes that were never a screen
 """
 
+import itertools
+
 import model as m
 from model import Screen
 
@@ -244,13 +246,15 @@ def chain_of_equalities(rng):
     edges = [(i, i + 1) if rng.random() < 0.5 else (i + 1, i) for i in range(n - 1)]
     order = rng.choice((edges, edges[::-1], rng.sample(edges, len(edges))))
     lines = [b.put(m.BINARY, m.EQ, 0, b.column(x), b.column(y)) for x, y in order]
-    lines.insert(rng.randrange(len(lines) + 1), b.comparison(rng.choice((0, n - 1))))
+    more = [b.comparison(rng.choice((0, n - 1)))] + [b.plain_line() for _ in range(rng.choice((0, 0, 1, 3)))]
+    for line in more:
+        lines.insert(rng.randrange(len(lines) + 1), line)
     return b.screen(b.conjunction(lines), b"\xa5" * (16 * rng.choice((0, 5, 450))))
 
 
-def tree_of(rng, size):
-    """A screen whose root's tree has exactly `size` records, by sharing: far fewer are used."""
-    b = Builder(rng, [m.TRUTH, m.INT], share=1)
+def tree(b, size):
+    """A truth whose tree has exactly `size` records, by sharing: far fewer are made. Column 0 is a Truth."""
+    rng = b.rng
     ladder = [b.column(0)]  # the trees of ladder[i] have 2^(i+1) - 1 records
     while 2**(len(ladder) + 1) - 1 <= size:
         ladder.append(b.put(m.BINARY, rng.choice(LOGIC), 0, ladder[-1], ladder[-1]))
@@ -265,17 +269,34 @@ def tree_of(rng, size):
         else:
             top = b.put(m.IS_NULL, a=top)
             left -= 1
-    return b.screen(top, room(rng))
+    return top
+
+
+def tree_of(rng, size):
+    b = Builder(rng, [m.TRUTH, m.INT], share=1)
+    return b.screen(tree(b, size), room(rng))
 
 
 def tree_limit(rng):
     return tree_of(rng, rng.choice((4095, 4096, 4097)))
 
 
+def rebuilt_tree(rng):
+    """A large line that merging does not read beside lines that grow or shrink as they are merged."""
+    b = Builder(rng, [m.TRUTH, m.INT, m.INT], share=0)
+    large = b.put(m.BINARY, rng.choice((m.OR, m.XOR)), 0, tree(b, rng.randint(4070, 4095)), b.column(0))
+    lines = [large, b.equality(1), b.comparison(1)]
+    if rng.random() < 0.5:
+        lines.append(b.comparison(2))
+    rng.shuffle(lines)
+    return b.screen(b.conjunction(lines), b"\x5a" * (16 * 40))
+
+
 def full_records(rng):
-    n = rng.choice((4094, 4095, 4096, 4097))
+    n = rng.choice((4088, 4089, 4092, 4093, 4093, 4094, 4095, 4095, 4096, 4097))
     b = Builder(rng, table_of(rng), share=0)
-    root = b.conjunction([b.plain_line() for _ in range(3)])
+    number = rng.choice(b.columns((m.INT, m.DAY)))
+    root = b.conjunction([b.comparison(number), b.comparison(number)] + [b.plain_line()] * rng.randrange(2))
     while b.used() < n:
         b.literal(m.INT)
     return b.screen(root, b"\x5a" * (16 * rng.choice((0, 1, 3, 20))))
@@ -299,15 +320,17 @@ def wide_table(rng):
 
 def long_list(rng):
     b = Builder(rng, [m.INT], 300)
-    n = rng.choice((99, 100, 101))
-    values = [rng.randrange(3) for _ in range(n)]
-    x = b.column(0)
-    in_ = b.put(m.IS_IN, rng.randrange(2), 0, x, b.list(m.INT, n, values=values))
-    lines = [rng.choice((in_, b.put(m.NOT, a=in_))), b.comparison(0)]
+    top = rng.choice((3, 110, 200))
+    lines = [b.comparison(0)]
+    for _ in range(rng.choice((1, 1, 2, 4))):
+        n = rng.choice((99, 100, 101))
+        values = [rng.randrange(top) for _ in range(n)]
+        in_ = b.put(m.IS_IN, rng.randrange(2), 0, b.column(0), b.list(m.INT, n, values=values))
+        lines.append(rng.choice((in_, b.put(m.NOT, a=in_))))
     return b.screen(b.conjunction(lines), room(rng))
 
 
-LIMITS = (many_conjuncts, chain_of_equalities, tree_limit, full_records, full_pool, wide_table, long_list)
+LIMITS = (many_conjuncts, chain_of_equalities, tree_limit, rebuilt_tree, full_records, full_pool, wide_table, long_list)
 
 
 def limits(rng):
@@ -315,7 +338,8 @@ def limits(rng):
 
 
 def odd_number(rng, below):
-    return rng.choice((rng.randrange(below + 2), below, below + 1, rng.choice(ODD_NUMBERS)))
+    """Any 64-bit number; `below` may be one that was damaged before."""
+    return min(rng.choice((rng.randrange(below + 2), below, below + 1, rng.choice(ODD_NUMBERS))), 2**64 - 1)
 
 
 def damaged(rng):
@@ -393,7 +417,7 @@ def garbage(rng):
 
 
 def screen(rng):
-    return rng.choices((plain, merging, mixed, limits, damaged, garbage), (20, 20, 30, 1, 25, 4))[0](rng)
+    return rng.choices((plain, merging, mixed, limits, damaged, garbage), (20, 20, 29, 2, 25, 4))[0](rng)
 
 
 # Rows
@@ -424,6 +448,37 @@ def cells(rng, s, halves=False):
         else:
             row.append(rng.choice([v for v in values if m.in_type(type_, v)]))
     return row
+
+
+def equal_cells(rng, s):
+    """A row without nulls that holds one value wherever it fits, so that lines which compare columns hold."""
+    v = rng.choice(literals(s)) + rng.choice((0, 0, 0.5))
+    return [rng.randrange(2) if type_ == m.TRUTH else v for type_ in s.table]
+
+
+def critical_rows(s, most):
+    """Rows that stand for all: of a plain screen some row passes only if one of these does. None if over `most`.
+
+    What a plain line says of a value depends on its place among the values of the screen alone, and two columns are
+    only ever compared for equality; so each value of the screen and one half step above or below it stand for all.
+    """
+    records = m.records_of(s)
+    lines = [records[n] for n in m.reached(s)]
+    values = {r.value for r in lines if r.kind == m.LITERAL}
+    values.update(v for r in lines if r.kind == m.LIST for v in m.pool_of(s)[r.a:r.a + r.b])
+    places = [None, min(values, default=0) - 0.5]
+    for v in sorted(values):
+        places += [v, v + 0.5]
+    read = sorted({r.a for r in lines if r.kind == m.COLUMN})
+    if len(places)**len(read) > most or any(abs(v) > 2**50 for v in values):  # a float must hold the half
+        return None
+    rows = []
+    for choice in itertools.product(places, repeat=len(read)):
+        row = [None] * len(s.table)
+        for column, v in zip(read, choice):
+            row[column] = v
+        rows.append(row)
+    return rows
 
 
 def lent_row(rng, s, damage=0.1):

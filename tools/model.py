@@ -1,4 +1,4 @@
-"""A model of the calls, written from the paper alone: checking, tree count, columns read and the row test.
+"""A model of the calls, written from the paper alone: checking, tree count, columns read, the row test, plain screens.
 
 It shares no code and no shape with the library: a record's value is one cell (a number, or None for null and for
 unknown), all cells are filled from record 0 up, and nothing is fast. The recorded answers and the comparisons use it.
@@ -13,6 +13,7 @@ COLUMN, LITERAL, NULL, BINARY, NOT, IS_NULL, IS_NOT_NULL, IS_BETWEEN, LIST, IS_I
 (EQ, EQ_VALIDITY, NOT_EQ, NOT_EQ_VALIDITY, LT, LT_EQ, GT, GT_EQ, PLUS, MINUS, MULTIPLY, RUST_DIVIDE, TRUE_DIVIDE,
  FLOOR_DIVIDE, MODULUS, AND, OR, XOR, LOGICAL_AND, LOGICAL_OR) = range(20)
 BOTH, LEFT, RIGHT, NONE = range(4)
+PLAIN = (EQ, NOT_EQ, LT, LT_EQ, GT, GT_EQ)
 
 MAX_COLUMNS, MAX_RECORDS, MAX_POOL, MAX_TREE, MAX_CONJUNCTS = 64, 4096, 8192, 4096, 128
 
@@ -205,6 +206,36 @@ def conjuncts(s):
         else:
             lines.append(n)
     return lines
+
+
+def is_plain(s):
+    """A plain screen, of one that checking accepts."""
+    records = records_of(s)
+
+    def kind(n):
+        return records[n].kind
+
+    def reads(n):
+        return kind(n) == COLUMN and s.table[records[n].a] in (INT, DAY)
+
+    def short_list(r):
+        return r.code == 0 and r.b <= 100
+
+    def line(r):
+        if r.kind == BINARY:
+            sides = {kind(r.a), kind(r.b)}
+            if sides == {COLUMN}:
+                return r.code == EQ and reads(r.a)
+            return sides == {COLUMN, LITERAL} and r.code in PLAIN and (reads(r.a) or reads(r.b))
+        if r.kind == IS_BETWEEN:
+            return reads(r.a) and kind(r.b) == kind(r.c) == LITERAL
+        if r.kind == NOT:
+            r = records[r.a]
+        if r.kind == IS_IN:
+            return reads(r.a) and short_list(records[r.b])
+        return r.kind in (IS_NULL, IS_NOT_NULL) and reads(r.a)
+
+    return all(line(records[n]) for n in conjuncts(s))
 
 
 # The row test. A cell is a number, or None for null; of a truth 0 false, 1 true, None unknown.

@@ -46,7 +46,7 @@ fn count_inputs(counts: &[u16; 4096], n: Node, inputs: Inputs) -> u32
 }
 
 // One record's count, 4,097 for every count above 4,096.
-fn tree_step(counts: &[u16; 4096], rs: &[u8], n: Node) -> u16
+pub fn tree_step(counts: &[u16; 4096], rs: &[u8], n: Node) -> u16
     requires { ⌜ n .0 < 4096 ⌝ }
     ensures { λ r. ⌜ r ≡ min (treeStep (below (now (counts .entry)) (n .0)) (recordAt (now (rs .entry)) n)) 4097 ⌝ }
 {

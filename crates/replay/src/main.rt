@@ -136,13 +136,62 @@ fn test_row(table: &[u8], records: &[u8], pool: &[u8], row: &[u8], head: &[u8]) 
     io::write_all(1, b"\n");
 }
 
-// The call that the first byte of head names.
-fn call(table: &[u8], records: &[u8], pool: &[u8], row: &[u8], head: &[u8]) {
-    if records::bytes::byte(head, 0) == 1 {
+// Where a record starts, or the end of all records that a screen can use.
+fn place(record: u64) -> usize {
+    if record < 4096 {
+        return record as usize * 16;
+    }
+    65536
+}
+
+fn byte_of(s: &[u8], i: usize) -> u64 {
+    records::bytes::byte(s, i) as u64
+}
+
+// The bytes from `from` up to `to` in hex; 00 for one past the end.
+fn print_bytes(s: &[u8], from: usize, to: usize) {
+    let mut i = from;
+    while i < to {
+        io::print_hex(1, byte_of(s, i), 2);
+        i += 1;
+    }
+}
+
+// Rewriting, whose out-parameters stand at 7 and 9 before the call; then the records that were added.
+fn rewrite(table: &[u8], records: &mut [u8], pool: &[u8], used: u64, root: u64) {
+    let mut new_root: u64 = 7;
+    let mut new_used: u64 = 9;
+    let answer = screen::screen_rewrite(
+        table,
+        records,
+        pool,
+        used,
+        root,
+        &mut new_root,
+        &mut new_used,
+    );
+    print_number(wide(answer));
+    print_number(new_root);
+    io::print_decimal(1, new_used);
+    if answer > 256 {
+        io::write_all(1, b" ");
+        print_bytes(records, place(used), place(new_used));
+    }
+    io::write_all(1, b"\n");
+}
+
+// The call that the first byte of head names: 1 checking and columns read, 2 the row test, 3 rewriting.
+fn call(table: &[u8], records: &mut [u8], pool: &[u8], row: &[u8], head: &[u8]) {
+    let name = records::bytes::byte(head, 0);
+    if name == 1 {
         check_and_columns(table, records, pool, number_at(head, 1), number_at(head, 9));
         return;
     }
-    test_row(table, records, pool, row, head);
+    if name == 2 {
+        test_row(table, records, pool, row, head);
+        return;
+    }
+    rewrite(table, records, pool, number_at(head, 1), number_at(head, 9));
 }
 
 // One screen, whose first line is in head: its answers are written. Answers where the next screen starts.
@@ -162,7 +211,13 @@ fn replay(src: &[u8], from: usize, head: &[u8]) -> usize
     let rn = r.len;
     let pn = p.len;
     let wn = w.len;
-    call(&table[..tn], &records[..rn], &pool[..pn], &row[..wn], head);
+    call(
+        &table[..tn],
+        &mut records[..rn],
+        &pool[..pn],
+        &row[..wn],
+        head,
+    );
     w.next
 }
 

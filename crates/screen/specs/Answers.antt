@@ -5,6 +5,8 @@ use Rattle.records.specs.declared.check.CheckAnswer.{CheckAnswer}
 use Rattle.records.specs.declared.check.CheckAnswer.the-variants as check
 use Rattle.records.specs.declared.columns.ColumnsAnswer.{ColumnsAnswer}
 use Rattle.records.specs.declared.columns.ColumnsAnswer.the-variants as columns
+use Rattle.merge.specs.declared.rewrite.RewriteAnswer.{RewriteAnswer}
+use Rattle.merge.specs.declared.rewrite.RewriteAnswer.the-variants as rewrite
 use Rattle.truth.specs.declared.logic.Truth.{Truth}
 use Rattle.truth.specs.declared.logic.Truth.the-variants.{False, Unknown, True}
 use Rattle.truth.specs.declared.test.RowAnswer.{RowAnswer}
@@ -40,3 +42,24 @@ truthNumber True = 258
 abbrev pub rowNumber : RowAnswer → ℕ
 rowNumber (row.Refused k) = k
 rowNumber (row.Tested t) = truthNumber t
+
+-- rewriting: 256 unchanged, 257 nothing passes, 258 rewritten
+abbrev pub rewriteNumber : RewriteAnswer → ℕ
+rewriteNumber (rewrite.Refused k) = k
+rewriteNumber rewrite.Unchanged = 256
+rewriteNumber (rewrite.NothingPasses root used) = 257
+rewriteNumber (rewrite.Rewritten root used) = 258
+
+-- the root that stands in `new_root` after the call, which found `old` there
+abbrev pub newRootOut : RewriteAnswer → ℕ → ℕ
+newRootOut (rewrite.Refused k) old = old
+newRootOut rewrite.Unchanged old = old
+newRootOut (rewrite.NothingPasses root used) old = root
+newRootOut (rewrite.Rewritten root used) old = root
+
+-- the same of `new_used`
+abbrev pub newUsedOut : RewriteAnswer → ℕ → ℕ
+newUsedOut (rewrite.Refused k) old = old
+newUsedOut rewrite.Unchanged old = old
+newUsedOut (rewrite.NothingPasses root used) old = used
+newUsedOut (rewrite.Rewritten root used) old = used

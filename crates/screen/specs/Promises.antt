@@ -1,12 +1,43 @@
 -- What the calls promise beyond being equal to their definitions, in 01's own words.
-use Prim.Native.Nat.{ℕ, _<_}
+use Prim.Native.Nat.{ℕ, _*_, _≤_, _<_}
+use mathlib.Core.Bool.{true, cond}
 use mathlib.Core.List.{List}
+use mathlib.Core.Logic.{_↔_}
 use mathlib.Core.Path.{_≡_}
 use lib.Count.{ones}
+use lib.Dec.{ltb}
+use lib.ListN.{length, getD}
 use Rattle.records.specs.Columns.{bit, reaches}
+use Rattle.truth.specs.FromBytes.{aexprAt}
+use Rattle.merge.specs.Plain.{plainScreen}
+use Rattle.merge.specs.Demand.{Row, IsRow, IsChain, passes, rowsPassing}
 
 -- columns read answered 256: bit c of the word is set exactly if the root reaches column c, and the count is the number of
 -- ones in the word
 abbrev pub ColumnsPromise : List ℕ → ℕ → ℕ → ℕ → ℕ → Type 0
 ColumnsPromise rs root answer word count =
     answer ≡ 256 → ((c : ℕ) → c < 64 → bit word c ≡ reaches rs c root) × (count ≡ ones word)
+
+-- The root, or the used count, of the screen returned: what an answer over 256 wrote, or what was sent.
+abbrev pub returned : ℕ → ℕ → ℕ → ℕ
+returned answer sent out = cond (ltb 256 answer) out sent
+
+-- From rs to out, only bytes of the records from number `first` on and below `end` have changed.
+pub record BytesKept (rs out : List ℕ) (first end : ℕ) : Type 0 where
+  pub lent : length out ≡ length rs
+  pub before : (i : ℕ) → i < 16 * first → getD out i 0 ≡ getD rs i 0
+  pub behind : (i : ℕ) → 16 * end ≤ i → getD out i 0 ≡ getD rs i 0
+
+-- Demand 3 of 01, for one call of rewriting: rs, used and root were sent; out, newRoot and newUsed stand in the
+-- records, in new_root and in new_used after the call. If it did not refuse, each row passes under the screen returned
+-- exactly when it passes under the screen sent, and of every chain as many rows pass; with 257 no row of any chain
+-- passes; and of a plain screen, 257 is the answer exactly when no row at all passes.
+pub record RewritePromise (t rs p : List ℕ) (used root answer : ℕ) (out : List ℕ) (newRoot newUsed : ℕ) : Type 0 where
+  pub rows : 256 ≤ answer → (row : Row) → IsRow t row
+      → passes out p (returned answer used newUsed) (returned answer root newRoot) row ≡ passes rs p used root row
+  pub counts : 256 ≤ answer → (chain : List Row) → IsChain t chain
+      → rowsPassing out p (returned answer used newUsed) (returned answer root newRoot) chain
+      ≡ rowsPassing rs p used root chain
+  pub nothing : answer ≡ 257 → (chain : List Row) → IsChain t chain → rowsPassing rs p used root chain ≡ 0
+  pub exactly : 256 ≤ answer → plainScreen t (aexprAt rs p used) root ≡ true
+      → (answer ≡ 257) ↔ ((row : Row) → IsRow t row → passes rs p used root row ≡ true → ⊥)

@@ -4,12 +4,16 @@ ghost use mathlib.Core.Path.{_≡_};
 ghost use Rattle.records.specs.Check.{checkAnswer};
 ghost use Rattle.records.specs.Columns.{columnsAnswer};
 ghost use Rattle.screen.specs.Answers.{checkNumber, columnsNumber, columnsOut, countOut, rowNumber, truthNumber};
+ghost use Rattle.screen.specs.Answers.{rewriteNumber, newRootOut, newUsedOut};
 ghost use Rattle.truth.specs.RowTest.{testRowAnswer};
-ghost use Rattle.screen.specs.Promises.{ColumnsPromise};
+ghost use Rattle.merge.specs.Rewrite.{rewriteAnswer, rewriteBytes};
+ghost use Rattle.screen.specs.Promises.{ColumnsPromise, returned, BytesKept, RewritePromise};
+use merge::rewrite::RewriteAnswer;
 use records::check::CheckAnswer;
 use records::check::check_screen;
 use records::columns::ColumnsAnswer;
 use records::columns::columns_read;
+use rule::rewriting::rewrite_screen;
 use truth::logic::Truth;
 use truth::test::RowAnswer;
 use truth::test::test_row;
@@ -85,5 +89,47 @@ pub extern "C" fn screen_test_row(
     match test_row(table, records, pool, used, root, row, nulls) {
         RowAnswer::Refused(k) => k,
         RowAnswer::Tested(t) => truth_number(t),
+    }
+}
+
+// Below 256: the refusal's number. 256: unchanged, the screen returned is the one sent. Neither writes anything. 257:
+// nothing passes, 258: rewritten; the records added stand behind the used ones, and `new_root` and `new_used` have the
+// root and the used count of the screen returned.
+#[no_mangle]
+pub extern "C" fn screen_rewrite(
+    table: &[u8],
+    records: &mut [u8],
+    pool: &[u8],
+    used: u64,
+    root: u64,
+    new_root: &mut u64,
+    new_used: &mut u64,
+) -> u32
+    ensures answer { λ r. ⌜ r ≡ rewriteNumber (rewriteAnswer (now (table .entry)) (now (records .entry))
+        (now (pool .entry)) used root) ⌝ }
+    ensures root { λ _. ⌜ now («new_root» .exit) ≡ newRootOut (rewriteAnswer (now (table .entry)) (now (records .entry))
+        (now (pool .entry)) used root) (now («new_root» .entry)) ⌝ }
+    ensures used { λ _. ⌜ now («new_used» .exit) ≡ newUsedOut (rewriteAnswer (now (table .entry)) (now (records .entry))
+        (now (pool .entry)) used root) (now («new_used» .entry)) ⌝ }
+    ensures bytes { λ _. ⌜ now (records .exit) ≡ rewriteBytes (now (table .entry)) (now (records .entry))
+        (now (pool .entry)) used root ⌝ }
+    ensures kept { λ r. ⌜ BytesKept (now (records .entry)) (now (records .exit)) used
+        (returned r used (now («new_used» .exit))) ⌝ }
+    ensures promise { λ r. ⌜ RewritePromise (now (table .entry)) (now (records .entry)) (now (pool .entry)) used root r
+        (now (records .exit)) (now («new_root» .exit)) (now («new_used» .exit)) ⌝ }
+{
+    match rewrite_screen(table, records, pool, used, root) {
+        RewriteAnswer::Refused(k) => k,
+        RewriteAnswer::Unchanged => 256,
+        RewriteAnswer::NothingPasses(literal, behind) => {
+            *new_root = literal;
+            *new_used = behind;
+            257
+        }
+        RewriteAnswer::Rewritten(node, count) => {
+            *new_root = node;
+            *new_used = count;
+            258
+        }
     }
 }

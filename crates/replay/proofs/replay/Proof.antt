@@ -50,8 +50,8 @@ slice-aggregate-call c =
     rw length-take (omega (arith, c .before .before .before .before .before .before .before .before .before .before .before .read-line .ensures .1))
 
 -- src/main.rt:165:24
-array-share-prefix-records : tie.Need-array-share-prefix-records
-array-share-prefix-records c = search needs
+array-borrow-prefix-records : tie.Need-array-borrow-prefix-records
+array-borrow-prefix-records c = search needs
 
 -- src/main.rt:165:24
 slice-aggregate-call-2 : tie.Need-slice-aggregate-call-2
@@ -98,7 +98,7 @@ replay-spec =
     read-line-requires-4
     array-share-prefix-table
     slice-aggregate-call
-    array-share-prefix-records
+    array-borrow-prefix-records
     slice-aggregate-call-2
     array-share-prefix-pool
     slice-aggregate-call-3

@@ -1,0 +1,258 @@
+/*
+ * Rewriting beside the Rust (tools/oracle): screen_rewrite with all its checks, from bytes to bytes, against the Rust's
+ * merging alone, on nodes that are already in its arena. Goals: a third of the Rust's time on 3 to 12 lines, and never
+ * more than its time. What of it screen_check takes by itself stands below each.
+ *
+ * The last screens are slow ones: what is asked of two sets is quadratic in the lengths of their lists. The last of all
+ * is the slowest known for this library. The Rust's sets are run here as vectors; polars hashes them, which is faster
+ * for long ones.
+ */
+#define _POSIX_C_SOURCE 199309L
+#include "make.h"
+#include "measure.h"
+
+#include <stdbool.h>
+
+struct prepared;
+struct prepared *oracle_prepare(const uint8_t *records, size_t records_len, const uint8_t *pool, size_t pool_len);
+bool oracle_merge(struct prepared *prepared, size_t root);
+void oracle_free(struct prepared *prepared);
+
+static struct made now;
+static uint32_t top;
+static unsigned lines;
+static struct prepared *prepared;
+
+static void begin(unsigned columns)
+{
+    make(&now, columns, SCREEN_TYPE_INT);
+    lines = 0;
+}
+
+static void join(uint32_t next)
+{
+    top = lines == 0 ? next : and_of(&now, top, next);
+    lines++;
+}
+
+static void compare(unsigned code, uint32_t number, int64_t value)
+{
+    join(line(&now, code, number, value));
+}
+
+static void equal_columns(uint32_t left, uint32_t right)
+{
+    uint32_t a = column(&now, left);
+    uint32_t b = column(&now, right);
+    join(put(&now, SCREEN_KIND_BINARY, SCREEN_OP_EQ, 0, a, b, 0));
+}
+
+static uint32_t not_of(uint32_t input)
+{
+    return put(&now, SCREEN_KIND_NOT, 0, 0, input, 0, 0);
+}
+
+/* is_in of a column over values of the pool that stand there already. */
+static uint32_t listed(uint32_t number, uint32_t start, uint32_t count)
+{
+    uint32_t x = column(&now, number);
+    uint32_t values = put(&now, SCREEN_KIND_LIST, 0, SCREEN_TYPE_INT, start, count, 0);
+    return put(&now, SCREEN_KIND_IS_IN, 0, 0, x, values, 0);
+}
+
+/* Appends `count` times a value to the pool and answers where they start. */
+static uint32_t repeated(int64_t value, uint32_t count)
+{
+    uint32_t start = (uint32_t)(now.s.pool_len / 8);
+    for (uint32_t i = 0; i < count; i++)
+        store(now.pool + now.s.pool_len + 8 * (size_t)i, 8, (uint64_t)value);
+    now.s.pool_len += (size_t)8 * count;
+    return start;
+}
+
+/* ------------------------------------------------------------------------------------------------------ the screens */
+
+/* Two to four bounds a column, most of them merged away. */
+static void make_bounds(unsigned count)
+{
+    begin(4);
+    for (unsigned n = 0; n < count; n++)
+        compare(n % 3 == 2 ? SCREEN_OP_LT_EQ : SCREEN_OP_GT, n / 4, n % 3 == 2 ? 100 + n : n);
+}
+
+/* What a trader types, of all kinds; the first twelve lines of it. */
+static void make_typed(unsigned count)
+{
+    begin(6);
+    for (unsigned n = 0; n < count; n++)
+        switch (n) {
+        case 0: compare(SCREEN_OP_GT_EQ, 0, 95); break;
+        case 1: compare(SCREEN_OP_LT_EQ, 0, 105); break;
+        case 2: compare(SCREEN_OP_LT_EQ, 1, 20805); break;
+        case 3: equal_columns(2, 3); break;
+        case 4: join(member(&now, 4, 1, 5)); break;
+        case 5: compare(SCREEN_OP_GT, 0, 90); break;
+        case 6: compare(SCREEN_OP_GT, 2, 7); break;
+        case 7: join(put(&now, SCREEN_KIND_IS_NOT_NULL, 0, 0, column(&now, 4), 0, 0)); break;
+        case 8: compare(SCREEN_OP_NOT_EQ, 0, 100); break;
+        case 9: join(range(&now, 5, 1, 9)); break;
+        case 10: join(not_of(member(&now, 4, 3, 3))); break;
+        default: compare(SCREEN_OP_GT, 5, 2); break;
+        }
+}
+
+static void make_one_column(void)
+{
+    begin(1);
+    for (unsigned n = 0; n < 128; n++)
+        compare(n % 2 ? SCREEN_OP_GT : SCREEN_OP_NOT_EQ, 0, 1000 - n);
+}
+
+static void make_many_columns(void)
+{
+    begin(64);
+    for (unsigned n = 0; n < 128; n++)
+        compare(n < 64 ? SCREEN_OP_GT : SCREEN_OP_GT_EQ, n % 64, n);
+}
+
+/* 63 equalities over 64 columns, in order or from the far end on: then a bound takes 63 passes to get there. */
+static void join_chain(int from_far_end)
+{
+    for (uint32_t n = 0; n < 63; n++) {
+        uint32_t left = from_far_end ? 62 - n : n;
+        equal_columns(left, left + 1);
+    }
+}
+
+static void make_chain(int from_far_end)
+{
+    begin(64);
+    join_chain(from_far_end);
+    equal_columns(0, 1);
+    compare(SCREEN_OP_GT, 0, 5);
+}
+
+static void make_two_lists(void)
+{
+    begin(1);
+    join(member(&now, 0, 0, 100));
+    join(member(&now, 0, 50, 100));
+    compare(SCREEN_OP_GT, 0, 3);
+    compare(SCREEN_OP_GT, 0, 5);
+}
+
+static void make_many_lists(void)
+{
+    begin(60);
+    for (uint32_t n = 0; n < 60; n++) {
+        join(n % 2 ? not_of(member(&now, n, 0, 100)) : member(&now, n, 0, 100));
+        compare(SCREEN_OP_GT, n, 5);
+    }
+}
+
+/* One list of a value 100 times, then 64 that have it in the last place, all carried to each of 64 columns. */
+static void make_worst_allowed(void)
+{
+    uint32_t hundred, last;
+    begin(64);
+    hundred = repeated(7, 100);
+    last = repeated(8, 99);
+    repeated(7, 1);
+    join(listed(0, hundred, 100));
+    for (uint32_t n = 0; n < 64; n++)
+        join(listed(0, last, 100));
+    join_chain(1);
+}
+
+/* 8 negated lists of 100 values, no two alike, carried to each of 64 columns. */
+static void make_negated_lists(void)
+{
+    begin(64);
+    for (uint32_t n = 0; n < 8; n++)
+        join(not_of(member(&now, 0, 100 * n, 100)));
+    join_chain(0);
+}
+
+/* As many excluded values as leave room for all of them on each of 64 columns. */
+static void make_exclusions(void)
+{
+    begin(64);
+    for (uint32_t n = 0; n < 14; n++)
+        compare(SCREEN_OP_NOT_EQ, 0, n);
+    join_chain(1);
+}
+
+/* ---------------------------------------------------------------------------------------------------- the two sides */
+
+static uint64_t ours(void)
+{
+    uint64_t new_root = 0;
+    uint64_t new_used = 0;
+    return screen_rewrite(now.s.table, now.s.table_len, now.records, sizeof now.records, now.s.pool, now.s.pool_len,
+                          now.s.used, now.s.root, &new_root, &new_used);
+}
+
+static uint64_t checks(void)
+{
+    return screen_check(now.s.table, now.s.table_len, now.records, sizeof now.records, now.s.pool, now.s.pool_len,
+                        now.s.used, now.s.root);
+}
+
+static uint64_t rust(void)
+{
+    return oracle_merge(prepared, now.s.root);
+}
+
+static int beside(const char *name, double goal, unsigned rounds, unsigned times)
+{
+    static struct taken taken;
+    const work works[3] = {ours, rust, checks};
+    char title[100];
+    uint64_t answer = ours();
+    prepared = oracle_prepare(now.s.records, now.s.records_len, now.s.pool, now.s.pool_len);
+    if (answer < SCREEN_UNCHANGED || (answer != SCREEN_UNCHANGED) != rust()) {
+        printf("%s: the answers differ\n", name);
+        oracle_free(prepared);
+        return 1;
+    }
+    measure(&taken, works, 3, rounds, times);
+    snprintf(title, sizeof title, "%s, goal %.2f", name, goal);
+    print_ratio(title, taken.by[0], taken.by[1], rounds, "Rust");
+    print_ratio("    checking alone", taken.by[2], taken.by[1], rounds, "Rust");
+    oracle_free(prepared);
+    return 0;
+}
+
+int main(void)
+{
+    static const unsigned counts[4] = {3, 5, 8, 12};
+    int differ = 0;
+    char name[60];
+    for (unsigned i = 0; i < 4; i++) {
+        make_bounds(counts[i]);
+        snprintf(name, sizeof name, "rewriting, %u bounds", counts[i]);
+        differ |= beside(name, 0.33, ROUNDS, 100);
+        make_typed(counts[i]);
+        snprintf(name, sizeof name, "rewriting, %u lines", counts[i]);
+        differ |= beside(name, 0.33, ROUNDS, 100);
+    }
+    make_one_column();
+    differ |= beside("rewriting, 128 lines on one column", 1, ROUNDS, 50);
+    make_many_columns();
+    differ |= beside("rewriting, 128 lines on 64 columns", 1, ROUNDS, 50);
+    make_chain(0);
+    differ |= beside("rewriting, 64 equalities", 1, ROUNDS, 50);
+    make_chain(1);
+    differ |= beside("rewriting, 64 equalities from the far end on", 1, ROUNDS, 5);
+    make_two_lists();
+    differ |= beside("rewriting, two lists of 100 values", 1, ROUNDS, 50);
+    make_many_lists();
+    differ |= beside("rewriting, 60 lists of 100 values", 1, 21, 5);
+    make_exclusions();
+    differ |= beside("rewriting, 14 exclusions, 63 equalities", 1, 21, 1);
+    make_negated_lists();
+    differ |= beside("rewriting, 8 negated lists, 63 equalities", 1, 3, 1);
+    make_worst_allowed();
+    differ |= beside("rewriting, 65 lists of one value, 63 equalities", 1, 3, 1);
+    return differ;
+}

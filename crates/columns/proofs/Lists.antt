@@ -1,0 +1,257 @@
+-- Walks over the values of a list in the pool. Assumes nothing.
+use mathlib.Core.Path.{_≡_, refl, sym, _∙_, ap}
+use mathlib.Core.Bool.{Bool, true, false, not, cond, _&&_, _||_, true≢false, or-true, or-false, and-eq-true-iff}
+use mathlib.Core.Bool.{or-assoc}
+use mathlib.Core.List.{List, [], _∷_, _++_}
+use mathlib.Core.Option.{Option, none, some}
+use Prim.Native.Nat.{ℕ, zero, suc, _+_, _≤_, _<_}
+use lib.IntN.{ℤ}
+use native.Mathlib.Omega.{arith}
+use native.Mathlib.Numerals.{add-one}
+use lib.ListN.{getD}
+use borrow.Author.Tests.{ne-eqb}
+use Rattle.records.specs.Bytes.{valueAt}
+use Rattle.truth.specs.FromBytes.{valuesFrom}
+use Rattle.truth.specs.Order.{isEqual}
+use Rattle.truth.proofs.Orders.{cmp-refl}
+use Rattle.constraints.specs.Scalars.{scalarCmp, opposite}
+use Rattle.constraints.specs.Values.{contains, subset, isEmpty}
+use Rattle.constraints.specs.Column as q
+use Rattle.constraints.specs.Payload.{payload}
+use Rattle.columns.specs.Abstraction.{Conjuncts, columnOf, gather, ofKind, listOf, excludedBy, allowedBy}
+use Rattle.columns.specs.Abstraction.{marked}
+use Rattle.columns.specs.declared.column.ColumnConstraints.{ColumnConstraints}
+use Rattle.constraints.proofs.Sets.{subset-contains, isEqual-subst}
+use Rattle.constraints.specs.Resolve as z
+use Rattle.constraints.specs.Bound as b
+use Rattle.constraints.proofs.Columns.{isEmpty-snoc}
+use Rattle.columns.specs.Steps.{anyOf, outside, anyOfKind, changesIn}
+use Rattle.columns.proofs.Numbers.{more, found, done}
+use Rattle.columns.proofs.Insertions.{within, all-within, any-within, all-sub}
+
+abbrev has : ℕ → List ℕ → Bool
+has v l = contains payload (payload .key v) l
+
+pub values-snoc : (p : List ℕ) (s n : ℕ) → valuesFrom p s (suc n) ≡ valuesFrom p s n ++ (valueAt p (s + n) ∷ [])
+unfolding valuesFrom
+values-snoc p s zero = let e : s ≡ s + 0 = omega arith in ap (λ k. valueAt p k ∷ []) e
+values-snoc p s (suc n) =
+    let e : suc s + n ≡ s + suc n = omega arith in
+    ap (λ l. valueAt p s ∷ l) (values-snoc p (suc s) n) ∙
+    ap (λ k. valueAt p s ∷ (valuesFrom p (suc s) n ++ (valueAt p k ∷ []))) e
+
+any-append : (f : ℕ → Bool) (l m : List ℕ) → anyOf f (l ++ m) ≡ (anyOf f l || anyOf f m)
+any-append f [] m = refl
+any-append f (v ∷ l) m = rw (any-append f l m) (sym (or-assoc (f v) (anyOf f l) (anyOf f m)))
+
+-- ---- is some value of a list such
+an-step : (f : ℕ → Bool) (p : List ℕ) (s n : ℕ) → anyOf f (valuesFrom p s (suc n)) ≡
+    (anyOf f (valuesFrom p s n) || f (valueAt p (s + n)))
+an-step f p s n = rw (values-snoc p s n) (any-append f (valuesFrom p s n) (valueAt p (s + n) ∷ []) ∙
+    ap (λ b. anyOf f (valuesFrom p s n) || b) (or-false (f (valueAt p (s + n)))))
+
+pub an-none : (f : ℕ → Bool) (p : List ℕ) (s : ℕ) → anyOf f (valuesFrom p s 0) ≡ false
+unfolding valuesFrom
+an-none f p s = refl
+
+pub an-more : (f : ℕ → Bool) (p : List ℕ) (s i : ℕ) → anyOf f (valuesFrom p s i) ≡ false → f (valueAt p (s + i)) ≡
+    false → anyOf f (valuesFrom p s (i + 1)) ≡ false
+an-more f p s i h e = more (λ n. anyOf f (valuesFrom p s n)) (λ n. f (valueAt p (s + n))) (an-step f p s) i h e
+
+pub an-found : (f : ℕ → Bool) (p : List ℕ) (s i n : ℕ) → i < n → f (valueAt p (s + i)) ≡ true → true ≡
+    anyOf f (valuesFrom p s n)
+an-found f p s i n l e = found (λ n. anyOf f (valuesFrom p s n)) (λ n. f (valueAt p (s + n))) (an-step f p s) i n l e
+
+pub an-done : (f : ℕ → Bool) (p : List ℕ) (s i n : ℕ) → i ≤ n → n ≤ i → anyOf f (valuesFrom p s i) ≡ false → false ≡
+    anyOf f (valuesFrom p s n)
+an-done f p s i n l g h = done (λ n. anyOf f (valuesFrom p s n)) i n l g h
+
+-- ---- the tests of values as such
+pub has-any : (v : ℕ) (l : List ℕ) → has v l ≡ anyOf (λ w. isEqual (scalarCmp payload v w)) l
+has-any v [] = refl
+has-any v (w ∷ l) = rw (has-any v l)
+
+pub widens-any : (l m : List ℕ) → not (subset payload l m) ≡ anyOf (λ v. not (has v m)) l
+widens-any [] m = refl
+widens-any (v ∷ l) m = go (has v m) (widens-any l m)
+  where
+    go : (b : Bool) → not (subset payload l m) ≡ anyOf (λ v. not (has v m)) l → not (b && subset payload l m) ≡
+        (not b || anyOf (λ v. not (has v m)) l)
+    go true e = e
+    go false e = refl
+
+pub feasible-any : (cc : q.ColumnConstraints ℕ) (l : List ℕ) → z.anyFeasible payload cc l ≡
+    anyOf (λ v. z.isFeasible payload cc (payload .key v)) l
+feasible-any cc [] = refl
+feasible-any cc (v ∷ l) = rw (feasible-any cc l)
+
+-- ---- a property of keys that some value of a list has
+abbrev anyKey : (ℤ → Bool) → List ℕ → Bool
+anyKey P l = anyOf (λ v. P (payload .key v)) l
+
+key-in : (P : ℤ → Bool) (l : List ℕ) (k : ℤ) → contains payload k l ≡ true → P k ≡ true → anyKey P l ≡ true
+key-in P [] k h e = absurd (true≢false (sym h))
+key-in P (v ∷ l) k h e = go (isEqual (payload .order .cmp k (payload .key v))) refl h (λ i. key-in P l k i e)
+  where
+    go : (b : Bool) → isEqual (payload .order .cmp k (payload .key v)) ≡ b → (b || contains payload k l) ≡ true →
+        (contains payload k l ≡ true → anyKey P l ≡ true) → (P (payload .key v) || anyKey P l) ≡ true
+    go true i h f = rw (isEqual-subst payload (λ x. P x ≡ true) i e)
+    go false i h f = rw (f h) (or-true (P (payload .key v)))
+
+key-out : (P : ℤ → Bool) (l : List ℕ) (C : Type 0) → anyKey P l ≡ true →
+    ((k : ℤ) → contains payload k l ≡ true → P k ≡ true → C) → C
+key-out P [] C h f = absurd (true≢false (sym h))
+key-out P (v ∷ l) C h f = go (P (payload .key v)) refl h
+    (λ i. key-out P l C i (λ k i e. f k (rw i (or-true (isEqual (payload .order .cmp k (payload .key v))))) e))
+  where
+    go : (b : Bool) → P (payload .key v) ≡ b → (b || anyKey P l) ≡ true → (anyKey P l ≡ true → C) → C
+    go true e h g = f (payload .key v) (rw (cmp-refl (payload .order) (payload .key v))) e
+    go false e h g = g h
+
+bool-iff : (a b : Bool) → (a ≡ true → b ≡ true) → (b ≡ true → a ≡ true) → a ≡ b
+bool-iff true b f g = sym (f refl)
+bool-iff false true f g = g refl
+bool-iff false false f g = refl
+
+and-l : (a b : Bool) → (a && b) ≡ true → a ≡ true
+and-l a b e = and-eq-true-iff a b .0 e .0
+
+and-r : (a b : Bool) → (a && b) ≡ true → b ≡ true
+and-r a b e = and-eq-true-iff a b .0 e .1
+
+not-yes : (b : Bool) → not b ≡ true → b ≡ false
+not-yes true e = absurd (true≢false (sym e))
+not-yes false e = refl
+
+-- ---- one of the allowed lists x, and the values m common to them all
+pub outside-all : (m x l : List ℕ) → subset payload x x ≡ true → subset payload m x ≡ true →
+    anyOf (λ v. outside (some m) l v) x ≡ not (subset payload m l)
+outside-all m x l r s = bool-iff (anyOf (λ v. outside (some m) l v) x) (not (subset payload m l))
+    (λ h. key-out (λ k. contains payload k m && not (contains payload k l)) x _ h λ k i e. go k
+    (and-l (contains payload k m) (not (contains payload k l)) e)
+    (not-yes (contains payload k l) (and-r (contains payload k m) (not (contains payload k l)) e))
+    (subset payload m l) refl)
+    (λ h. key-out (λ k. not (contains payload k l)) m _ (sym (widens-any m l) ∙ h) λ k i e. key-in
+    (λ k. contains payload k m && not (contains payload k l)) x k (subset-contains payload k m x s i) (rw (i, e)))
+  where
+    go : (k : ℤ) → contains payload k m ≡ true → contains payload k l ≡ false → (b : Bool) → subset payload m l ≡ b →
+        not b ≡ true
+    go k i n true s = absurd (true≢false (sym (subset-contains payload k m l s i) ∙ n))
+    go k i n false s = refl
+
+pub feasible-all : (cc : q.ColumnConstraints ℕ) (m x : List ℕ) → cc .allowed ≡ some m → subset payload m x ≡ true →
+    z.anyFeasible payload cc x ≡ z.anyFeasible payload cc m
+feasible-all cc m x e s = feasible-any cc x ∙ bool-iff (anyKey (λ k. z.isFeasible payload cc k) x)
+    (anyKey (λ k. z.isFeasible payload cc k) m)
+    (λ h. key-out (λ k. z.isFeasible payload cc k) x _ h λ k i f. key-in (λ k. z.isFeasible payload cc k) m k
+    (ap (λ o. z.isAllowed payload o k) (sym e) ∙ and-l (z.isAllowed payload (cc .allowed) k)
+    (not (contains payload k (cc .disallowed)))
+    (and-r (b.clears payload (cc .lower) k &&
+    (b.clears (opposite payload) (cc .upper) k && not (contains payload k (cc .excluded))))
+    (z.isAllowed payload (cc .allowed) k && not (contains payload k (cc .disallowed))) f)) f)
+    (λ h. key-out (λ k. z.isFeasible payload cc k) m _ h λ k i f. key-in (λ k. z.isFeasible payload cc k) x k
+    (subset-contains payload k m x s i) f)
+    ∙ sym (feasible-any cc m)
+
+-- ---- a number of kind 1 that a column has
+pub narrows-first : (ks ss cs ps a : List ℕ) (n f j : ℕ) → marked a n f ≡ true → getD ks f 0 ≡ 1 →
+    anyOf (λ v. outside (allowedBy ks ss cs ps a n) (listOf ss cs ps j) v) (listOf ss cs ps f) ≡
+    q.allowedChanges payload (allowedBy ks ss cs ps a n) (listOf ss cs ps j)
+narrows-first ks ss cs ps a n f j h k = go (allowedBy ks ss cs ps a n) (all-within ks ss cs ps a n f h k)
+  where
+    go : (o : Option (List ℕ)) → within o (listOf ss cs ps f) ≡ true → anyOf (λ v. outside o (listOf ss cs ps j) v)
+        (listOf ss cs ps f) ≡ q.allowedChanges payload o (listOf ss cs ps j)
+    go none e = absurd (true≢false (sym e))
+    go (some m) e = outside-all m (listOf ss cs ps f) (listOf ss cs ps j)
+        (all-sub (listOf ss cs ps f) (listOf ss cs ps f) (λ x i. i)) e
+
+pub feasible-first : (t : Conjuncts) (c : ColumnConstraints) (f : ℕ) → marked (c .marks) (c .len) f ≡ true →
+    getD (t .kinds) f 0 ≡ 1 →
+    z.anyFeasible payload (columnOf t c) (listOf (t .starts) (t .counts) (t .pool) f) ≡
+    z.allowedFeasible payload (columnOf t c) (columnOf t c .allowed)
+feasible-first t c f h k = go (columnOf t c .allowed) refl
+    (all-within (t .kinds) (t .starts) (t .counts) (t .pool) (c .marks) (c .len) f h k)
+  where
+    go : (o : Option (List ℕ)) → columnOf t c .allowed ≡ o → within o (listOf (t .starts) (t .counts) (t .pool) f) ≡
+        true → z.anyFeasible payload (columnOf t c) (listOf (t .starts) (t .counts) (t .pool) f) ≡
+        z.allowedFeasible payload (columnOf t c) o
+    go none e h = absurd (true≢false (sym h))
+    go (some m) e h = feasible-all (columnOf t c) m (listOf (t .starts) (t .counts) (t .pool) f) e h
+
+pub skip-allowed : (ks ss cs ps a : List ℕ) (i : ℕ) → allowedBy ks ss cs ps a i ≡ none →
+    (getD ks (getD a i 0) 0 ≡ 1 → ⊥) → allowedBy ks ss cs ps a (i + 1) ≡ none
+unfolding allowedBy gather
+skip-allowed ks ss cs ps a i h k = rw (add-one, ne-eqb (getD ks (getD a i 0) 0) 1 k) h
+
+pub none-allowed : (ks ss cs ps a : List ℕ) → allowedBy ks ss cs ps a 0 ≡ none
+unfolding allowedBy gather
+none-allowed ks ss cs ps a = refl
+
+-- ---- kinds among the numbers
+kind-step : (ks : List ℕ) (k : ℕ) (a : List ℕ) (n : ℕ) → anyOfKind ks k a (suc n) ≡
+    (anyOfKind ks k a n || ofKind ks k (getD a n 0))
+unfolding anyOfKind
+kind-step ks k a n = refl
+
+pub kind-none : (ks : List ℕ) (k : ℕ) (a : List ℕ) → anyOfKind ks k a 0 ≡ false
+unfolding anyOfKind
+kind-none ks k a = refl
+
+pub kind-more : (ks : List ℕ) (k : ℕ) (a : List ℕ) (i : ℕ) → anyOfKind ks k a i ≡ false → ofKind ks k (getD a i 0) ≡
+    false → anyOfKind ks k a (i + 1) ≡ false
+kind-more ks k a i h e = more (λ n. anyOfKind ks k a n) (λ n. ofKind ks k (getD a n 0)) (kind-step ks k a) i h e
+
+pub kind-found : (ks : List ℕ) (k : ℕ) (a : List ℕ) (i n : ℕ) → i < n → ofKind ks k (getD a i 0) ≡ true → true ≡
+    anyOfKind ks k a n
+kind-found ks k a i n l e = found (λ n. anyOfKind ks k a n) (λ n. ofKind ks k (getD a n 0)) (kind-step ks k a) i n l e
+
+pub kind-done : (ks : List ℕ) (k : ℕ) (a : List ℕ) (i n : ℕ) → i ≤ n → n ≤ i → anyOfKind ks k a i ≡ false → false ≡
+    anyOfKind ks k a n
+kind-done ks k a i n l g h = done (λ n. anyOfKind ks k a n) i n l g h
+
+pub no-excluded : (ks vs a : List ℕ) (n : ℕ) → isEmpty (excludedBy ks vs a n) ≡ not (anyOfKind ks 0 a n)
+unfolding excludedBy gather anyOfKind
+no-excluded ks vs a zero = refl
+no-excluded ks vs a (suc n) = go (ofKind ks 0 (getD a n 0)) (no-excluded ks vs a n)
+  where
+    go : (x : Bool) → isEmpty (excludedBy ks vs a n) ≡ not (anyOfKind ks 0 a n) →
+        isEmpty (cond x (excludedBy ks vs a n ++ (getD vs (getD a n 0) 0 ∷ [])) (excludedBy ks vs a n)) ≡
+        not (anyOfKind ks 0 a n || x)
+    go true e = isEmpty-snoc (excludedBy ks vs a n) (getD vs (getD a n 0) 0) ∙
+        ap not (sym (or-true (anyOfKind ks 0 a n)))
+    go false e = e ∙ ap not (sym (or-false (anyOfKind ks 0 a n)))
+
+pub no-allowed : (ks ss cs ps a : List ℕ) (n : ℕ) → q.isNone (allowedBy ks ss cs ps a n) ≡ not (anyOfKind ks 1 a n)
+unfolding allowedBy gather anyOfKind
+no-allowed ks ss cs ps a zero = refl
+no-allowed ks ss cs ps a (suc n) = go (ofKind ks 1 (getD a n 0)) (no-allowed ks ss cs ps a n)
+  where
+    go : (x : Bool) → q.isNone (allowedBy ks ss cs ps a n) ≡ not (anyOfKind ks 1 a n) →
+        q.isNone (cond x (some (q.common payload (allowedBy ks ss cs ps a n) (listOf ss cs ps (getD a n 0))))
+        (allowedBy ks ss cs ps a n)) ≡ not (anyOfKind ks 1 a n || x)
+    go true e = ap not (sym (or-true (anyOfKind ks 1 a n)))
+    go false e = e ∙ ap not (sym (or-false (anyOfKind ks 1 a n)))
+
+-- ---- the list of a number
+pub list-as : (ss cs ps : List ℕ) (j s n : ℕ) → s ≡ getD ss j 0 → n ≡ getD cs j 0 → valuesFrom ps s n ≡
+    listOf ss cs ps j
+unfolding listOf
+list-as ss cs ps j s n e f = rw (e, f)
+
+within-still : (o : Option (List ℕ)) (l : List ℕ) → within o l ≡ true → q.allowedChanges payload o l ≡ false
+within-still none l h = absurd (true≢false (sym h))
+within-still (some m) l h = ap not h
+
+pub held-allowed : (t : Conjuncts) (c : ColumnConstraints) (j : ℕ) → c .unsat ≡ false → marked (c .marks) (c .len) j ≡
+    true → getD (t .kinds) j 0 ≡ 1 → false ≡ changesIn (q.Allow (listOf (t .starts) (t .counts) (t .pool) j))
+    (columnOf t c)
+held-allowed t c j u m k = sym (ap (λ x. q.changesBy payload x (q.Allow (listOf (t .starts) (t .counts) (t .pool) j))
+    (columnOf t c)) u ∙ within-still (columnOf t c .allowed) (listOf (t .starts) (t .counts) (t .pool) j)
+    (all-within (t .kinds) (t .starts) (t .counts) (t .pool) (c .marks) (c .len) j m k))
+
+pub held-disallowed : (t : Conjuncts) (c : ColumnConstraints) (j : ℕ) → c .unsat ≡ false →
+    marked (c .marks) (c .len) j ≡ true → getD (t .kinds) j 0 ≡ 2 → false ≡
+    changesIn (q.Disallow false (listOf (t .starts) (t .counts) (t .pool) j)) (columnOf t c)
+held-disallowed t c j u m k = sym
+    (ap (λ x. q.changesBy payload x (q.Disallow false (listOf (t .starts) (t .counts) (t .pool) j)) (columnOf t c)) u
+    ∙ ap not (any-within (t .kinds) (t .starts) (t .counts) (t .pool) (c .marks) (c .len) j m k))

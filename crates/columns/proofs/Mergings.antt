@@ -1,0 +1,513 @@
+-- The numbers of one column put into another, and the definition of merging. Assumes nothing.
+use mathlib.Core.Path.{_≡_, refl, sym, _∙_, ap}
+use mathlib.Core.Bool.{Bool, true, false, not, cond, _&&_, _||_, or-true, or-false, and-true, and-assoc, or-assoc}
+use mathlib.Core.List.{List, [], _∷_, _++_}
+use mathlib.Core.Option.{Option, none, some}
+use Prim.Native.Nat.{ℕ, zero, suc, _+_}
+use native.Mathlib.Omega.{arith}
+use native.Mathlib.Numerals.{add-one}
+use lib.ListN.{getD}
+use borrow.Author.Tests.{ne-eqb}
+use Rattle.constraints.specs.Values.{contains, insert, insertBy, extend, retain, retainBy, subset}
+use Rattle.constraints.specs.Column as q
+use Rattle.constraints.specs.Payload.{payload}
+use Rattle.columns.specs.Abstraction.{Conjuncts, columnOf, boundOf, gather, ofKind, listOf, excludedBy}
+use Rattle.columns.specs.Abstraction.{allowedBy, disallowedBy}
+use Rattle.columns.specs.declared.column.ColumnConstraints.{ColumnConstraints}
+use Rattle.constraints.proofs.Sets.{contains-extend, contains-retain, subset-contains, extend-subset}
+use Rattle.constraints.proofs.Sets.{retain-subset}
+use Rattle.constraints.specs.Bound as b
+use Rattle.columns.specs.Steps.{Merging, emitting, recording, takeLower, takeUpper, takeMark, takeMarks}
+use Rattle.constraints.proofs.Columns.{swap-mid}
+use Rattle.columns.proofs.Pigeon.{Eq, yes, no, eq-view}
+
+abbrev has : ℕ → List ℕ → Bool
+has v l = contains payload (payload .key v) l
+
+pub union-snoc : (d l : List ℕ) (v : ℕ) → extend payload d (l ++ (v ∷ [])) ≡ insert payload v (extend payload d l)
+union-snoc d [] v = refl
+union-snoc d (w ∷ l) v = union-snoc (insert payload w d) l v
+
+pub union-ins : (d x : List ℕ) (v : ℕ) → extend payload d (insert payload v x) ≡ insert payload v (extend payload d x)
+union-ins d x v = go (contains payload (payload .key v) x) refl
+  where
+    go : (b : Bool) → contains payload (payload .key v) x ≡ b → extend payload d (insertBy b v x) ≡
+        insert payload v (extend payload d x)
+    go true h = rw (contains-extend payload (payload .key v) d x, h, or-true (contains payload (payload .key v) d))
+    go false h = union-snoc d x v
+
+pub union-union : (d x l : List ℕ) → extend payload d (extend payload x l) ≡ extend payload (extend payload d x) l
+union-union d x [] = refl
+union-union d x (v ∷ l) = union-union d (insert payload v x) l ∙ ap (λ y. extend payload y l) (union-ins d x v)
+
+pub keep-keep : (l m x : List ℕ) → retain payload (retain payload l m) x ≡ retain payload l (retain payload m x)
+keep-keep l m [] = refl
+keep-keep l m (v ∷ x) = rw (contains-retain payload (payload .key v) l m)
+    (go (contains payload (payload .key v) m) (contains payload (payload .key v) l) refl (keep-keep l m x))
+  where
+    go : (a b : Bool) → contains payload (payload .key v) l ≡ b → retain payload (retain payload l m) x ≡
+        retain payload l (retain payload m x) → retainBy (a && b) v (retain payload (retain payload l m) x) ≡
+        retain payload l (retainBy a v (retain payload m x))
+    go true true e h = rw (e, h)
+    go true false e h = rw e h
+    go false b e h = h
+
+abbrev pub join : Option (List ℕ) → Option (List ℕ) → Option (List ℕ)
+join o none = o
+join o (some m) = some (q.common payload o m)
+
+pub join-more : (o p : Option (List ℕ)) (l : List ℕ) → join o (some (q.common payload p l)) ≡
+    some (q.common payload (join o p) l)
+join-more o none l = refl
+join-more none (some m) l = refl
+join-more (some x) (some m) l = ap some (keep-keep l m x)
+
+-- a column with more excluded values, allowed lists, disallowed values
+abbrev pub joined : q.ColumnConstraints ℕ → List ℕ → Option (List ℕ) → List ℕ → q.ColumnConstraints ℕ
+joined c e o d = record {
+  lower = c .lower;
+  upper = c .upper;
+  excluded = extend payload (c .excluded) e;
+  allowed =
+      join (c .allowed) o;
+  disallowed = extend payload (c .disallowed) d;
+  strict = c .strict;
+  nullability =
+      c .nullability;
+  unsat = c .unsat;
+}
+
+-- ---- what is new among values
+subset-snoc : (e x : List ℕ) (v : ℕ) → subset payload (e ++ (v ∷ [])) x ≡ (subset payload e x && has v x)
+subset-snoc [] x v = and-true (has v x)
+subset-snoc (w ∷ e) x v = rw (subset-snoc e x v) (sym (and-assoc (has w x) (subset payload e x) (has v x)))
+
+subset-retain : (x l m : List ℕ) → subset payload x (retain payload l m) ≡ (subset payload x m && subset payload x l)
+subset-retain [] l m = refl
+subset-retain (v ∷ x) l m = rw (contains-retain payload (payload .key v) l m, subset-retain x l m)
+    (swap-mid (has v m) (has v l) (subset payload x m) (subset payload x l))
+
+subset-insert : (d x : List ℕ) (v : ℕ) → subset payload (insert payload v d) x ≡ (subset payload d x && has v x)
+subset-insert d x v = go (has v d) refl
+  where
+    own : has v d ≡ true → (b : Bool) → subset payload d x ≡ b → b ≡ (b && has v x)
+    own h true s = sym (subset-contains payload (payload .key v) d x s h)
+    own h false s = refl
+
+    go : (b : Bool) → has v d ≡ b → subset payload (insertBy b v d) x ≡ (subset payload d x && has v x)
+    go true h = own h (subset payload d x) refl
+    go false h = subset-snoc d x v
+
+subset-extend : (d l x : List ℕ) → subset payload (extend payload d l) x ≡ (subset payload d x && subset payload l x)
+subset-extend d [] x = sym (and-true (subset payload d x))
+subset-extend d (v ∷ l) x = subset-extend (insert payload v d) l x ∙
+    rw (subset-insert d x v) (and-assoc (subset payload d x) (has v x) (subset payload l x))
+
+new-excluded : (e x : List ℕ) (v : ℕ) → (not (subset payload e x) || not (has v (extend payload x e))) ≡
+    not (subset payload (e ++ (v ∷ [])) x)
+new-excluded e x v = rw (subset-snoc e x v) (go (subset payload e x) refl)
+  where
+    go : (b : Bool) → subset payload e x ≡ b → (not b || not (has v (extend payload x e))) ≡ not (b && has v x)
+    go true s = rw (extend-subset payload x e s)
+    go false s = refl
+
+new-disallowed : (d l x : List ℕ) → (not (subset payload d x) || not (subset payload l (extend payload x d))) ≡
+    not (subset payload (extend payload d l) x)
+new-disallowed d l x = rw (subset-extend d l x) (go (subset payload d x) refl)
+  where
+    go : (b : Bool) → subset payload d x ≡ b → (not b || not (subset payload l (extend payload x d))) ≡
+        not (b && subset payload l x)
+    go true s = rw (extend-subset payload x d s)
+    go false s = refl
+
+abbrev newAllowed : Option (List ℕ) → Option (List ℕ) → Bool
+newAllowed o none = false
+newAllowed o (some m) = q.allowedChanges payload o m
+
+new-allowed : (o p : Option (List ℕ)) (l : List ℕ) → (newAllowed o p || q.allowedChanges payload (join o p) l) ≡
+    newAllowed o (some (q.common payload p l))
+new-allowed none none l = refl
+new-allowed none (some m) l = refl
+new-allowed (some x) none l = refl
+new-allowed (some x) (some m) l = rw (subset-retain x l m) (go (subset payload x m) refl)
+  where
+    go : (b : Bool) → subset payload x m ≡ b → (not b || not (subset payload (retain payload m x) l)) ≡
+        not (b && subset payload x l)
+    go true s = rw (retain-subset payload m x s)
+    go false s = refl
+
+-- ---- a column that is not impossible, after some numbers
+abbrev taken : Merging → List ℕ → Option (List ℕ) → List ℕ → Merging
+taken m e o d =
+    record {
+      column = joined (m .column) e o d;
+      emitted = m .emitted || not (subset payload e (m .column .excluded));
+      any = m .any || (newAllowed (m .column .allowed) o || not (subset payload d (m .column .disallowed)));
+    }
+
+abbrev atMark : Conjuncts → List ℕ → Option (List ℕ) → List ℕ → ℕ → Merging → Merging
+atMark t e o d j m =
+    taken m (cond (ofKind (t .kinds) 0 j) (e ++ (getD (t .values) j 0 ∷ [])) e)
+    (cond (ofKind (t .kinds) 1 j) (some (q.common payload o (listOf (t .starts) (t .counts) (t .pool) j))) o)
+    (cond (ofKind (t .kinds) 2 j) (extend payload d (listOf (t .starts) (t .counts) (t .pool) j)) d)
+
+shuffle-1 : (n a d x : Bool) → ((n || (a || d)) || x) ≡ (n || ((a || x) || d))
+shuffle-1 true a d x = refl
+shuffle-1 false true d x = refl
+shuffle-1 false false true true = refl
+shuffle-1 false false true false = refl
+shuffle-1 false false false true = refl
+shuffle-1 false false false false = refl
+
+shuffle-2 : (n a d x : Bool) → ((n || (a || d)) || x) ≡ (n || (a || (d || x)))
+shuffle-2 true a d x = refl
+shuffle-2 false true d x = refl
+shuffle-2 false false d x = refl
+
+take-exclude : (m : Merging) (e : List ℕ) (o : Option (List ℕ)) (d : List ℕ) (v : ℕ) → m .column .unsat ≡ false →
+    emitting (q.Exclude v) (taken m e o d) ≡ taken m (e ++ (v ∷ [])) o d
+take-exclude m e o d v u = rw (
+  u,
+  union-snoc (m .column .excluded) e v,
+  or-assoc (m .emitted)
+      (not (subset payload e (m .column .excluded))) (not (has v (extend payload (m .column .excluded) e))),
+  new-excluded e (m .column .excluded) v,
+)
+
+take-allow : (m : Merging) (e : List ℕ) (o : Option (List ℕ)) (d l : List ℕ) → m .column .unsat ≡ false →
+    recording (q.Allow l) (taken m e o d) ≡ taken m e (some (q.common payload o l)) d
+take-allow m e o d l u = rw (
+  u,
+  join-more (m .column .allowed) o l,
+  shuffle-1 (m .any)
+      (newAllowed (m .column .allowed) o) (not (subset payload d (m .column .disallowed)))
+      (q.allowedChanges payload (join (m .column .allowed) o) l),
+  new-allowed (m .column .allowed) o l,
+)
+
+take-disallow : (m : Merging) (e : List ℕ) (o : Option (List ℕ)) (d l : List ℕ) → m .column .unsat ≡ false →
+    recording (q.Disallow false l) (taken m e o d) ≡ taken m e o (extend payload d l)
+take-disallow m e o d l u = rw (
+  u,
+  union-union (m .column .disallowed) d l,
+  or-false (m .column .strict),
+  shuffle-2 (m .any) (newAllowed (m .column .allowed) o) (not (subset payload d (m .column .disallowed)))
+      (not (subset payload l (extend payload (m .column .disallowed) d))),
+  new-disallowed d l (m .column .disallowed),
+)
+
+mark-taken : (t : Conjuncts) (j : ℕ) (m : Merging) (e : List ℕ) (o : Option (List ℕ)) (d : List ℕ) →
+    m .column .unsat ≡ false → takeMark t j (taken m e o d) ≡ atMark t e o d j m
+unfolding takeMark
+mark-taken t j m e o d u = go (eq-view (getD (t .kinds) j 0) 0) (eq-view (getD (t .kinds) j 0) 1)
+    (eq-view (getD (t .kinds) j 0) 2)
+  where
+    go : {x y z : Bool} → Eq (getD (t .kinds) j 0) 0 x → Eq (getD (t .kinds) j 0) 1 y → Eq (getD (t .kinds) j 0) 2 z →
+        cond x (emitting (q.Exclude (getD (t .values) j 0)) (taken m e o d))
+        (cond y (recording (q.Allow (listOf (t .starts) (t .counts) (t .pool) j)) (taken m e o d))
+        (cond z (recording (q.Disallow false (listOf (t .starts) (t .counts) (t .pool) j)) (taken m e o d))
+        (taken m e o d))) ≡
+        taken m (cond x (e ++ (getD (t .values) j 0 ∷ [])) e)
+        (cond y (some (q.common payload o (listOf (t .starts) (t .counts) (t .pool) j))) o)
+        (cond z (extend payload d (listOf (t .starts) (t .counts) (t .pool) j)) d)
+    go (yes p) (yes r) s = absurd (omega (arith, p, r))
+    go (yes p) (no r) (yes s) = absurd (omega (arith, p, s))
+    go (yes p) (no r) (no s) = take-exclude m e o d (getD (t .values) j 0) u
+    go (no p) (yes r) (yes s) = absurd (omega (arith, r, s))
+    go (no p) (yes r) (no s) = take-allow m e o d (listOf (t .starts) (t .counts) (t .pool) j) u
+    go (no p) (no r) (yes s) = take-disallow m e o d (listOf (t .starts) (t .counts) (t .pool) j) u
+    go (no p) (no r) (no s) = refl
+
+start-taken : (m : Merging) → taken m [] none [] ≡ m
+start-taken m = rw (or-false (m .emitted), or-false (m .any))
+
+marks-taken : (t : Conjuncts) (a : List ℕ) (n : ℕ) (m : Merging) → m .column .unsat ≡ false →
+    takeMarks t a n m ≡ taken m (excludedBy (t .kinds) (t .values) a n)
+    (allowedBy (t .kinds) (t .starts) (t .counts) (t .pool) a n)
+    (disallowedBy (t .kinds) (t .starts) (t .counts) (t .pool) a n)
+unfolding takeMarks excludedBy allowedBy disallowedBy gather
+marks-taken t a zero m u = sym (start-taken m)
+marks-taken t a (suc n) m u = ap (λ y. takeMark t (getD a n 0) y) (marks-taken t a n m u) ∙
+    mark-taken t (getD a n 0) m (excludedBy (t .kinds) (t .values) a n)
+    (allowedBy (t .kinds) (t .starts) (t .counts) (t .pool) a n)
+    (disallowedBy (t .kinds) (t .starts) (t .counts) (t .pool) a n) u
+
+-- ---- an impossible column takes nothing
+dead : (x : q.Constraint ℕ) (c : q.ColumnConstraints ℕ) → c .unsat ≡ true → q.add payload x c ≡ c
+dead x c u = ap (λ b. q.addBy payload b x c) u
+
+dead-all : (l : List (q.Constraint ℕ)) (c : q.ColumnConstraints ℕ) → c .unsat ≡ true → q.addAll payload l c ≡ c
+dead-all [] c u = refl
+dead-all (x ∷ l) c u = ap (λ y. q.addAll payload l y) (dead x c u) ∙ dead-all l c u
+
+dead-still : (l : List (q.Constraint ℕ)) (c : q.ColumnConstraints ℕ) → c .unsat ≡ true → q.changesAll payload l c ≡
+    false
+dead-still [] c u = refl
+dead-still (x ∷ l) c u = ap (λ b. q.changesBy payload b x c || q.changesAll payload l (q.add payload x c)) u ∙
+    ap (λ y. q.changesAll payload l y) (dead x c u) ∙ dead-still l c u
+
+dead-emitting : (x : q.Constraint ℕ) (m : Merging) → m .column .unsat ≡ true → emitting x m ≡ m
+dead-emitting x m u = ap (λ b. record {
+  column = q.addBy payload b x (m .column);
+  emitted =
+      m .emitted || q.changesBy payload b x (m .column);
+  any = m .any;
+}) u ∙ rw (or-false (m .emitted))
+
+dead-recording : (x : q.Constraint ℕ) (m : Merging) → m .column .unsat ≡ true → recording x m ≡ m
+dead-recording x m u = ap (λ b. record {
+  column = q.addBy payload b x (m .column);
+  emitted = m .emitted;
+  any =
+      m .any || q.changesBy payload b x (m .column);
+}) u ∙ rw (or-false (m .any))
+
+dead-mark : (t : Conjuncts) (j : ℕ) (m : Merging) → m .column .unsat ≡ true → takeMark t j m ≡ m
+unfolding takeMark
+dead-mark t j m u = go (ofKind (t .kinds) 0 j) (ofKind (t .kinds) 1 j) (ofKind (t .kinds) 2 j)
+  where
+    go : (x y z : Bool) → cond x (emitting (q.Exclude (getD (t .values) j 0)) m)
+        (cond y (recording (q.Allow (listOf (t .starts) (t .counts) (t .pool) j)) m)
+        (cond z (recording (q.Disallow false (listOf (t .starts) (t .counts) (t .pool) j)) m) m)) ≡ m
+    go true y z = dead-emitting (q.Exclude (getD (t .values) j 0)) m u
+    go false true z = dead-recording (q.Allow (listOf (t .starts) (t .counts) (t .pool) j)) m u
+    go false false true = dead-recording (q.Disallow false (listOf (t .starts) (t .counts) (t .pool) j)) m u
+    go false false false = refl
+
+dead-marks : (t : Conjuncts) (a : List ℕ) (n : ℕ) (m : Merging) → m .column .unsat ≡ true → takeMarks t a n m ≡ m
+unfolding takeMarks
+dead-marks t a zero m u = refl
+dead-marks t a (suc n) m u = ap (λ y. takeMark t (getD a n 0) y) (dead-marks t a n m u) ∙ dead-mark t (getD a n 0) m u
+
+-- ---- the definition's way: all excluded values, then the allowed list, then the disallowed values
+excluded-joined : (l : List ℕ) (c : q.ColumnConstraints ℕ) → c .unsat ≡ false → q.addAll payload (q.excludedOf l) c ≡
+    joined c l none []
+excluded-joined [] c u = refl
+excluded-joined (v ∷ l) c u = ap (λ b. q.addAll payload (q.excludedOf l) (q.addBy payload b (q.Exclude v) c)) u ∙
+    excluded-joined l (q.put payload (q.Exclude v) c) u
+
+recorded-joined : (o : Option (List ℕ)) (d l : List ℕ) (c : q.ColumnConstraints ℕ) → c .unsat ≡ false →
+    q.addAll payload (q.allowedOf o ++ (q.Disallow false d ∷ [])) (joined c l none []) ≡ joined c l o d
+recorded-joined none d l c u = rw (u, or-false (c .strict))
+recorded-joined (some m) d l c u = rw (u, or-false (c .strict))
+
+excluded-new : (l : List ℕ) (c : q.ColumnConstraints ℕ) → c .unsat ≡ false → q.changesAll payload (q.excludedOf l) c ≡
+    not (subset payload l (c .excluded))
+excluded-new [] c u = refl
+excluded-new (v ∷ l) c u = ap (λ b. q.changesBy payload b (q.Exclude v) c || q.changesAll payload (q.excludedOf l)
+    (q.addBy payload b (q.Exclude v) c)) u
+    ∙ ap (λ b. not (has v (c .excluded)) || b) (excluded-new l (q.put payload (q.Exclude v) c) u) ∙
+    go (has v (c .excluded)) refl
+  where
+    go : (b : Bool) → has v (c .excluded) ≡ b → (not b || not (subset payload l (insertBy b v (c .excluded)))) ≡
+        not (b && subset payload l (c .excluded))
+    go true h = refl
+    go false h = refl
+
+recorded-new : (o : Option (List ℕ)) (d l : List ℕ) (c : q.ColumnConstraints ℕ) → c .unsat ≡ false →
+    q.changesAll payload (q.allowedOf o ++ (q.Disallow false d ∷ [])) (joined c l none []) ≡
+    (newAllowed (c .allowed) o || not (subset payload d (c .disallowed)))
+recorded-new none d l c u = rw (u, or-false (not (subset payload d (c .disallowed))))
+recorded-new (some m) d l c u = rw (u, or-false (not (subset payload d (c .disallowed))))
+
+all-append : (l m : List (q.Constraint ℕ)) (c : q.ColumnConstraints ℕ) → q.addAll payload (l ++ m) c ≡
+    q.addAll payload m (q.addAll payload l c)
+all-append [] m c = refl
+all-append (x ∷ l) m c = all-append l m (q.add payload x c)
+
+changes-append : (l m : List (q.Constraint ℕ)) (c : q.ColumnConstraints ℕ) → q.changesAll payload (l ++ m) c ≡
+    (q.changesAll payload l c || q.changesAll payload m (q.addAll payload l c))
+changes-append [] m c = refl
+changes-append (x ∷ l) m c = rw (changes-append l m (q.add payload x c))
+    (sym (or-assoc (q.changesBy payload (c .unsat) x c) (q.changesAll payload l (q.add payload x c))
+    (q.changesAll payload m (q.addAll payload l (q.add payload x c)))))
+
+-- what the definition makes of the values e, o, d, after the bounds
+abbrev told : Merging → List ℕ → Option (List ℕ) → List ℕ → Merging
+told m e o d =
+    record {
+      column = q.addAll payload (q.allowedOf o ++ (q.Disallow false d ∷ []))
+          (q.addAll payload (q.excludedOf e) (m .column));
+      emitted = m .emitted || q.changesAll payload (q.excludedOf e) (m .column);
+      any = m .any || q.changesAll payload (q.allowedOf o ++ (q.Disallow false d ∷ []))
+          (q.addAll payload (q.excludedOf e) (m .column));
+    }
+
+live-told : (m : Merging) (e : List ℕ) (o : Option (List ℕ)) (d : List ℕ) → m .column .unsat ≡ false → told m e o d ≡
+    taken m e o d
+live-told m e o d u =
+    ap (λ y. record {
+      column = q.addAll payload (q.allowedOf o ++ (q.Disallow false d ∷ [])) y;
+      emitted =
+          m .emitted || q.changesAll payload (q.excludedOf e) (m .column);
+      any =
+          m .any || q.changesAll payload (q.allowedOf o ++ (q.Disallow false d ∷ [])) y;
+    })
+    (excluded-joined e (m .column) u)
+    ∙ ap (λ y. record {
+      column = y;
+      emitted = m .emitted || q.changesAll payload (q.excludedOf e) (m .column);
+      any =
+          m .any || q.changesAll payload (q.allowedOf o ++ (q.Disallow false d ∷ [])) (joined (m .column) e none []);
+    })
+    (recorded-joined o d e (m .column) u)
+    ∙ ap (λ y. record {
+      column = joined (m .column) e o d;
+      emitted = m .emitted || y;
+      any =
+          m .any || q.changesAll payload (q.allowedOf o ++ (q.Disallow false d ∷ [])) (joined (m .column) e none []);
+    })
+    (excluded-new e (m .column) u)
+    ∙ ap (λ y. record {
+      column = joined (m .column) e o d;
+      emitted =
+          m .emitted || not (subset payload e (m .column .excluded));
+      any = m .any || y;
+    })
+    (recorded-new o d e (m .column) u)
+
+dead-told : (m : Merging) (e : List ℕ) (o : Option (List ℕ)) (d : List ℕ) → m .column .unsat ≡ true → told m e o d ≡ m
+dead-told m e o d u =
+    ap (λ y. record {
+      column = q.addAll payload (q.allowedOf o ++ (q.Disallow false d ∷ [])) y;
+      emitted =
+          m .emitted || q.changesAll payload (q.excludedOf e) (m .column);
+      any =
+          m .any || q.changesAll payload (q.allowedOf o ++ (q.Disallow false d ∷ [])) y;
+    })
+    (dead-all (q.excludedOf e) (m .column) u)
+    ∙ ap (λ y. record {
+      column = y;
+      emitted = m .emitted || q.changesAll payload (q.excludedOf e) (m .column);
+      any =
+          m .any || q.changesAll payload (q.allowedOf o ++ (q.Disallow false d ∷ [])) (m .column);
+    })
+    (dead-all (q.allowedOf o ++ (q.Disallow false d ∷ [])) (m .column) u)
+    ∙ rw (
+      dead-still (q.excludedOf e) (m .column) u,
+      dead-still (q.allowedOf o ++ (q.Disallow false d ∷ []))
+          (m .column) u,
+      or-false (m .emitted),
+      or-false (m .any),
+    )
+
+marks-told : (t : Conjuncts) (d : ColumnConstraints) (m : Merging) → takeMarks t (d .marks) (d .len) m ≡
+    told m (columnOf t d .excluded) (columnOf t d .allowed) (columnOf t d .disallowed)
+marks-told t d m = go (m .column .unsat) refl
+  where
+    go : (b : Bool) → m .column .unsat ≡ b → takeMarks t (d .marks) (d .len) m ≡
+        told m (columnOf t d .excluded) (columnOf t d .allowed) (columnOf t d .disallowed)
+    go true u = dead-marks t (d .marks) (d .len) m u ∙
+        sym (dead-told m (columnOf t d .excluded) (columnOf t d .allowed) (columnOf t d .disallowed) u)
+    go false u = marks-taken t (d .marks) (d .len) m u ∙
+        sym (live-told m (columnOf t d .excluded) (columnOf t d .allowed) (columnOf t d .disallowed) u)
+
+-- ---- the bounds
+abbrev atLower : b.Bound ℕ → Merging → Merging
+atLower l m = record {
+  column = q.addAll payload (q.lowerOf l) (m .column);
+  emitted =
+      m .emitted || q.changesAll payload (q.lowerOf l) (m .column);
+  any = m .any;
+}
+
+lower-told : (l : b.Bound ℕ) (m : Merging) → takeLower l m ≡ atLower l m
+lower-told b.absent m = rw (or-false (m .emitted))
+lower-told (b.at i v) m = rw (or-false (q.changesBy payload (m .column .unsat) (q.Lower i v) (m .column)))
+
+abbrev atUpper : b.Bound ℕ → Merging → Merging
+atUpper u m = record {
+  column = q.addAll payload (q.upperOf u) (m .column);
+  emitted =
+      m .emitted || q.changesAll payload (q.upperOf u) (m .column);
+  any = m .any;
+}
+
+upper-told : (u : b.Bound ℕ) (m : Merging) → takeUpper u m ≡ atUpper u m
+upper-told b.absent m = rw (or-false (m .emitted))
+upper-told (b.at i v) m = rw (or-false (q.changesBy payload (m .column .unsat) (q.Upper i v) (m .column)))
+
+-- the two bounds first, then the numbers: that is merging
+abbrev mergeStart : q.ColumnConstraints ℕ → Merging
+mergeStart c = record { column = c; emitted = false; any = false }
+
+abbrev wholly : q.ColumnConstraints ℕ → q.ColumnConstraints ℕ → Merging
+wholly c d = record {
+  column = q.mergeFrom payload c d;
+  emitted = q.mergeEmitted payload c d;
+  any =
+      q.changesAll payload (q.recorded d) (q.addAll payload (q.emitted d) c);
+}
+
+append-3 : (l u e : List (q.Constraint ℕ)) (c : q.ColumnConstraints ℕ) → q.addAll payload (l ++ (u ++ e)) c ≡
+    q.addAll payload e (q.addAll payload u (q.addAll payload l c))
+append-3 l u e c = all-append l (u ++ e) c ∙ all-append u e (q.addAll payload l c)
+
+changes-3 : (l u e : List (q.Constraint ℕ)) (c : q.ColumnConstraints ℕ) → q.changesAll payload (l ++ (u ++ e)) c ≡
+    ((q.changesAll payload l c || q.changesAll payload u (q.addAll payload l c)) || q.changesAll payload e
+    (q.addAll payload u (q.addAll payload l c)))
+changes-3 l u e c = changes-append l (u ++ e) c ∙ ap (λ b. q.changesAll payload l c || b)
+    (changes-append u e (q.addAll payload l c)) ∙
+    sym (or-assoc (q.changesAll payload l c) (q.changesAll payload u (q.addAll payload l c))
+    (q.changesAll payload e (q.addAll payload u (q.addAll payload l c))))
+
+told-whole : (c d : q.ColumnConstraints ℕ) → told (atUpper (d .upper) (atLower (d .lower) (mergeStart c)))
+    (d .excluded) (d .allowed) (d .disallowed) ≡ wholly c d
+told-whole c d = sym (
+    ap (λ y. record {
+      column = q.addAll payload (q.recorded d) y;
+      emitted = q.mergeEmitted payload c d;
+      any =
+          q.changesAll payload (q.recorded d) y;
+    })
+    (append-3 (q.lowerOf (d .lower)) (q.upperOf (d .upper)) (q.excludedOf (d .excluded)) c)
+    ∙ ap (λ y. record {
+      column = q.addAll payload (q.recorded d)
+          (q.addAll payload (q.excludedOf (d .excluded))
+          (q.addAll payload (q.upperOf (d .upper)) (q.addAll payload (q.lowerOf (d .lower)) c)));
+      emitted = y;
+      any =
+          q.changesAll payload (q.recorded d)
+          (q.addAll payload (q.excludedOf (d .excluded))
+          (q.addAll payload (q.upperOf (d .upper)) (q.addAll payload (q.lowerOf (d .lower)) c)));
+    })
+    (changes-3 (q.lowerOf (d .lower)) (q.upperOf (d .upper)) (q.excludedOf (d .excluded)) c))
+
+pub merge-law : (t : Conjuncts) (c : q.ColumnConstraints ℕ) (d : ColumnConstraints) →
+    takeMarks t (d .marks) (d .len) (takeUpper (boundOf (d .upper)) (takeLower (boundOf (d .lower)) (mergeStart c))) ≡
+    wholly c (columnOf t d)
+merge-law t c d = marks-told t d (takeUpper (boundOf (d .upper)) (takeLower (boundOf (d .lower)) (mergeStart c)))
+    ∙ ap (λ y. told y (columnOf t d .excluded) (columnOf t d .allowed) (columnOf t d .disallowed))
+    (upper-told (boundOf (d .upper)) (takeLower (boundOf (d .lower)) (mergeStart c)) ∙
+    ap (λ y. atUpper (boundOf (d .upper)) y) (lower-told (boundOf (d .lower)) (mergeStart c)))
+    ∙ told-whole c (columnOf t d)
+
+-- ---- the numbers one by one
+pub marks-none : (t : Conjuncts) (a : List ℕ) (m : Merging) → m ≡ takeMarks t a 0 m
+unfolding takeMarks
+marks-none t a m = refl
+
+pub marks-more : (t : Conjuncts) (a : List ℕ) (i : ℕ) (m : Merging) → takeMarks t a (i + 1) m ≡
+    takeMark t (getD a i 0) (takeMarks t a i m)
+unfolding takeMarks
+marks-more t a i m = rw add-one
+
+pub mark-0 : (t : Conjuncts) (j : ℕ) (m : Merging) → getD (t .kinds) j 0 ≡ 0 →
+    emitting (q.Exclude (getD (t .values) j 0)) m ≡ takeMark t j m
+unfolding takeMark
+mark-0 t j m k = rw k
+
+pub mark-1 : (t : Conjuncts) (j : ℕ) (m : Merging) → getD (t .kinds) j 0 ≡ 1 →
+    recording (q.Allow (listOf (t .starts) (t .counts) (t .pool) j)) m ≡ takeMark t j m
+unfolding takeMark
+mark-1 t j m k = rw k
+
+pub mark-2 : (t : Conjuncts) (j : ℕ) (m : Merging) → getD (t .kinds) j 0 ≡ 2 →
+    recording (q.Disallow false (listOf (t .starts) (t .counts) (t .pool) j)) m ≡ takeMark t j m
+unfolding takeMark
+mark-2 t j m k = rw k
+
+pub mark-else : (t : Conjuncts) (j : ℕ) (m : Merging) (k : ℕ) → getD (t .kinds) j 0 ≡ k → (k ≡ 0 → ⊥) → (k ≡ 1 → ⊥) →
+    (k ≡ 2 → ⊥) → m ≡ takeMark t j m
+unfolding takeMark
+mark-else t j m k e x y z = rw (e, ne-eqb k 0 x, ne-eqb k 1 y, ne-eqb k 2 z)

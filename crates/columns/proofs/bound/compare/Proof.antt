@@ -1,0 +1,16 @@
+use Rattle.constraints.specs.Payload.{payload}
+use borrow.Author.Needs.{needs}
+use Rattle.columns.proofs.bound.compare.Statement.{statement}
+use Rattle.columns.proofs.bound.compare.Tie as tie
+
+-- src/bound.rt:23:5
+scalar-cmp-requires : tie.Need-scalar-cmp-requires
+scalar-cmp-requires c κs = search needs
+
+-- src/bound.rt:20:1
+returns : tie.Need-returns
+unfolding payload
+returns c = c .scalar-cmp .ensures
+
+pub compare-spec : {M : Type 1} → statement M
+compare-spec = tie.close (tie.spec scalar-cmp-requires returns)

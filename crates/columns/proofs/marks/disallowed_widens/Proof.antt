@@ -1,0 +1,117 @@
+use Rattle.truth.specs.FromBytes.{valuesFrom}
+use mathlib.Core.Path.{_≡_, sym, _∙_, ap}
+use mathlib.Core.Bool.{false, not}
+use mathlib.Core.List.{List}
+use Prim.Native.Nat.{ℕ, _≤_, _-_}
+use Rattle.constraints.specs.Payload.{payload}
+use Rattle.constraints.specs.Values.{contains}
+use Rattle.columns.specs.Abstraction.{listOf, disallowedBy}
+use Rattle.columns.specs.Steps.{anyOf}
+use Rattle.columns.proofs.Lists.{an-none, an-more, an-found, an-done, widens-any, list-as}
+use borrow.Author.Needs.{needs}
+use Rattle.columns.proofs.marks.disallowed_widens.Statement.{statement}
+use Rattle.columns.proofs.marks.disallowed_widens.Tie as tie
+
+abbrev Inv-loop : tie.InvT-loop
+Inv-loop kinds starts counts pool marks n j s m i₀ i =
+    (i ≤ m) × (anyOf (λ (v : ℕ). not
+    (contains payload (payload .key v) (disallowedBy kinds starts counts pool marks n))) (valuesFrom pool s i) ≡
+    false)
+
+abbrev μ-loop : tie.MeasureT-loop
+μ-loop kinds starts counts pool marks n j s m i₀ i = m - i
+
+number-at-requires : tie.Need-number-at-requires Inv-loop μ-loop
+number-at-requires c κs = search needs
+
+cast-s : tie.Need-cast-s Inv-loop μ-loop
+cast-s c = search needs
+
+number-at-requires-2 : tie.Need-number-at-requires-2 Inv-loop μ-loop
+number-at-requires-2 c κs = search needs
+
+cast-m : tie.Need-cast-m Inv-loop μ-loop
+cast-m c = search needs
+
+loop-holds : tie.Need-loop-holds Inv-loop μ-loop
+loop-holds c = (search needs, an-none _ _ _)
+
+add-value-at : tie.Need-add-value-at Inv-loop μ-loop
+add-value-at c = search needs
+
+value-at-requires : tie.Need-value-at-requires Inv-loop μ-loop
+value-at-requires c κs = search needs
+
+disallows-requires : tie.Need-disallows-requires Inv-loop μ-loop
+disallows-requires c κs = search needs
+
+returns : tie.Need-returns Inv-loop μ-loop
+returns c =
+    let st = c .before .before .before .before .before .before .before .before .before .before .before .before in
+    an-found (λ (v : ℕ). not (contains payload (payload .key v)
+    (disallowedBy (st .args .kinds .now) (st .args .starts .now) (st .args .counts .now) (st .args .pool .now)
+    (st .args .marks .now) (st .args .n)))) _ _ _ _ (c .before .before .before .loop-test .taken)
+    (rw (← c .before .before .value-at .ensures, ← c .before .disallows .ensures) (c .if1 .taken)) ∙
+    ap (λ (l : List ℕ). anyOf (λ (v : ℕ). not
+    (contains payload (payload .key v)
+    (disallowedBy (st .args .kinds .now) (st .args .starts .now) (st .args .counts .now) (st .args .pool .now)
+    (st .args .marks .now) (st .args .n)))) l)
+    (list-as (st .args .starts .now) (st .args .counts .now) (st .args .pool .now) (st .args .j) _ _
+    (c .before .before .before .before .before .before .number-at .ensures)
+    (c .before .before .before .before .before .number-at2 .ensures)) ∙
+    sym (widens-any (listOf (st .args .starts .now) (st .args .counts .now) (st .args .pool .now) (st .args .j))
+    (disallowedBy (st .args .kinds .now) (st .args .starts .now) (st .args .counts .now) (st .args .pool .now)
+    (st .args .marks .now) (st .args .n)))
+
+add-i : tie.Need-add-i Inv-loop μ-loop
+add-i c = search needs
+
+loop-less : tie.Need-loop-less Inv-loop μ-loop
+loop-less c = search needs
+
+loop-again : tie.Need-loop-again Inv-loop μ-loop
+loop-again c =
+    let st = c .before .before .before .before .before .before .before .before .before .before .before .before in (
+      search needs,
+      an-more (λ (v : ℕ). not
+          (contains payload (payload .key v)
+          (disallowedBy (st .args .kinds .now) (st .args .starts .now) (st .args .counts .now) (st .args .pool .now)
+          (st .args .marks .now) (st .args .n)))) _ _ _ (c .before .before .before .before .loop .inv .1)
+          (rw (← c .before .before .value-at .ensures, ← c .before .disallows .ensures) (c .if1 .left)),
+    )
+
+returns-2 : tie.Need-returns-2 Inv-loop μ-loop
+returns-2 c =
+    let st = c .before .before .before .before .before .before .before .before .before in
+    an-done (λ (v : ℕ). not (contains payload (payload .key v)
+    (disallowedBy (st .args .kinds .now) (st .args .starts .now) (st .args .counts .now) (st .args .pool .now)
+    (st .args .marks .now) (st .args .n)))) _ _ _ _ (c .before .loop .inv .0) (c .loop-test .left)
+    (c .before .loop .inv .1) ∙ ap (λ (l : List ℕ). anyOf
+    (λ (v : ℕ). not (contains payload (payload .key v)
+    (disallowedBy (st .args .kinds .now) (st .args .starts .now) (st .args .counts .now) (st .args .pool .now)
+    (st .args .marks .now) (st .args .n)))) l)
+    (list-as (st .args .starts .now) (st .args .counts .now) (st .args .pool .now) (st .args .j) _ _
+    (c .before .before .before .number-at .ensures) (c .before .before .number-at2 .ensures)) ∙
+    sym (widens-any (listOf (st .args .starts .now) (st .args .counts .now) (st .args .pool .now) (st .args .j))
+    (disallowedBy (st .args .kinds .now) (st .args .starts .now) (st .args .counts .now) (st .args .pool .now)
+    (st .args .marks .now) (st .args .n)))
+
+pub disallowed-widens-spec : {M : Type 1} → statement M
+disallowed-widens-spec =
+    tie.close
+    (tie.spec
+    Inv-loop
+    μ-loop
+    number-at-requires
+    cast-s
+    number-at-requires-2
+    cast-m
+    loop-holds
+    add-value-at
+    value-at-requires
+    disallows-requires
+    returns
+    add-i
+    loop-less
+    loop-again
+    returns-2)

@@ -1,0 +1,45 @@
+use Prim.Native.Nat.{_-_}
+use borrow.Author.Needs.{needs}
+use Rattle.columns.proofs.resolve.fixed_disallowed.Statement.{statement}
+use Rattle.columns.proofs.resolve.fixed_disallowed.Tie as tie
+
+fixed-value-requires : tie.Need-fixed-value-requires
+fixed-value-requires c κs = search needs
+
+enum-told : tie.Need-enum-told
+enum-told c = search needs
+
+enum-known-f : tie.Need-enum-known-f
+enum-known-f c = search needs
+
+slice-aggregate-disallows : tie.Need-slice-aggregate-disallows
+slice-aggregate-disallows c = search
+    (needs, c .before .before .before .before .before .before .before .before .before .before .good .1 .1 .1 .1 .0)
+
+disallows-requires : tie.Need-disallows-requires
+disallows-requires c κs = search needs
+
+returns : tie.Need-returns
+returns c = λ t e. rw (← c .before .before .fixed-value .ensures t, c .enum-told .given .1)
+
+returns-2 : tie.Need-returns-2
+returns-2 c = λ t e. rw (
+  ← c .before .before .before .before .before .fixed-value .ensures t,
+  c .before .before .before .f .given .1,
+  e .0,
+  e .1,
+  e .2,
+  e .3,
+) (c .disallows .ensures)
+
+pub fixed-disallowed-spec : {M : Type 1} → statement M
+fixed-disallowed-spec =
+    tie.close
+    (tie.spec
+    fixed-value-requires
+    enum-told
+    enum-known-f
+    slice-aggregate-disallows
+    disallows-requires
+    returns
+    returns-2)

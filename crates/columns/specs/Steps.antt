@@ -1,0 +1,135 @@
+-- One number of a conjunct after the other: what the loops over a column's numbers compute, as folds. The laws that
+-- these are the definitions of Column, Resolve and Comparisons are in proofs/.
+use Prim.Native.Nat.{ℕ, zero, suc, _+_, _-_}
+use mathlib.Core.Bool.{Bool, false, not, cond, _&&_, _||_}
+use mathlib.Core.Path.{_≡_}
+use mathlib.Core.List.{List, [], _∷_, _++_}
+use mathlib.Core.Option.{Option, none, some}
+use lib.ListN.{getD}
+use lib.Dec.{eqb}
+use Rattle.constraints.specs.Bound as b
+use Rattle.constraints.specs.Values.{contains}
+use Rattle.constraints.specs.Column as q
+use Rattle.constraints.specs.Resolve as z
+use Rattle.constraints.specs.Comparisons as e
+use Rattle.constraints.specs.Payload.{payload}
+use Rattle.columns.specs.Abstraction.{Conjuncts, columnOf, boundOf, ofKind, listOf}
+use Rattle.constraints.specs.declared.column.ExcludedResolution.{ExcludedResolution}
+use Rattle.constraints.specs.declared.column.ExcludedResolution.the-variants.{Drop, Keep, TightenLower}
+use Rattle.constraints.specs.declared.column.ExcludedResolution.the-variants.{TightenUpper}
+use Rattle.columns.specs.declared.column.ColumnConstraints.{ColumnConstraints}
+use Rattle.columns.specs.declared.merging.Merged.{Merged}
+
+-- The tables that a function which reads lists is lent.
+abbrev pub Lists : Conjuncts → List ℕ → List ℕ → List ℕ → List ℕ → Type 0
+Lists t kinds starts counts pool =
+    (t .kinds ≡ kinds) × (t .starts ≡ starts) × (t .counts ≡ counts) × (t .pool ≡ pool)
+
+-- Is some number of kind k among n of them.
+unfoldable pub anyOfKind : List ℕ → ℕ → List ℕ → ℕ → Bool
+anyOfKind kinds k a zero = false
+anyOfKind kinds k a (suc n) = anyOfKind kinds k a n || ofKind kinds k (getD a n 0)
+
+-- Does p hold of some value of the list.
+abbrev pub anyOf : (ℕ → Bool) → List ℕ → Bool
+anyOf p [] = false
+anyOf p (v ∷ l) = p v || anyOf p l
+
+-- A value that every allowed list has and the list l has not.
+abbrev pub outside : Option (List ℕ) → List ℕ → ℕ → Bool
+outside o l v = z.isAllowed payload o (payload .key v) && not (contains payload (payload .key v) l)
+
+-- ---- merging
+pub record Merging : Type 0 where
+  pub column : q.ColumnConstraints ℕ
+  pub emitted : Bool
+  pub any : Bool
+
+abbrev pub mergingOf : Conjuncts → Merged → Merging
+mergingOf t m = record { column = columnOf t (m .column); emitted = m .emitted; any = m .any }
+
+abbrev pub changesIn : q.Constraint ℕ → q.ColumnConstraints ℕ → Bool
+changesIn a cc = q.changesBy payload (cc .unsat) a cc
+
+-- A constraint that is written out again, and one that is only recorded.
+abbrev pub emitting : q.Constraint ℕ → Merging → Merging
+emitting a m =
+    record { column = q.add payload a (m .column); emitted = m .emitted || changesIn a (m .column); any = m .any }
+
+abbrev pub recording : q.Constraint ℕ → Merging → Merging
+recording a m =
+    record { column = q.add payload a (m .column); emitted = m .emitted; any = m .any || changesIn a (m .column) }
+
+abbrev pub takeLower : b.Bound ℕ → Merging → Merging
+takeLower b.absent m = m
+takeLower (b.at inclusive v) m = emitting (q.Lower inclusive v) m
+
+abbrev pub takeUpper : b.Bound ℕ → Merging → Merging
+takeUpper b.absent m = m
+takeUpper (b.at inclusive v) m = emitting (q.Upper inclusive v) m
+
+unfoldable pub takeMark : Conjuncts → ℕ → Merging → Merging
+takeMark t j m =
+    cond (ofKind (t .kinds) 0 j) (emitting (q.Exclude (getD (t .values) j 0)) m)
+    (cond (ofKind (t .kinds) 1 j) (recording (q.Allow (listOf (t .starts) (t .counts) (t .pool) j)) m)
+    (cond (ofKind (t .kinds) 2 j) (recording (q.Disallow false (listOf (t .starts) (t .counts) (t .pool) j)) m) m))
+
+unfoldable pub takeMarks : Conjuncts → List ℕ → ℕ → Merging → Merging
+takeMarks t a zero m = m
+takeMarks t a (suc n) m = takeMark t (getD a n 0) (takeMarks t a n m)
+
+-- ---- resolving The column with its bounds compared.
+abbrev pub consistent : q.ColumnConstraints ℕ → q.ColumnConstraints ℕ
+consistent cc = q.setUnsat (cc .unsat || b.crosses payload (cc .lower) (cc .upper)) cc
+
+abbrev pub applyBy : ExcludedResolution → ℕ → q.ColumnConstraints ℕ → q.ColumnConstraints ℕ
+applyBy Drop v cc = cc
+applyBy Keep v cc = q.put payload (q.Exclude v) cc
+applyBy TightenLower v cc = q.setLower (b.at false v) cc
+applyBy TightenUpper v cc = q.setUpper (b.at false v) cc
+
+abbrev pub applyExcluded : ℕ → q.ColumnConstraints ℕ → q.ColumnConstraints ℕ
+applyExcluded v cc = applyBy (z.classifyExcluded payload cc v) v cc
+
+abbrev pub stepExcluded : ℕ → q.ColumnConstraints ℕ → q.ColumnConstraints ℕ
+stepExcluded v cc = cond (cc .unsat) cc (consistent (applyExcluded v cc))
+
+unfoldable pub stepMark : Conjuncts → ℕ → q.ColumnConstraints ℕ → q.ColumnConstraints ℕ
+stepMark t j cc =
+    cond (ofKind (t .kinds) 0 j) (stepExcluded (getD (t .values) j 0) cc)
+    (cond (ofKind (t .kinds) 1 j) (q.put payload (q.Allow (listOf (t .starts) (t .counts) (t .pool) j)) cc)
+    (cond (ofKind (t .kinds) 2 j) (q.put payload (q.Disallow false (listOf (t .starts) (t .counts) (t .pool) j)) cc)
+    cc))
+
+unfoldable pub stepMarks : Conjuncts → List ℕ → ℕ → q.ColumnConstraints ℕ → q.ColumnConstraints ℕ
+stepMarks t a zero cc = cc
+stepMarks t a (suc n) cc = stepMark t (getD a n 0) (stepMarks t a n cc)
+
+-- Where the walk over the numbers begins: the bounds alone.
+abbrev pub begun : q.ColumnConstraints ℕ → q.ColumnConstraints ℕ
+begun cc = q.column (cc .lower) (cc .upper) [] none [] (cc .strict) (cc .nullability) false
+
+-- ---- what is written out, by places: 0 the lower bound or the fixed value, 1 the upper bound, 2 + i the number i
+abbrev pub placedMark : List ℕ → List ℕ → ℕ → List (e.ColumnComparison ℕ)
+placedMark kinds values j = cond (ofKind kinds 0 j) (e.IsNotEq (getD values j 0) ∷ []) []
+
+abbrev pub placedFree : Conjuncts → ColumnConstraints → ℕ → List (e.ColumnComparison ℕ)
+placedFree t c p =
+    cond (eqb p 0) (e.lowerComparison (boundOf (c .lower)))
+    (cond (eqb p 1) (e.upperComparison (boundOf (c .upper)))
+    (placedMark (t .kinds) (t .values) (getD (c .marks) (p - 2) 0)))
+
+abbrev pub placedPoint : ℕ → ℕ → List (e.ColumnComparison ℕ)
+placedPoint v p = cond (eqb p 0) (e.IsEq v ∷ []) []
+
+abbrev pub placedBy : Option ℕ → Conjuncts → ColumnConstraints → ℕ → List (e.ColumnComparison ℕ)
+placedBy none t c p = placedFree t c p
+placedBy (some v) t c p = placedPoint v p
+
+unfoldable pub placed : Conjuncts → ColumnConstraints → ℕ → List (e.ColumnComparison ℕ)
+placed t c p = placedBy (z.fixedAt payload (boundOf (c .lower)) (boundOf (c .upper))) t c p
+
+-- The comparisons at the places below p.
+unfoldable pub placedTo : Conjuncts → ColumnConstraints → ℕ → List (e.ColumnComparison ℕ)
+placedTo t c zero = []
+placedTo t c (suc p) = placedTo t c p ++ placed t c p

@@ -1,0 +1,140 @@
+// The comparisons that a resolved column is written out as, by places: 0 the lower bound (or the one value), 1 the
+// upper bound, 2 + i the number i of the column. A place may be vacant. Places one after the other are the comparisons
+// in their order (`places-law`), so that whoever writes them out needs no array of them.
+ghost use mathlib.Core.Path.{_≡_};
+ghost use mathlib.Core.Bool.{cond};
+ghost use mathlib.Core.List.{List};
+ghost use Prim.Native.Nat.{ℕ, _+_};
+ghost use lib.ListN.{length};
+ghost use Rattle.constraints.specs.Comparisons.{lowerComparison, upperComparison, collectColumnComparisons};
+ghost use Rattle.constraints.specs.Payload.{payload};
+ghost use Rattle.columns.specs.Abstraction.{Conjuncts, columnOf, boundOf, excludedBy, comparedOf, Fine};
+ghost use Rattle.columns.specs.Steps.{placedMark, placedFree, placedPoint, placed};
+use crate::bound::Bound;
+use crate::bound::is_absent;
+use crate::column::ColumnConstraints;
+use crate::marks::literal_at;
+use crate::resolve::FixedValue;
+use crate::resolve::fixed_value;
+use records::bytes::byte;
+use truth::scalar::Scalar;
+
+/// One place of a column.
+pub enum Compared {
+    Vacant,
+    Eq(Scalar),
+    Gt(Scalar),
+    GtEq(Scalar),
+    Lt(Scalar),
+    LtEq(Scalar),
+    NotEq(Scalar),
+}
+
+fn at_lower(l: Bound) -> Compared
+    ensures { λ r. ⌜ comparedOf r ≡ lowerComparison (boundOf l) ⌝ }
+{
+    match l {
+        Bound::Absent => Compared::Vacant,
+        Bound::Open(v) => Compared::Gt(v),
+        Bound::Closed(v) => Compared::GtEq(v),
+    }
+}
+
+fn at_upper(u: Bound) -> Compared
+    ensures { λ r. ⌜ comparedOf r ≡ upperComparison (boundOf u) ⌝ }
+{
+    match u {
+        Bound::Absent => Compared::Vacant,
+        Bound::Open(v) => Compared::Lt(v),
+        Bound::Closed(v) => Compared::LtEq(v),
+    }
+}
+
+fn at_mark(kinds: &[u8], values: &[u64], j: u8) -> Compared
+    ensures { λ r. ⌜ comparedOf r ≡ placedMark (now (kinds .entry)) (now (values .entry)) j ⌝ }
+{
+    let v = literal_at(values, j);
+    if byte(kinds, j as usize) == 0 {
+        return Compared::NotEq(v);
+    }
+    Compared::Vacant
+}
+
+// A column that no value pins.
+fn at_place(kinds: &[u8], values: &[u64], c: ColumnConstraints, p: usize) -> Compared
+    ensures { λ r. ⌜ ((t : Conjuncts) → t .kinds ≡ now (kinds .entry) → t .values ≡ now (values .entry) →
+        comparedOf r ≡ placedFree t c p) ⌝ }
+{
+    if p == 0 {
+        let low = c.lower;
+        return at_lower(low);
+    }
+    if p == 1 {
+        let upp = c.upper;
+        return at_upper(upp);
+    }
+    let mks = c.marks;
+    at_mark(kinds, values, byte(&mks, p - 2))
+}
+
+/// The comparison at place p. The places are those below `places`.
+pub fn comparison_at(kinds: &[u8], values: &[u64], c: ColumnConstraints, p: usize) -> Compared
+    ensures { λ r. ⌜ ((t : Conjuncts) → t .kinds ≡ now (kinds .entry) → t .values ≡ now (values .entry) →
+        comparedOf r ≡ placed t c p) ⌝ }
+{
+    let f = fixed_value(c);
+    match f {
+        FixedValue::Nothing => at_place(kinds, values, c, p),
+        FixedValue::At(v) => at_point(v, p),
+    }
+}
+
+fn at_point(v: Scalar, p: usize) -> Compared
+    ensures { λ r. ⌜ comparedOf r ≡ placedPoint (v .0) p ⌝ }
+{
+    if p == 0 {
+        return Compared::Eq(v);
+    }
+    Compared::Vacant
+}
+
+fn excluded_count(kinds: &[u8], marks: &[u8], n: usize) -> usize
+    ensures { λ r. ⌜ ((vs : List ℕ) → r ≡ length (excludedBy (now (kinds .entry)) vs (now (marks .entry)) n)) ⌝ }
+{
+    let mut m: usize = 0;
+    let mut i: usize = 0;
+    while i < n {
+        let j = byte(marks, i);
+        m = m + counted(byte(kinds, j as usize) == 0);
+        i += 1;
+    }
+    m
+}
+
+fn counted(b: bool) -> usize
+    ensures { λ r. ⌜ r ≡ cond b 1 0 ⌝ }
+{
+    if b {
+        return 1;
+    }
+    0
+}
+
+/// How many comparisons the column is written out as.
+pub fn comparison_count(kinds: &[u8], c: ColumnConstraints) -> usize
+    requires { ⌜ Fine (c .marks) (c .len) ⌝ }
+    ensures { λ r. ⌜ ((t : Conjuncts) → t .kinds ≡ now (kinds .entry) →
+        r ≡ length (collectColumnComparisons payload (columnOf t c))) ⌝ }
+{
+    let low = c.lower;
+    let upp = c.upper;
+    let mks = c.marks;
+    let f = fixed_value(c);
+    match f {
+        FixedValue::Nothing => {
+            let n = excluded_count(kinds, &mks, c.len);
+            counted(!is_absent(low)) + (counted(!is_absent(upp)) + n)
+        }
+        FixedValue::At(_) => 1,
+    }
+}

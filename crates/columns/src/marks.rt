@@ -1,0 +1,540 @@
+// The three sets of a column. A number of a conjunct stands for its literal or for its list; the tables `kinds`,
+// `values`, `starts`, `counts` give each conjunct's kind, literal and part of the pool, and a read past a table's end
+// is 0. Kinds: 0 excludes its literal, 1 allows its list, 2 disallows its list; another kind gives nothing.
+ghost use mathlib.Core.Path.{_≡_};
+ghost use mathlib.Core.Bool.{Bool, true, false, not, _&&_};
+ghost use mathlib.Core.List.{[]};
+ghost use lib.Dec.{eqb};
+ghost use Prim.Native.Nat.{ℕ, _+_, _<_, _≤_};
+ghost use lib.ListN.{length, getD, set};
+ghost use Rattle.truth.specs.FromBytes.{valuesFrom};
+ghost use Rattle.truth.specs.Order.{isEqual};
+ghost use Rattle.constraints.specs.Scalars.{scalarCmp};
+ghost use Rattle.constraints.specs.Values.{contains, subset};
+ghost use Rattle.constraints.specs.Column as q;
+ghost use Rattle.constraints.specs.Resolve.{isAllowed, isFeasible, anyFeasible, allowedFeasible};
+ghost use Rattle.constraints.specs.Payload.{payload};
+ghost use Rattle.columns.specs.Abstraction.{Conjuncts, conjuncts, columnOf, listOf, ofKind};
+ghost use Rattle.columns.specs.Abstraction.{excludedBy, allowedBy, disallowedBy, marked, Fine, pushed};
+ghost use Rattle.columns.specs.Steps.{Lists, outside, anyOf, changesIn, anyOfKind};
+use crate::bound::clears_lower;
+use crate::bound::clears_upper;
+use crate::bound::same;
+use crate::column::ColumnConstraints;
+use records::bytes::byte;
+use records::bytes::value_at;
+use truth::scalar::Scalar;
+
+fn number_at(words: &[u32], i: usize) -> u32
+    ensures { λ r. ⌜ r ≡ getD (now (words .entry)) i 0 ⌝ }
+{
+    if i < words.len() {
+        return words[i];
+    }
+    0
+}
+
+fn word_at(words: &[u64], i: usize) -> u64
+    ensures { λ r. ⌜ r ≡ getD (now (words .entry)) i 0 ⌝ }
+{
+    if i < words.len() {
+        return words[i];
+    }
+    0
+}
+
+pub fn literal_at(values: &[u64], j: u8) -> Scalar
+    ensures { λ r. ⌜ r .0 ≡ getD (now (values .entry)) j 0 ⌝ }
+{
+    Scalar(word_at(values, j as usize))
+}
+
+// ---- membership
+
+fn is_excluded_by(kinds: &[u8], values: &[u64], j: u8, v: Scalar) -> bool
+    ensures { λ r. ⌜ r ≡ (ofKind (now (kinds .entry)) 0 j && isEqual
+        (scalarCmp payload (v .0) (getD (now (values .entry)) j 0))) ⌝ }
+{
+    let w = literal_at(values, j);
+    (byte(kinds, j as usize) == 0) & same(v, w)
+}
+
+/// Is v an excluded value.
+pub fn excludes(kinds: &[u8], values: &[u64], marks: &[u8], n: usize, v: Scalar) -> bool
+    ensures { λ r. ⌜ r ≡ contains payload (payload .key (v .0)) (excludedBy (now (kinds .entry)) (now (values .entry))
+        (now (marks .entry)) n) ⌝ }
+{
+    let mut i: usize = 0;
+    while i < n {
+        let j = byte(marks, i);
+        if is_excluded_by(kinds, values, j, v) {
+            return true;
+        }
+        i += 1;
+    }
+    false
+}
+
+fn in_list(pool: &[u8], start: u32, count: u32, v: Scalar) -> bool
+    ensures { λ r. ⌜ r ≡ contains payload (payload .key (v .0)) (valuesFrom (now (pool .entry)) start count) ⌝ }
+{
+    let s = start as usize;
+    let n = count as usize;
+    let mut i: usize = 0;
+    while i < n {
+        let w = Scalar(value_at(pool, s + i));
+        if same(v, w) {
+            return true;
+        }
+        i += 1;
+    }
+    false
+}
+
+/// Is v in the list of conjunct j.
+pub fn listed(starts: &[u32], counts: &[u32], pool: &[u8], j: u8, v: Scalar) -> bool
+    ensures { λ r. ⌜ r ≡ contains payload (payload .key (v .0)) (listOf (now (starts .entry)) (now (counts .entry))
+        (now (pool .entry)) j) ⌝ }
+{
+    let s = number_at(starts, j as usize);
+    let n = number_at(counts, j as usize);
+    in_list(pool, s, n, v)
+}
+
+fn is_disallowed_by(
+    kinds: &[u8],
+    starts: &[u32],
+    counts: &[u32],
+    pool: &[u8],
+    j: u8,
+    v: Scalar,
+) -> bool
+    ensures { λ r. ⌜ r ≡ (ofKind (now (kinds .entry)) 2 j && contains payload (payload .key (v .0))
+        (listOf (now (starts .entry)) (now (counts .entry)) (now (pool .entry)) j)) ⌝ }
+{
+    let h = listed(starts, counts, pool, j, v);
+    (byte(kinds, j as usize) == 2) & h
+}
+
+/// Is v a disallowed value.
+pub fn disallows(
+    kinds: &[u8],
+    starts: &[u32],
+    counts: &[u32],
+    pool: &[u8],
+    marks: &[u8],
+    n: usize,
+    v: Scalar,
+) -> bool
+    ensures { λ r. ⌜ r ≡ contains payload (payload .key (v .0))
+        (disallowedBy (now (kinds .entry)) (now (starts .entry)) (now (counts .entry)) (now (pool .entry))
+        (now (marks .entry)) n) ⌝ }
+{
+    let mut i: usize = 0;
+    while i < n {
+        let j = byte(marks, i);
+        if is_disallowed_by(kinds, starts, counts, pool, j, v) {
+            return true;
+        }
+        i += 1;
+    }
+    false
+}
+
+fn is_barred_by(kinds: &[u8], starts: &[u32], counts: &[u32], pool: &[u8], j: u8, v: Scalar) -> bool
+    ensures { λ r. ⌜ r ≡ (ofKind (now (kinds .entry)) 1 j && not (contains payload (payload .key (v .0))
+        (listOf (now (starts .entry)) (now (counts .entry)) (now (pool .entry)) j))) ⌝ }
+{
+    let h = listed(starts, counts, pool, j, v);
+    (byte(kinds, j as usize) == 1) & !h
+}
+
+/// Is v in every allowed list.
+pub fn allows(
+    kinds: &[u8],
+    starts: &[u32],
+    counts: &[u32],
+    pool: &[u8],
+    marks: &[u8],
+    n: usize,
+    v: Scalar,
+) -> bool
+    ensures { λ r. ⌜ r ≡ isAllowed payload (allowedBy (now (kinds .entry)) (now (starts .entry)) (now (counts .entry))
+        (now (pool .entry)) (now (marks .entry)) n) (payload .key (v .0)) ⌝ }
+{
+    let mut i: usize = 0;
+    while i < n {
+        let j = byte(marks, i);
+        if is_barred_by(kinds, starts, counts, pool, j, v) {
+            return false;
+        }
+        i += 1;
+    }
+    true
+}
+
+fn has_mark(marks: &[u8], n: usize, j: u8) -> bool
+    ensures { λ r. ⌜ r ≡ marked (now (marks .entry)) n j ⌝ }
+{
+    let mut i: usize = 0;
+    while i < n {
+        let m = byte(marks, i);
+        if m == j {
+            return true;
+        }
+        i += 1;
+    }
+    false
+}
+
+// ---- adding
+
+fn push(mut c: ColumnConstraints, j: u8) -> ColumnConstraints
+    requires { ⌜ c .len < 128 ⌝ }
+    ensures { λ r. ⌜ r ≡ pushed c j ⌝ }
+{
+    let n = c.len;
+    c.marks[n] = j;
+    c.len = n + 1;
+    c
+}
+
+/// The literal of conjunct j as an excluded value, if it is a new one; to an impossible column too.
+pub fn insert_excluded(
+    kinds: &[u8],
+    values: &[u64],
+    c: ColumnConstraints,
+    j: u8,
+) -> ColumnConstraints
+    requires { ⌜ Fine (c .marks) (c .len) × (j < 128) × (getD (now kinds) j 0 ≡ 0) ⌝ }
+    ensures { λ r. ⌜ ((t : Conjuncts) → t .kinds ≡ now (kinds .entry) → t .values ≡ now (values .entry) →
+        columnOf t r ≡ q.put payload (q.Exclude (getD (now (values .entry)) j 0)) (columnOf t c)) ⌝ }
+    ensures { λ r. ⌜ Fine (r .marks) (r .len) ⌝ }
+{
+    let mks = c.marks;
+    let v = literal_at(values, j);
+    if excludes(kinds, values, &mks, c.len, v) {
+        return c;
+    }
+    push(c, j)
+}
+
+pub fn add_excluded(kinds: &[u8], values: &[u64], c: ColumnConstraints, j: u8) -> ColumnConstraints
+    requires { ⌜ Fine (c .marks) (c .len) × (j < 128) × (getD (now kinds) j 0 ≡ 0) ⌝ }
+    ensures { λ r. ⌜ ((t : Conjuncts) → t .kinds ≡ now (kinds .entry) → t .values ≡ now (values .entry) →
+        columnOf t r ≡ q.addExcluded payload (getD (now (values .entry)) j 0) (columnOf t c)) ⌝ }
+    ensures { λ r. ⌜ Fine (r .marks) (r .len) ⌝ }
+{
+    if c.unsat {
+        return c;
+    }
+    insert_excluded(kinds, values, c, j)
+}
+
+/// The list of conjunct j, allowed or disallowed by its kind; to an impossible column too. No list is read.
+pub fn insert_list(c: ColumnConstraints, j: u8) -> ColumnConstraints
+    requires { ⌜ Fine (c .marks) (c .len) × (j < 128) ⌝ }
+    ensures { λ r. ⌜ ((t : Conjuncts) → getD (t .kinds) j 0 ≡ 1 →
+        columnOf t r ≡ q.put payload (q.Allow (listOf (t .starts) (t .counts) (t .pool) j)) (columnOf t c)) ⌝ }
+    ensures { λ r. ⌜ ((t : Conjuncts) → getD (t .kinds) j 0 ≡ 2 →
+        columnOf t r ≡ q.put payload (q.Disallow false (listOf (t .starts) (t .counts) (t .pool) j))
+        (columnOf t c)) ⌝ }
+    ensures { λ r. ⌜ Fine (r .marks) (r .len) ⌝ }
+{
+    let mks = c.marks;
+    if has_mark(&mks, c.len, j) {
+        return c;
+    }
+    push(c, j)
+}
+
+pub fn add_allowed(c: ColumnConstraints, j: u8) -> ColumnConstraints
+    requires { ⌜ Fine (c .marks) (c .len) × (j < 128) ⌝ }
+    ensures { λ r. ⌜ ((t : Conjuncts) → getD (t .kinds) j 0 ≡ 1 →
+        columnOf t r ≡ q.addAllowed payload (listOf (t .starts) (t .counts) (t .pool) j) (columnOf t c)) ⌝ }
+    ensures { λ r. ⌜ Fine (r .marks) (r .len) ⌝ }
+{
+    if c.unsat {
+        return c;
+    }
+    insert_list(c, j)
+}
+
+/// `strict`: the negated is_in drops nulls, so that a value of it counts as a value constraint.
+pub fn add_disallowed(
+    counts: &[u32],
+    c: ColumnConstraints,
+    j: u8,
+    strict: bool,
+) -> ColumnConstraints
+    requires { ⌜ Fine (c .marks) (c .len) × (j < 128) ⌝ }
+    ensures { λ r. ⌜ ((t : Conjuncts) → t .counts ≡ now (counts .entry) → getD (t .kinds) j 0 ≡ 2 →
+        columnOf t r ≡ q.addDisallowed payload strict (listOf (t .starts) (t .counts) (t .pool) j) (columnOf t c)) ⌝ }
+    ensures { λ r. ⌜ Fine (r .marks) (r .len) ⌝ }
+{
+    if c.unsat {
+        return c;
+    }
+    let mut d = insert_list(c, j);
+    d.strict = d.strict | (strict & (0 < number_at(counts, j as usize)));
+    d
+}
+
+// ---- whether an addition changes the column
+
+pub fn excluded_changes(kinds: &[u8], values: &[u64], c: ColumnConstraints, j: u8) -> bool
+    ensures { λ r. ⌜ ((t : Conjuncts) → t .kinds ≡ now (kinds .entry) → t .values ≡ now (values .entry) →
+        r ≡ changesIn (q.Exclude (getD (now (values .entry)) j 0)) (columnOf t c)) ⌝ }
+{
+    if c.unsat {
+        return false;
+    }
+    let mks = c.marks;
+    let v = literal_at(values, j);
+    !excludes(kinds, values, &mks, c.len, v)
+}
+
+fn is_outside(
+    kinds: &[u8],
+    starts: &[u32],
+    counts: &[u32],
+    pool: &[u8],
+    marks: &[u8],
+    n: usize,
+    j: u8,
+    v: Scalar,
+) -> bool
+    ensures { λ r. ⌜ r ≡ outside (allowedBy (now (kinds .entry)) (now (starts .entry)) (now (counts .entry))
+        (now (pool .entry)) (now (marks .entry)) n) (listOf (now (starts .entry)) (now (counts .entry))
+        (now (pool .entry)) j) (v .0) ⌝ }
+{
+    let h = listed(starts, counts, pool, j, v);
+    allows(kinds, starts, counts, pool, marks, n, v) & !h
+}
+
+// Has the list of f, one of the allowed ones, a value in all of them that is not in the list of j.
+fn any_outside(
+    kinds: &[u8],
+    starts: &[u32],
+    counts: &[u32],
+    pool: &[u8],
+    marks: &[u8],
+    n: usize,
+    f: u8,
+    j: u8,
+) -> bool
+    ensures { λ r. ⌜ r ≡ anyOf (λ (v : ℕ). outside (allowedBy (now (kinds .entry)) (now (starts .entry))
+        (now (counts .entry)) (now (pool .entry)) (now (marks .entry)) n)
+        (listOf (now (starts .entry)) (now (counts .entry)) (now (pool .entry)) j) v)
+        (listOf (now (starts .entry)) (now (counts .entry)) (now (pool .entry)) f) ⌝ }
+{
+    let s = number_at(starts, f as usize) as usize;
+    let m = number_at(counts, f as usize) as usize;
+    let mut i: usize = 0;
+    while i < m {
+        let v = Scalar(value_at(pool, s + i));
+        if is_outside(kinds, starts, counts, pool, marks, n, j, v) {
+            return true;
+        }
+        i += 1;
+    }
+    false
+}
+
+// Is some value that every allowed list has not in the list of j. With no allowed list yet, the list itself is news.
+fn allowed_narrows(
+    kinds: &[u8],
+    starts: &[u32],
+    counts: &[u32],
+    pool: &[u8],
+    marks: &[u8],
+    n: usize,
+    j: u8,
+) -> bool
+    ensures { λ r. ⌜ r ≡ q.allowedChanges payload (allowedBy (now (kinds .entry)) (now (starts .entry))
+        (now (counts .entry)) (now (pool .entry)) (now (marks .entry)) n)
+        (listOf (now (starts .entry)) (now (counts .entry)) (now (pool .entry)) j) ⌝ }
+{
+    let mut i: usize = 0;
+    while i < n {
+        let f = byte(marks, i);
+        if byte(kinds, f as usize) == 1 {
+            return any_outside(kinds, starts, counts, pool, marks, n, f, j);
+        }
+        i += 1;
+    }
+    true
+}
+
+pub fn allowed_changes(
+    kinds: &[u8],
+    starts: &[u32],
+    counts: &[u32],
+    pool: &[u8],
+    c: ColumnConstraints,
+    j: u8,
+) -> bool
+    requires { ⌜ getD (now kinds) j 0 ≡ 1 ⌝ }
+    ensures { λ r. ⌜ ((t : Conjuncts) → Lists t (now (kinds .entry)) (now (starts .entry)) (now (counts .entry))
+        (now (pool .entry)) → r ≡ changesIn (q.Allow (listOf (t .starts) (t .counts) (t .pool) j)) (columnOf t c)) ⌝ }
+{
+    if c.unsat {
+        return false;
+    }
+    let mks = c.marks;
+    if has_mark(&mks, c.len, j) {
+        return false;
+    }
+    allowed_narrows(kinds, starts, counts, pool, &mks, c.len, j)
+}
+
+// Has the list of j a value that is not disallowed yet.
+fn disallowed_widens(
+    kinds: &[u8],
+    starts: &[u32],
+    counts: &[u32],
+    pool: &[u8],
+    marks: &[u8],
+    n: usize,
+    j: u8,
+) -> bool
+    ensures { λ r. ⌜ r ≡ not (subset payload (listOf (now (starts .entry)) (now (counts .entry)) (now (pool .entry))
+        j) (disallowedBy (now (kinds .entry)) (now (starts .entry)) (now (counts .entry)) (now (pool .entry))
+        (now (marks .entry)) n)) ⌝ }
+{
+    let s = number_at(starts, j as usize) as usize;
+    let m = number_at(counts, j as usize) as usize;
+    let mut i: usize = 0;
+    while i < m {
+        let v = Scalar(value_at(pool, s + i));
+        if !disallows(kinds, starts, counts, pool, marks, n, v) {
+            return true;
+        }
+        i += 1;
+    }
+    false
+}
+
+pub fn disallowed_changes(
+    kinds: &[u8],
+    starts: &[u32],
+    counts: &[u32],
+    pool: &[u8],
+    c: ColumnConstraints,
+    j: u8,
+) -> bool
+    requires { ⌜ getD (now kinds) j 0 ≡ 2 ⌝ }
+    ensures { λ r. ⌜ ((t : Conjuncts) → Lists t (now (kinds .entry)) (now (starts .entry)) (now (counts .entry))
+        (now (pool .entry)) → r ≡ changesIn (q.Disallow false (listOf (t .starts) (t .counts) (t .pool) j))
+        (columnOf t c)) ⌝ }
+{
+    if c.unsat {
+        return false;
+    }
+    let mks = c.marks;
+    if has_mark(&mks, c.len, j) {
+        return false;
+    }
+    disallowed_widens(kinds, starts, counts, pool, &mks, c.len, j)
+}
+
+// ---- feasible values
+
+/// Does v survive the bounds and the three sets.
+pub fn is_feasible(
+    kinds: &[u8],
+    values: &[u64],
+    starts: &[u32],
+    counts: &[u32],
+    pool: &[u8],
+    c: ColumnConstraints,
+    v: Scalar,
+) -> bool
+    ensures { λ r. ⌜ r ≡ isFeasible payload (columnOf (conjuncts (now (kinds .entry)) (now (values .entry))
+        (now (starts .entry)) (now (counts .entry)) (now (pool .entry))) c) (payload .key (v .0)) ⌝ }
+{
+    let low = c.lower;
+    if !clears_lower(low, v) {
+        return false;
+    }
+    let upp = c.upper;
+    if !clears_upper(upp, v) {
+        return false;
+    }
+    let mks = c.marks;
+    if excludes(kinds, values, &mks, c.len, v) {
+        return false;
+    }
+    if !allows(kinds, starts, counts, pool, &mks, c.len, v) {
+        return false;
+    }
+    !disallows(kinds, starts, counts, pool, &mks, c.len, v)
+}
+
+// Is some value of the list of f feasible.
+fn any_feasible(
+    kinds: &[u8],
+    values: &[u64],
+    starts: &[u32],
+    counts: &[u32],
+    pool: &[u8],
+    c: ColumnConstraints,
+    f: u8,
+) -> bool
+    ensures { λ r. ⌜ r ≡ anyFeasible payload (columnOf (conjuncts (now (kinds .entry)) (now (values .entry))
+        (now (starts .entry)) (now (counts .entry)) (now (pool .entry))) c)
+        (listOf (now (starts .entry)) (now (counts .entry)) (now (pool .entry)) f) ⌝ }
+{
+    let s = number_at(starts, f as usize) as usize;
+    let m = number_at(counts, f as usize) as usize;
+    let mut i: usize = 0;
+    while i < m {
+        let v = Scalar(value_at(pool, s + i));
+        if is_feasible(kinds, values, starts, counts, pool, c, v) {
+            return true;
+        }
+        i += 1;
+    }
+    false
+}
+
+/// Is some allowed value feasible; true of a column with no allowed list.
+pub fn any_allowed(
+    kinds: &[u8],
+    values: &[u64],
+    starts: &[u32],
+    counts: &[u32],
+    pool: &[u8],
+    c: ColumnConstraints,
+) -> bool
+    ensures { λ r. ⌜ (let t = conjuncts (now (kinds .entry)) (now (values .entry)) (now (starts .entry))
+        (now (counts .entry)) (now (pool .entry)) in r ≡ allowedFeasible payload (columnOf t c)
+        (columnOf t c .allowed)) ⌝ }
+{
+    let mks = c.marks;
+    let n = c.len;
+    let mut i: usize = 0;
+    while i < n {
+        let f = byte(&mks, i);
+        if byte(kinds, f as usize) == 1 {
+            return any_feasible(kinds, values, starts, counts, pool, c, f);
+        }
+        i += 1;
+    }
+    true
+}
+
+/// Is some conjunct of kind k among the numbers.
+pub fn has_kind(kinds: &[u8], marks: &[u8], n: usize, k: u8) -> bool
+    ensures { λ r. ⌜ r ≡ anyOfKind (now (kinds .entry)) k (now (marks .entry)) n ⌝ }
+{
+    let mut i: usize = 0;
+    while i < n {
+        let j = byte(marks, i);
+        if byte(kinds, j as usize) == k {
+            return true;
+        }
+        i += 1;
+    }
+    false
+}

@@ -1,0 +1,366 @@
+// Resolving the excluded values, the allowed lists and the disallowed values against the final bounds.
+ghost use mathlib.Core.Path.{_≡_};
+ghost use mathlib.Core.Bool.{true, false};
+ghost use Prim.Native.Nat.{_<_};
+ghost use lib.ListN.{getD};
+ghost use Rattle.constraints.specs.Bound.{at};
+ghost use Rattle.constraints.specs.Column as q;
+ghost use Rattle.constraints.specs.Resolve as z;
+ghost use Rattle.constraints.specs.Payload.{payload};
+ghost use Rattle.columns.specs.Abstraction.{Conjuncts, conjuncts, columnOf, boundOf, fixedOf, Fine};
+ghost use Rattle.columns.specs.Steps.{Lists, applyExcluded, stepExcluded, stepMark, stepMarks, begun};
+ghost use Rattle.constraints.specs.declared.column.ExcludedResolution.the-variants.{Keep};
+ghost use Rattle.constraints.specs.declared.column.ExcludedResolution.the-variants.{TightenLower};
+ghost use Rattle.constraints.specs.declared.column.ExcludedResolution.the-variants.{TightenUpper};
+use crate::bound::Bound;
+use crate::bound::compare;
+use crate::bound::is_absent;
+use crate::column::ColumnConstraints;
+use crate::column::check_bound_consistency;
+use crate::column::is_null;
+use crate::marks::any_allowed;
+use crate::marks::disallows;
+use crate::marks::has_kind;
+use crate::marks::insert_excluded;
+use crate::marks::insert_list;
+use crate::marks::literal_at;
+use constraints::column::ExcludedResolution;
+use records::bytes::byte;
+use truth::scalar::Ordering;
+use truth::scalar::Scalar;
+
+/// The single value of a closed range that is a point, if the range is one.
+pub enum FixedValue {
+    Nothing,
+    At(Scalar),
+}
+
+fn classify_upper_by(o: Ordering, inclusive: bool) -> ExcludedResolution
+    ensures { λ r. ⌜ r ≡ z.classifyBy o inclusive TightenUpper Keep ⌝ }
+{
+    match o {
+        Ordering::Less => ExcludedResolution::Drop,
+        Ordering::Equal => if inclusive {
+            ExcludedResolution::TightenUpper
+        } else {
+            ExcludedResolution::Drop
+        },
+        Ordering::Greater => ExcludedResolution::Keep,
+    }
+}
+
+fn classify_upper(u: Bound, e: Scalar) -> ExcludedResolution
+    ensures { λ r. ⌜ r ≡ z.classifyUpper payload (boundOf u) (e .0) ⌝ }
+{
+    match u {
+        Bound::Absent => ExcludedResolution::Keep,
+        Bound::Open(w) => {
+            let o = compare(w, e);
+            classify_upper_by(o, false)
+        }
+        Bound::Closed(w) => {
+            let o = compare(w, e);
+            classify_upper_by(o, true)
+        }
+    }
+}
+
+fn classify_lower_by(o: Ordering, inclusive: bool, u: Bound, e: Scalar) -> ExcludedResolution
+    ensures { λ r. ⌜ r ≡ z.classifyBy o inclusive TightenLower (z.classifyUpper payload (boundOf u) (e .0)) ⌝ }
+{
+    match o {
+        Ordering::Less => ExcludedResolution::Drop,
+        Ordering::Equal => if inclusive {
+            ExcludedResolution::TightenLower
+        } else {
+            ExcludedResolution::Drop
+        },
+        Ordering::Greater => classify_upper(u, e),
+    }
+}
+
+fn classify_at(l: Bound, u: Bound, e: Scalar) -> ExcludedResolution
+    ensures { λ r. ⌜ r ≡ z.classifyAt payload (boundOf l) (boundOf u) (e .0) ⌝ }
+{
+    match l {
+        Bound::Absent => classify_upper(u, e),
+        Bound::Open(w) => {
+            let o = compare(e, w);
+            classify_lower_by(o, false, u, e)
+        }
+        Bound::Closed(w) => {
+            let o = compare(e, w);
+            classify_lower_by(o, true, u, e)
+        }
+    }
+}
+
+fn fixed_by(o: Ordering, v: Scalar) -> FixedValue
+    ensures { λ r. ⌜ fixedOf r ≡ z.fixedBy o (v .0) ⌝ }
+{
+    match o {
+        Ordering::Less => FixedValue::Nothing,
+        Ordering::Equal => FixedValue::At(v),
+        Ordering::Greater => FixedValue::Nothing,
+    }
+}
+
+fn fixed_upper(v: Scalar, u: Bound) -> FixedValue
+    ensures { λ r. ⌜ fixedOf r ≡ z.fixedAt payload (at true (v .0)) (boundOf u) ⌝ }
+{
+    match u {
+        Bound::Absent => FixedValue::Nothing,
+        Bound::Open(_) => FixedValue::Nothing,
+        Bound::Closed(w) => {
+            let o = compare(v, w);
+            fixed_by(o, v)
+        }
+    }
+}
+
+fn fixed_at(l: Bound, u: Bound) -> FixedValue
+    ensures { λ r. ⌜ fixedOf r ≡ z.fixedAt payload (boundOf l) (boundOf u) ⌝ }
+{
+    match l {
+        Bound::Absent => FixedValue::Nothing,
+        Bound::Open(_) => FixedValue::Nothing,
+        Bound::Closed(v) => fixed_upper(v, u),
+    }
+}
+
+/// The value that the bounds pin the column to.
+pub fn fixed_value(c: ColumnConstraints) -> FixedValue
+    ensures { λ r. ⌜ ((t : Conjuncts) → fixedOf r ≡ z.fixedValue payload (columnOf t c)) ⌝ }
+{
+    let low = c.lower;
+    let upp = c.upper;
+    fixed_at(low, upp)
+}
+
+/// What becomes of the excluded value e under the column's bounds.
+pub fn classify_excluded(c: ColumnConstraints, e: Scalar) -> ExcludedResolution
+    ensures { λ r. ⌜ ((t : Conjuncts) → r ≡ z.classifyExcluded payload (columnOf t c) (e .0)) ⌝ }
+{
+    let low = c.lower;
+    let upp = c.upper;
+    classify_at(low, upp, e)
+}
+
+fn open_lower(c: ColumnConstraints, v: Scalar) -> ColumnConstraints
+    ensures { λ r. ⌜ ((t : Conjuncts) → columnOf t r ≡ q.setLower (at false (v .0)) (columnOf t c)) ⌝ }
+    ensures { λ r. ⌜ (r .marks ≡ c .marks) × (r .len ≡ c .len) ⌝ }
+{
+    let upp = c.upper;
+    let mks = c.marks;
+    let nul = c.nullability;
+    ColumnConstraints {
+        lower: Bound::Open(v),
+        upper: upp,
+        marks: mks,
+        len: c.len,
+        strict: c.strict,
+        nullability: nul,
+        unsat: c.unsat,
+    }
+}
+
+fn open_upper(c: ColumnConstraints, v: Scalar) -> ColumnConstraints
+    ensures { λ r. ⌜ ((t : Conjuncts) → columnOf t r ≡ q.setUpper (at false (v .0)) (columnOf t c)) ⌝ }
+    ensures { λ r. ⌜ (r .marks ≡ c .marks) × (r .len ≡ c .len) ⌝ }
+{
+    let low = c.lower;
+    let mks = c.marks;
+    let nul = c.nullability;
+    ColumnConstraints {
+        lower: low,
+        upper: Bound::Open(v),
+        marks: mks,
+        len: c.len,
+        strict: c.strict,
+        nullability: nul,
+        unsat: c.unsat,
+    }
+}
+
+fn apply_excluded(kinds: &[u8], values: &[u64], c: ColumnConstraints, j: u8) -> ColumnConstraints
+    requires { ⌜ Fine (c .marks) (c .len) × (j < 128) × (getD (now kinds) j 0 ≡ 0) ⌝ }
+    ensures { λ r. ⌜ ((t : Conjuncts) → t .kinds ≡ now (kinds .entry) → t .values ≡ now (values .entry) →
+        columnOf t r ≡ applyExcluded (getD (now (values .entry)) j 0) (columnOf t c)) ⌝ }
+    ensures { λ r. ⌜ Fine (r .marks) (r .len) ⌝ }
+{
+    let v = literal_at(values, j);
+    let f = classify_excluded(c, v);
+    match f {
+        ExcludedResolution::Drop => c,
+        ExcludedResolution::Keep => insert_excluded(kinds, values, c, j),
+        ExcludedResolution::TightenLower => open_lower(c, v),
+        ExcludedResolution::TightenUpper => open_upper(c, v),
+    }
+}
+
+// One excluded value. A range found empty takes no further one.
+fn step_excluded(kinds: &[u8], values: &[u64], c: ColumnConstraints, j: u8) -> ColumnConstraints
+    requires { ⌜ Fine (c .marks) (c .len) × (j < 128) × (getD (now kinds) j 0 ≡ 0) ⌝ }
+    ensures { λ r. ⌜ ((t : Conjuncts) → t .kinds ≡ now (kinds .entry) → t .values ≡ now (values .entry) →
+        columnOf t r ≡ stepExcluded (getD (now (values .entry)) j 0) (columnOf t c)) ⌝ }
+    ensures { λ r. ⌜ Fine (r .marks) (r .len) ⌝ }
+{
+    if c.unsat {
+        return c;
+    }
+    let d = apply_excluded(kinds, values, c, j);
+    check_bound_consistency(d)
+}
+
+fn step_mark(kinds: &[u8], values: &[u64], c: ColumnConstraints, j: u8) -> ColumnConstraints
+    requires { ⌜ Fine (c .marks) (c .len) × (j < 128) ⌝ }
+    ensures { λ r. ⌜ ((t : Conjuncts) → t .kinds ≡ now (kinds .entry) → t .values ≡ now (values .entry) →
+        columnOf t r ≡ stepMark t j (columnOf t c)) ⌝ }
+    ensures { λ r. ⌜ Fine (r .marks) (r .len) ⌝ }
+{
+    let k = byte(kinds, j as usize);
+    if k == 0 {
+        return step_excluded(kinds, values, c, j);
+    }
+    if k == 1 {
+        return insert_list(c, j);
+    }
+    if k == 2 {
+        return insert_list(c, j);
+    }
+    c
+}
+
+fn begin_walk(c: ColumnConstraints) -> ColumnConstraints
+    ensures { λ r. ⌜ ((t : Conjuncts) → columnOf t r ≡ begun (columnOf t c)) ⌝ }
+    ensures { λ r. ⌜ r .len ≡ 0 ⌝ }
+{
+    let low = c.lower;
+    let upp = c.upper;
+    let mks = c.marks;
+    let nul = c.nullability;
+    ColumnConstraints {
+        lower: low,
+        upper: upp,
+        marks: mks,
+        len: 0,
+        strict: c.strict,
+        nullability: nul,
+        unsat: false,
+    }
+}
+
+// The column anew from its bounds: each number in turn, excluded values resolved against the bounds so far.
+fn step_marks(
+    kinds: &[u8],
+    values: &[u64],
+    c0: ColumnConstraints,
+    marks: &[u8],
+    n: usize,
+) -> ColumnConstraints
+    requires { ⌜ Fine (c0 .marks) (c0 .len) × Fine (now marks) n ⌝ }
+    ensures { λ r. ⌜ ((t : Conjuncts) → t .kinds ≡ now (kinds .entry) → t .values ≡ now (values .entry) →
+        columnOf t r ≡ stepMarks t (now (marks .entry)) n (columnOf t c0)) ⌝ }
+    ensures { λ r. ⌜ Fine (r .marks) (r .len) ⌝ }
+{
+    let mut c = c0;
+    let mut i: usize = 0;
+    while i < n {
+        let j = byte(marks, i);
+        c = step_mark(kinds, values, c, j);
+        i += 1;
+    }
+    c
+}
+
+pub fn has_value_constraint(kinds: &[u8], c: ColumnConstraints) -> bool
+    ensures { λ r. ⌜ ((t : Conjuncts) → t .kinds ≡ now (kinds .entry) → r ≡ z.hasValueConstraint (columnOf t c)) ⌝ }
+{
+    let low = c.lower;
+    let upp = c.upper;
+    let mks = c.marks;
+    if !is_absent(low) {
+        return true;
+    }
+    if !is_absent(upp) {
+        return true;
+    }
+    if has_kind(kinds, &mks, c.len, 0) {
+        return true;
+    }
+    if has_kind(kinds, &mks, c.len, 1) {
+        return true;
+    }
+    c.strict
+}
+
+fn null_conflict(kinds: &[u8], c: ColumnConstraints) -> bool
+    ensures { λ r. ⌜ ((t : Conjuncts) → t .kinds ≡ now (kinds .entry) → r ≡ z.nullConflict (columnOf t c)) ⌝ }
+{
+    let nul = c.nullability;
+    if !is_null(nul) {
+        return false;
+    }
+    has_value_constraint(kinds, c)
+}
+
+fn fixed_disallowed(
+    kinds: &[u8],
+    starts: &[u32],
+    counts: &[u32],
+    pool: &[u8],
+    c: ColumnConstraints,
+) -> bool
+    ensures { λ r. ⌜ ((t : Conjuncts) → Lists t (now (kinds .entry)) (now (starts .entry)) (now (counts .entry))
+        (now (pool .entry)) → r ≡ z.fixedDisallowed payload (columnOf t c) (z.fixedValue payload (columnOf t c))) ⌝ }
+{
+    let mks = c.marks;
+    let f = fixed_value(c);
+    match f {
+        FixedValue::Nothing => false,
+        FixedValue::At(v) => disallows(kinds, starts, counts, pool, &mks, c.len, v),
+    }
+}
+
+// The last two tests: some allowed value is feasible, and the value that the bounds pin is not disallowed.
+fn with_lists(
+    kinds: &[u8],
+    values: &[u64],
+    starts: &[u32],
+    counts: &[u32],
+    pool: &[u8],
+    mut c: ColumnConstraints,
+) -> ColumnConstraints
+    ensures { λ r. ⌜ (let t = conjuncts (now (kinds .entry)) (now (values .entry)) (now (starts .entry))
+        (now (counts .entry)) (now (pool .entry)) in columnOf t r ≡ z.withLists payload (columnOf t c)) ⌝ }
+    ensures { λ r. ⌜ (r .marks ≡ c .marks) × (r .len ≡ c .len) ⌝ }
+{
+    if c.unsat {
+        return c;
+    }
+    let a = any_allowed(kinds, values, starts, counts, pool, c);
+    let p = fixed_disallowed(kinds, starts, counts, pool, c);
+    c.unsat = !a | p;
+    c
+}
+
+pub fn resolve_deferred(
+    kinds: &[u8],
+    values: &[u64],
+    starts: &[u32],
+    counts: &[u32],
+    pool: &[u8],
+    c: ColumnConstraints,
+) -> ColumnConstraints
+    requires { ⌜ Fine (c .marks) (c .len) ⌝ }
+    ensures { λ r. ⌜ (let t = conjuncts (now (kinds .entry)) (now (values .entry)) (now (starts .entry))
+        (now (counts .entry)) (now (pool .entry)) in columnOf t r ≡ z.resolveDeferred payload (columnOf t c)) ⌝ }
+    ensures { λ r. ⌜ Fine (r .marks) (r .len) ⌝ }
+{
+    let conflict = null_conflict(kinds, c);
+    let mks = c.marks;
+    let w = begin_walk(c);
+    let mut d = step_marks(kinds, values, w, &mks, c.len);
+    d.unsat = c.unsat | (conflict | d.unsat);
+    with_lists(kinds, values, starts, counts, pool, d)
+}

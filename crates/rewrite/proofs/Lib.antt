@@ -1,0 +1,4 @@
+pub mod Walks
+pub mod Classifying
+pub mod Writing
+pub mod Telling

@@ -1,0 +1,62 @@
+use borrow.Author.Needs.{needs}
+use Rattle.rewrite.proofs.classify.classify_comparison.Statement.{statement}
+use Rattle.rewrite.proofs.classify.classify_comparison.Tie as tie
+use Rattle.rewrite.proofs.classify.classify_comparison.Reads as reads
+use Rattle.rewrite.proofs.classify.classify_comparison.Lts as lts
+use Rattle.rewrite.proofs.classify.column_first.Reads as column-first-reads
+use Rattle.rewrite.proofs.classify.literal_first.Reads as literal-first-reads
+
+-- src/classify.rt:224:25
+enum-known-left : tie.Need-enum-known-left
+enum-known-left c = search needs
+
+-- src/classify.rt:224:31
+column-first-requires : tie.Need-column-first-requires
+column-first-requires c κs = search needs
+
+-- src/classify.rt:225:26
+enum-known-left-2 : tie.Need-enum-known-left-2
+enum-known-left-2 c = search needs
+
+-- src/classify.rt:225:32
+literal-first-requires : tie.Need-literal-first-requires
+literal-first-requires c κs = search needs
+
+-- src/classify.rt:226:32
+enum-told : tie.Need-enum-told
+enum-told c = search needs
+
+-- src/classify.rt:227:27
+enum-told-2 : tie.Need-enum-told-2
+enum-told-2 c = search needs
+
+-- src/classify.rt:220:1
+returns : tie.Need-returns
+returns c = λ p n. rw (c .before .before .left .given .1, c .column-first .ensures p n)
+
+-- src/classify.rt:220:1
+returns-2 : tie.Need-returns-2
+returns-2 c = λ p n. rw (c .before .before .left2 .given .1, c .literal-first .ensures p n)
+
+-- src/classify.rt:220:1
+returns-3 : tie.Need-returns-3
+returns-3 c = λ p n. rw (c .enum-told .given .1)
+
+-- src/classify.rt:220:1
+returns-4 : tie.Need-returns-4
+returns-4 c = λ p n. rw (c .enum-told2 .given .1)
+
+pub classify-comparison-spec : {M : Type 1} → statement M
+classify-comparison-spec =
+    tie.close
+    (tie.spec
+    enum-known-left
+    column-first-requires
+    enum-known-left-2
+    literal-first-requires
+    enum-told
+    enum-told-2
+    returns
+    returns-2
+    returns-3
+    returns-4)

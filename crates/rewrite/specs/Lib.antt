@@ -1,0 +1,4 @@
+pub mod Walk
+pub mod Read
+pub mod Told
+pub mod Written

@@ -1,0 +1,45 @@
+-- What the code's arrays hold during the walk, and the count of conjuncts for number 9.
+use mathlib.Core.Bool.{cond}
+use mathlib.Core.List.{List, [], _∷_, _++_}
+use mathlib.Core.Option.{Option, none, some}
+use Prim.Native.Nat.{ℕ, zero, suc, _+_}
+use lib.ListN.{getD}
+use lib.Dec.{ltb}
+use Rattle.records.specs.declared.record.Record.{Record}
+use Rattle.truth.specs.AExpr.{AExpr}
+use Rattle.truth.specs.FromBytes.{toAExpr, aexprOf}
+use Rattle.merge.specs.Minterms.{andSides}
+use Rattle.rewrite.specs.declared.minterms.Sides.{Sides}
+use Rattle.rewrite.specs.declared.minterms.Sides.the-variants as code
+
+-- The two sides of an And or LogicalAnd, as the code holds them.
+abbrev pub sidesIn : Sides → Option (ℕ × ℕ)
+sidesIn code.One = none
+sidesIn (code.Both x y) = some (x .0, y .0)
+
+-- A record's sides; they do not depend on the pool.
+abbrev pub recordSides : Record → Option (ℕ × ℕ)
+recordSides r = andSides (toAExpr [] r)
+
+-- The records' expressions for the walk, which reads no list.
+abbrev pub walked : List ℕ → ℕ → AExpr ℕ
+walked rs n = aexprOf rs [] n
+
+-- The first n numbers of an array, in their order.
+unfoldable pub firstOf : List ℕ → ℕ → List ℕ
+firstOf a zero = []
+firstOf a (suc n) = firstOf a n ++ (getD a n 0 ∷ [])
+
+-- The same numbers as a stack, the last of them on top.
+unfoldable pub stackOf : List ℕ → ℕ → List ℕ
+stackOf a zero = []
+stackOf a (suc n) = getD a n 0 ∷ stackOf a n
+
+-- One conjunct, or those of both sides.
+abbrev pub countBy : (ℕ → ℕ) → Option (ℕ × ℕ) → ℕ
+countBy below none = 1
+countBy below (some sides) = below (sides .0) + below (sides .1)
+
+-- The counts below n of a table; a side that is not below its record is one conjunct.
+abbrev pub countBelow : List ℕ → ℕ → ℕ → ℕ
+countBelow table n x = cond (ltb x n) (getD table x 0) 1

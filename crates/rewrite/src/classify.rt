@@ -1,0 +1,383 @@
+// `classify_into_constraints`: what a conjunct says. It looks at the conjunct's record and at its operands' records,
+// and at nothing below them.
+ghost use mathlib.Core.Path.{_≡_};
+ghost use mathlib.Core.Bool.{Bool};
+ghost use mathlib.Core.List.{List, [], _∷_};
+ghost use Prim.Native.Nat.{ℕ};
+ghost use lib.Dec.{leb};
+ghost use lib.ListN.{length};
+ghost use Rattle.truth.specs.FromBytes.{valuesFrom, toAExpr, aexprOf, closesLow, closesHigh};
+ghost use Rattle.merge.specs.Classify as c;
+ghost use Rattle.rewrite.specs.Read.{operationOf, operandIn, listingIn, saysIn, conjunctIn, comparisonIn, swapped};
+ghost use Rattle.rewrite.specs.Read.{swappedOperation, columnLiteral, columnColumn, columnFirst, literalFirst};
+ghost use Rattle.rewrite.specs.Read.{compared};
+use constraints::column::Nullability;
+use records::operator::Operator;
+use records::record::ClosedInterval;
+use records::record::Column;
+use records::record::Node;
+use records::record::Record;
+use records::record::record_at;
+use truth::scalar::Scalar;
+
+/// The six comparisons that give bounds and excluded values.
+pub enum Comparison {
+    Eq,
+    NotEq,
+    Lt,
+    LtEq,
+    Gt,
+    GtEq,
+}
+
+/// What matters of an operator. Arithmetic is left out by checking.
+pub enum Operation {
+    Compare(Comparison),
+    Other,
+    Missing,
+}
+
+/// `List`: at most 100 values and no null; its start and count in the pool.
+pub enum Operand {
+    Column(Column),
+    Literal(Scalar),
+    List(u32, u32),
+    Other,
+}
+
+/// is_in, or its negation; whether the negation drops nulls.
+pub enum Listing {
+    Allow,
+    Disallow(bool),
+}
+
+/// What a conjunct says of its column.
+pub enum Says {
+    /// The column only enters the table.
+    Nothing,
+    Compare(Comparison, Scalar),
+    Between(ClosedInterval, Scalar, Scalar),
+    Allow(u32, u32),
+    Disallow(bool, u32, u32),
+    Require(Nullability),
+}
+
+/// What a conjunct is to the merging.
+pub enum Conjunct {
+    /// Written anew from the merged constraints, so its node is dropped.
+    Bounds(Column, Says),
+    Equality(Column, Column),
+    /// Kept, but the column learns of it; whether reading stops if the column became impossible.
+    Recorded(bool, Column, Says),
+    /// Another comparison of two columns, which are then not null.
+    NonNullPair(Column, Column),
+    Opaque,
+}
+
+fn operation_of(o: Operator) -> Operation
+    ensures { λ r. ⌜ r ≡ operationOf o ⌝ }
+{
+    match o {
+        Operator::Eq => Operation::Compare(Comparison::Eq),
+        Operator::EqValidity => Operation::Other,
+        Operator::NotEq => Operation::Compare(Comparison::NotEq),
+        Operator::NotEqValidity => Operation::Other,
+        Operator::Lt => Operation::Compare(Comparison::Lt),
+        Operator::LtEq => Operation::Compare(Comparison::LtEq),
+        Operator::Gt => Operation::Compare(Comparison::Gt),
+        Operator::GtEq => Operation::Compare(Comparison::GtEq),
+        Operator::Plus => Operation::Missing,
+        Operator::Minus => Operation::Missing,
+        Operator::Multiply => Operation::Missing,
+        Operator::RustDivide => Operation::Missing,
+        Operator::TrueDivide => Operation::Missing,
+        Operator::FloorDivide => Operation::Missing,
+        Operator::Modulus => Operation::Missing,
+        Operator::And => Operation::Other,
+        Operator::Or => Operation::Other,
+        Operator::Xor => Operation::Other,
+        Operator::LogicalAnd => Operation::Other,
+        Operator::LogicalOr => Operation::Other,
+    }
+}
+
+fn list_operand(marked: bool, start: u32, count: u32) -> Operand
+    ensures { λ r. ⌜ ((p : List ℕ) → operandIn p r ≡ c.listOperand marked (leb (length (valuesFrom p start count)) 100)
+        (valuesFrom p start count)) ⌝ }
+{
+    if marked {
+        return Operand::Other;
+    }
+    if count <= 100 {
+        return Operand::List(start, count);
+    }
+    Operand::Other
+}
+
+fn operand_of(r: Record) -> Operand
+    ensures { λ o. ⌜ ((p : List ℕ) → operandIn p o ≡ c.operand (toAExpr p r)) ⌝ }
+{
+    match r {
+        Record::Invalid => Operand::Other,
+        Record::Column(a) => Operand::Column(a),
+        Record::Literal(_, v) => Operand::Literal(Scalar(v)),
+        Record::Null(_) => Operand::Other,
+        Record::Binary(_, _, _) => Operand::Other,
+        Record::Not(_) => Operand::Other,
+        Record::IsNull(_) => Operand::Other,
+        Record::IsNotNull(_) => Operand::Other,
+        Record::IsBetween(_, _, _, _) => Operand::Other,
+        Record::List(_, marked, start, count) => list_operand(marked, start, count),
+        Record::IsIn(_, _, _) => Operand::Other,
+    }
+}
+
+fn operand_at(rs: &[u8], n: Node) -> Operand
+    ensures { λ o. ⌜ ((p : List ℕ) → operandIn p o ≡ c.operand (aexprOf (now (rs .entry)) p (n .0))) ⌝ }
+{
+    operand_of(record_at(rs, n))
+}
+
+// ---- comparisons
+
+fn swap_comparison(k: Comparison) -> Comparison
+    ensures { λ r. ⌜ r ≡ swapped k ⌝ }
+{
+    match k {
+        Comparison::Eq => Comparison::Eq,
+        Comparison::NotEq => Comparison::NotEq,
+        Comparison::Lt => Comparison::Gt,
+        Comparison::LtEq => Comparison::GtEq,
+        Comparison::Gt => Comparison::Lt,
+        Comparison::GtEq => Comparison::LtEq,
+    }
+}
+
+/// `swap_operands`: `lit op col` is read as `col op' lit`.
+fn swap_operands(op: Operation) -> Operation
+    ensures { λ r. ⌜ r ≡ swappedOperation op ⌝ }
+{
+    match op {
+        Operation::Compare(k) => Operation::Compare(swap_comparison(k)),
+        Operation::Other => Operation::Other,
+        Operation::Missing => Operation::Missing,
+    }
+}
+
+fn column_literal(op: Operation, a: Column, v: Scalar) -> Conjunct
+    ensures { λ r. ⌜ ((p : List ℕ) (n : ℕ) → conjunctIn p n r ≡ columnLiteral n (a .0) (v .0) op) ⌝ }
+{
+    match op {
+        Operation::Compare(k) => Conjunct::Bounds(a, Says::Compare(k, v)),
+        Operation::Other => Conjunct::Recorded(false, a, Says::Nothing),
+        Operation::Missing => Conjunct::Opaque,
+    }
+}
+
+fn columns(k: Comparison, a: Column, b: Column) -> Conjunct
+    ensures { λ r. ⌜ ((p : List ℕ) (n : ℕ) → conjunctIn p n r ≡ c.classifyColumns n (a .0) (b .0) (comparisonIn k)) ⌝ }
+{
+    match k {
+        Comparison::Eq => Conjunct::Equality(a, b),
+        Comparison::NotEq => Conjunct::NonNullPair(a, b),
+        Comparison::Lt => Conjunct::NonNullPair(a, b),
+        Comparison::LtEq => Conjunct::NonNullPair(a, b),
+        Comparison::Gt => Conjunct::NonNullPair(a, b),
+        Comparison::GtEq => Conjunct::NonNullPair(a, b),
+    }
+}
+
+fn column_column(op: Operation, a: Column, b: Column) -> Conjunct
+    ensures { λ r. ⌜ ((p : List ℕ) (n : ℕ) → conjunctIn p n r ≡ columnColumn n (a .0) (b .0) op) ⌝ }
+{
+    match op {
+        Operation::Compare(k) => columns(k, a, b),
+        Operation::Other => Conjunct::Opaque,
+        Operation::Missing => Conjunct::Opaque,
+    }
+}
+
+fn column_first(op: Operation, a: Column, right: Operand) -> Conjunct
+    ensures { λ r. ⌜ ((p : List ℕ) (n : ℕ) → conjunctIn p n r ≡ columnFirst n op (a .0) (operandIn p right)) ⌝ }
+{
+    match right {
+        Operand::Column(b) => column_column(op, a, b),
+        Operand::Literal(v) => column_literal(op, a, v),
+        Operand::List(_, _) => Conjunct::Opaque,
+        Operand::Other => Conjunct::Opaque,
+    }
+}
+
+fn literal_first(op: Operation, v: Scalar, right: Operand) -> Conjunct
+    ensures { λ r. ⌜ ((p : List ℕ) (n : ℕ) → conjunctIn p n r ≡ literalFirst n op (v .0) (operandIn p right)) ⌝ }
+{
+    match right {
+        Operand::Column(a) => column_literal(swap_operands(op), a, v),
+        Operand::Literal(_) => Conjunct::Opaque,
+        Operand::List(_, _) => Conjunct::Opaque,
+        Operand::Other => Conjunct::Opaque,
+    }
+}
+
+fn classify_comparison(op: Operation, left: Operand, right: Operand) -> Conjunct
+    ensures { λ r. ⌜ ((p : List ℕ) (n : ℕ) → conjunctIn p n r ≡ compared n op (operandIn p left)
+        (operandIn p right)) ⌝ }
+{
+    match left {
+        Operand::Column(a) => column_first(op, a, right),
+        Operand::Literal(v) => literal_first(op, v, right),
+        Operand::List(_, _) => Conjunct::Opaque,
+        Operand::Other => Conjunct::Opaque,
+    }
+}
+
+// ---- is_between
+
+fn between_high(ends: ClosedInterval, a: Column, v: Scalar, high: Operand) -> Conjunct
+    ensures { λ r. ⌜ ((p : List ℕ) (n : ℕ) → conjunctIn p n r ≡ c.classifyEnds n (closesLow ends) (closesHigh ends)
+        (a .0) (c.ALiteral (v .0)) (operandIn p high)) ⌝ }
+{
+    match high {
+        Operand::Column(_) => Conjunct::Opaque,
+        Operand::Literal(w) => Conjunct::Bounds(a, Says::Between(ends, v, w)),
+        Operand::List(_, _) => Conjunct::Opaque,
+        Operand::Other => Conjunct::Opaque,
+    }
+}
+
+fn between_low(ends: ClosedInterval, a: Column, low: Operand, high: Operand) -> Conjunct
+    ensures { λ r. ⌜ ((p : List ℕ) (n : ℕ) → conjunctIn p n r ≡ c.classifyEnds n (closesLow ends) (closesHigh ends)
+        (a .0) (operandIn p low) (operandIn p high)) ⌝ }
+{
+    match low {
+        Operand::Column(_) => Conjunct::Opaque,
+        Operand::Literal(v) => between_high(ends, a, v, high),
+        Operand::List(_, _) => Conjunct::Opaque,
+        Operand::Other => Conjunct::Opaque,
+    }
+}
+
+fn classify_is_between(ends: ClosedInterval, a: Operand, low: Operand, high: Operand) -> Conjunct
+    ensures { λ r. ⌜ ((p : List ℕ) (n : ℕ) → conjunctIn p n r ≡ c.classifyIsBetween n (closesLow ends) (closesHigh ends)
+        (operandIn p a) (operandIn p low) (operandIn p high)) ⌝ }
+{
+    match a {
+        Operand::Column(x) => between_low(ends, x, low, high),
+        Operand::Literal(_) => Conjunct::Opaque,
+        Operand::List(_, _) => Conjunct::Opaque,
+        Operand::Other => Conjunct::Opaque,
+    }
+}
+
+// ---- is_in
+
+fn listing_says(k: Listing, start: u32, count: u32) -> Says
+    ensures { λ r. ⌜ ((p : List ℕ) → saysIn p r ≡ (listingIn k (valuesFrom p start count) ∷ [])) ⌝ }
+{
+    match k {
+        Listing::Allow => Says::Allow(start, count),
+        Listing::Disallow(strict) => Says::Disallow(strict, start, count),
+    }
+}
+
+fn list_of_column(k: Listing, a: Column, list: Operand) -> Conjunct
+    ensures { λ r. ⌜ ((p : List ℕ) (n : ℕ) → conjunctIn p n r ≡ c.classifyIsIn n (listingIn k) (c.AColumn (a .0))
+        (operandIn p list)) ⌝ }
+{
+    match list {
+        Operand::Column(_) => Conjunct::Opaque,
+        Operand::Literal(_) => Conjunct::Opaque,
+        Operand::List(start, count) => Conjunct::Recorded(false, a, listing_says(k, start, count)),
+        Operand::Other => Conjunct::Opaque,
+    }
+}
+
+fn classify_is_in(k: Listing, a: Operand, list: Operand) -> Conjunct
+    ensures { λ r. ⌜ ((p : List ℕ) (n : ℕ) → conjunctIn p n r ≡ c.classifyIsIn n (listingIn k) (operandIn p a)
+        (operandIn p list)) ⌝ }
+{
+    match a {
+        Operand::Column(x) => list_of_column(k, x, list),
+        Operand::Literal(_) => Conjunct::Opaque,
+        Operand::List(_, _) => Conjunct::Opaque,
+        Operand::Other => Conjunct::Opaque,
+    }
+}
+
+// ---- null tests
+
+fn classify_null(must: Nullability, a: Operand) -> Conjunct
+    ensures { λ r. ⌜ ((p : List ℕ) (n : ℕ) → conjunctIn p n r ≡ c.classifyNull n must (operandIn p a)) ⌝ }
+{
+    match a {
+        Operand::Column(x) => Conjunct::Recorded(true, x, Says::Require(must)),
+        Operand::Literal(_) => Conjunct::Opaque,
+        Operand::List(_, _) => Conjunct::Opaque,
+        Operand::Other => Conjunct::Opaque,
+    }
+}
+
+// ---- one record
+
+/// A negated is_in with nulls_equal keeps nulls, so it does not count as a value constraint.
+fn classify_negation(rs: &[u8], r: Record) -> Conjunct
+    ensures { λ s. ⌜ ((p : List ℕ) (n : ℕ) → conjunctIn p n s ≡ c.classifyNegation (aexprOf (now (rs .entry)) p) n
+        (toAExpr p r)) ⌝ }
+{
+    match r {
+        Record::Invalid => Conjunct::Opaque,
+        Record::Column(_) => Conjunct::Opaque,
+        Record::Literal(_, _) => Conjunct::Opaque,
+        Record::Null(_) => Conjunct::Opaque,
+        Record::Binary(_, _, _) => Conjunct::Opaque,
+        Record::Not(_) => Conjunct::Opaque,
+        Record::IsNull(x) => classify_null(Nullability::NonNull, operand_at(rs, x)),
+        Record::IsNotNull(x) => classify_null(Nullability::Null, operand_at(rs, x)),
+        Record::IsBetween(_, _, _, _) => Conjunct::Opaque,
+        Record::List(_, _, _, _) => Conjunct::Opaque,
+        Record::IsIn(equal, x, list) => classify_is_in(
+            Listing::Disallow(!equal),
+            operand_at(rs, x),
+            operand_at(rs, list),
+        ),
+    }
+}
+
+fn classify_record(rs: &[u8], r: Record) -> Conjunct
+    ensures { λ s. ⌜ ((p : List ℕ) (n : ℕ) → conjunctIn p n s ≡ c.classifyRecord (aexprOf (now (rs .entry)) p) n
+        (toAExpr p r)) ⌝ }
+{
+    match r {
+        Record::Invalid => Conjunct::Opaque,
+        Record::Column(_) => Conjunct::Opaque,
+        Record::Literal(_, _) => Conjunct::Opaque,
+        Record::Null(_) => Conjunct::Opaque,
+        Record::Binary(o, x, y) => classify_comparison(
+            operation_of(o),
+            operand_at(rs, x),
+            operand_at(rs, y),
+        ),
+        Record::Not(x) => classify_negation(rs, record_at(rs, x)),
+        Record::IsNull(x) => classify_null(Nullability::Null, operand_at(rs, x)),
+        Record::IsNotNull(x) => classify_null(Nullability::NonNull, operand_at(rs, x)),
+        Record::IsBetween(ends, x, low, high) => classify_is_between(
+            ends,
+            operand_at(rs, x),
+            operand_at(rs, low),
+            operand_at(rs, high),
+        ),
+        Record::List(_, _, _, _) => Conjunct::Opaque,
+        Record::IsIn(_, x, list) => classify_is_in(
+            Listing::Allow,
+            operand_at(rs, x),
+            operand_at(rs, list),
+        ),
+    }
+}
+
+/// What the conjunct at node n says.
+pub fn classify(rs: &[u8], n: Node) -> Conjunct
+    ensures { λ s. ⌜ ((p : List ℕ) → conjunctIn p (n .0) s ≡ c.classify (aexprOf (now (rs .entry)) p) (n .0)) ⌝ }
+{
+    classify_record(rs, record_at(rs, n))
+}

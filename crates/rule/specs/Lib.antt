@@ -1,0 +1,4 @@
+pub mod Columns
+pub mod Reckon
+pub mod Rewritten
+pub mod State

@@ -1,0 +1,10 @@
+-- Whether an answer writes a chain.
+use mathlib.Core.Bool.{Bool, true, false}
+use Rattle.merge.specs.declared.rewrite.RewriteAnswer.{RewriteAnswer}
+use Rattle.merge.specs.declared.rewrite.RewriteAnswer.the-variants as answer
+
+abbrev pub isRewritten : RewriteAnswer → Bool
+isRewritten (answer.Refused k) = false
+isRewritten answer.Unchanged = false
+isRewritten (answer.NothingPasses root used) = false
+isRewritten (answer.Rewritten root used) = true

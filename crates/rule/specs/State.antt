@@ -1,0 +1,135 @@
+-- What the arrays of the merging hold: the tables and lists of `Collected`, Propagate and Emit.
+use mathlib.Core.Path.{_≡_}
+use mathlib.Core.Bool.{Bool, true, false, cond, _||_}
+use mathlib.Core.List.{List, [], _∷_, _++_}
+use Prim.Native.Nat.{ℕ, zero, suc, _+_, _-_, _*_, _<_}
+use lib.ListN.{length, getD}
+use Rattle.truth.specs.AExpr.{AExpr}
+use Rattle.constraints.specs.Column as q
+use Rattle.constraints.specs.Comparisons.{ColumnComparison}
+use Rattle.constraints.specs.Payload.{payload}
+use Rattle.constraints.specs.Resolve.{resolveDeferred}
+use Rattle.constraints.specs.declared.column.Nullability.the-variants.{Unconstrained}
+use Rattle.columns.specs.Abstraction.{Conjuncts, columnOf, Fine}
+use Rattle.columns.specs.declared.bound.Bound.the-variants.{Absent}
+use Rattle.columns.specs.declared.column.ColumnConstraints.{ColumnConstraints}
+use Rattle.merge.specs.Classify.{classifyAll}
+use Rattle.merge.specs.Collect.{Collected, begin, collect, isIn}
+use Rattle.merge.specs.Propagate.{pass, passAny, passEmitted, passTimes, propagate, propagateEmitted}
+use Rattle.merge.specs.Emit.{keptEqualities, droppedEquality, anyUnsat, comparisons}
+use Rattle.merge.specs.Write.{writeComparisons}
+use Rattle.rewrite.specs.Walk.{firstOf}
+
+-- What a read past an array of columns gives.
+abbrev pub pastColumn : ColumnConstraints
+pastColumn =
+    record {
+      lower = Absent;
+      upper = Absent;
+      marks = [];
+      len = 0;
+      strict = false;
+      nullability = Unconstrained;
+      unsat = false;
+    }
+
+abbrev pub Table : Type 0
+Table = ℕ → q.ColumnConstraints ℕ
+
+-- The array stands for the table T, by column numbers.
+pub record Shows (t : Conjuncts) (table : List ColumnConstraints) (T : ℕ → q.ColumnConstraints ℕ) : Type 0 where
+  pub size : length table ≡ 64
+  pub column : (a : ℕ) → a < 64 → columnOf t (getD table a pastColumn) ≡ T a
+  pub fine : (a : ℕ) → a < 64 → Fine (getD table a pastColumn .marks) (getD table a pastColumn .len)
+
+-- The columns that entered, in their order, and a flag for each that did.
+pub record Entered (order : List ℕ) (columns : ℕ) (seen : List Bool) (l : List ℕ) : Type 0 where
+  pub order-size : length order ≡ 260
+  pub seen-size : length seen ≡ 64
+  pub listed : firstOf order columns ≡ l
+  pub known : (a : ℕ) → a < 64 → getD seen a false ≡ isIn a l
+  pub distinct : (o : ℕ) → o < columns → isIn (getD order o 0) (firstOf order o) ≡ false
+  pub low : (o : ℕ) → o < columns → getD order o 0 < 64
+
+-- The kept nodes.
+pub record Keeps (kept : List ℕ) (keeps : ℕ) (l : List ℕ) : Type 0 where
+  pub size : length kept ≡ 260
+  pub listed : firstOf kept keeps ≡ l
+
+-- The first n edges of three arrays.
+unfoldable pub edgesOf : List ℕ → List ℕ → List ℕ → ℕ → List (ℕ × ℕ × ℕ)
+edgesOf lefts rights equals zero = []
+edgesOf lefts rights equals (suc n) =
+    edgesOf lefts rights equals n ++ ((getD lefts n 0, getD rights n 0, getD equals n 0) ∷ [])
+
+pub record Edges (lefts rights equals : List ℕ) (edges : ℕ) (l : List (ℕ × ℕ × ℕ)) : Type 0 where
+  pub left-size : length lefts ≡ 130
+  pub right-size : length rights ≡ 130
+  pub equal-size : length equals ≡ 130
+  pub listed : edgesOf lefts rights equals edges ≡ l
+  pub low-left : (e : ℕ) → e < edges → getD lefts e 0 < 64
+  pub low-right : (e : ℕ) → e < edges → getD rights e 0 < 64
+
+-- ---- Collect: the arrays stand for what was collected.
+pub record Collects (t : Conjuncts) (table : List ColumnConstraints) (seen : List Bool) (order : List ℕ) (columns : ℕ)
+    (kept : List ℕ) (keeps : ℕ) (lefts rights equals : List ℕ) (edges bounds : ℕ) (unsat : Bool)
+    (s : Collected ℕ) : Type 0 where
+  pub shows : Shows t table (s .constraints)
+  pub entered : Entered order columns seen (s .order)
+  pub keeping : Keeps kept keeps (s .opaque)
+  pub linked : Edges lefts rights equals edges (s .edges)
+  pub bounded : bounds ≡ s .boundConjuncts
+  pub stops : unsat ≡ s .unsat
+
+-- What the first i nodes of an array gave.
+unfoldable pub collectTo : (ℕ → AExpr ℕ) → List ℕ → ℕ → Collected ℕ
+collectTo R nodes i = collect payload (classifyAll R (firstOf nodes i)) begin
+
+-- ---- Propagate: a pass as far as its edges es, over the table that the array stood for when it began.
+pub record Merged (t : Conjuncts) (table : List ColumnConstraints) (es : List (ℕ × ℕ × ℕ)) (held emitted any : Bool)
+    (T : ℕ → q.ColumnConstraints ℕ) : Type 0 where
+  pub shows : Shows t table (pass payload es T)
+  pub emits : emitted ≡ (held || passEmitted payload es T)
+  pub changes : any ≡ passAny payload es T
+
+-- After p passes of at most n; what is left to do gives what all give.
+pub record Passed (t : Conjuncts) (table : List ColumnConstraints) (es : List (ℕ × ℕ × ℕ)) (n p : ℕ)
+    (emitted going : Bool) (T : ℕ → q.ColumnConstraints ℕ) : Type 0 where
+  pub shows : Shows t table (passTimes payload p es T)
+  pub left :
+      cond going (propagate payload (n - p) es (passTimes payload p es T)) (passTimes payload p es T) ≡
+      propagate payload n es T
+  pub emits :
+      (emitted || cond going (propagateEmitted payload (n - p) es (passTimes payload p es T)) false) ≡
+      propagateEmitted payload n es T
+
+-- ---- The kept equalities, as far as the edges es.
+pub record Kept (table : ℕ → q.ColumnConstraints ℕ) (es : List (ℕ × ℕ × ℕ)) (kept : List ℕ) (keeps : ℕ)
+    (dropped : Bool) (l : List ℕ) : Type 0 where
+  pub keeping : Keeps kept keeps (l ++ keptEqualities payload table es)
+  pub drops : dropped ≡ droppedEquality payload table es
+
+-- ---- Resolve.
+abbrev pub resolveAll : Table → Table
+resolveAll T a = resolveDeferred payload (T a)
+
+-- The columns of l resolved, the others not.
+abbrev pub resolvedIn : List ℕ → Table → Table
+resolvedIn l T a = cond (isIn a l) (resolveDeferred payload (T a)) (T a)
+
+pub record Resolved (t : Conjuncts) (table : List ColumnConstraints) (l : List ℕ) (held unsat : Bool) (total : ℕ)
+    (T : ℕ → q.ColumnConstraints ℕ) : Type 0 where
+  pub shows : Shows t table (resolvedIn l T)
+  pub stops : unsat ≡ (held || anyUnsat l (resolveAll T))
+  pub counted : total ≡ length (comparisons payload l (resolveAll T))
+
+-- ---- Write: the table that an array of resolved columns stands for, and the records' bytes with its comparisons cs
+-- written from record `used` on.
+abbrev pub shown : Conjuncts → List ColumnConstraints → Table
+shown t table a = columnOf t (getD table a pastColumn)
+
+pub record Written (t : List ℕ) (used : ℕ) (sent : List ℕ) (cs : List (ℕ × ColumnComparison ℕ)) (u : ℕ)
+    (rs : List ℕ) : Type 0 where
+  pub end : u ≡ used + 3 * length cs
+  pub bytes : rs ≡ writeComparisons t used cs sent
+  pub size : length rs ≡ length sent

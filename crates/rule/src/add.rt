@@ -1,0 +1,122 @@
+// What a conjunct says, taken into its column.
+ghost use mathlib.Core.Path.{_≡_};
+ghost use mathlib.Core.Bool.{true};
+ghost use mathlib.Core.List.{[]};
+ghost use Prim.Native.Nat.{_<_};
+ghost use Rattle.truth.specs.FromBytes.{closesLow, closesHigh};
+ghost use Rattle.constraints.specs.Column as q;
+ghost use Rattle.constraints.specs.Payload.{payload};
+ghost use Rattle.columns.specs.Abstraction.{Conjuncts, conjuncts, columnOf, Fine};
+ghost use Rattle.merge.specs.Classify.{comparisonConstraints};
+ghost use Rattle.rewrite.specs.Read.{saysIn, comparisonIn};
+ghost use Rattle.rewrite.specs.Told.{Told};
+use columns::column::ColumnConstraints;
+use columns::column::add_lower;
+use columns::column::add_upper;
+use columns::column::require_nullability;
+use columns::marks::add_allowed;
+use columns::marks::add_disallowed;
+use columns::marks::add_excluded;
+use records::record::ClosedInterval;
+use rewrite::classify::Comparison;
+use rewrite::classify::Says;
+use truth::scalar::Scalar;
+
+// `==` is a lower and an upper bound, both inclusive.
+fn add_equal(c: ColumnConstraints, v: Scalar) -> ColumnConstraints
+    ensures { λ r. ⌜ ((t : Conjuncts) → columnOf t r ≡ q.addUpper payload (v .0) true
+        (q.addLower payload (v .0) true (columnOf t c))) ⌝ }
+    ensures { λ r. ⌜ (r .marks ≡ c .marks) × (r .len ≡ c .len) ⌝ }
+{
+    let d = add_lower(c, v, true);
+    add_upper(d, v, true)
+}
+
+// `column k v`, of conjunct j. Only `!=` gives the number j to the column.
+fn add_comparison(
+    kinds: &[u8],
+    values: &[u64],
+    c: ColumnConstraints,
+    j: u8,
+    k: Comparison,
+    v: Scalar,
+) -> ColumnConstraints
+    requires { ⌜ Fine (c .marks) (c .len) × (j < 128) × Told (conjuncts (now kinds) (now values) [] [] []) j
+        (comparisonConstraints (comparisonIn k) (v .0)) ⌝ }
+    ensures { λ r. ⌜ ((t : Conjuncts) → t .kinds ≡ now (kinds .entry) → t .values ≡ now (values .entry) →
+        columnOf t r ≡ q.addAll payload (comparisonConstraints (comparisonIn k) (v .0)) (columnOf t c)) ⌝ }
+    ensures { λ r. ⌜ Fine (r .marks) (r .len) ⌝ }
+{
+    match k {
+        Comparison::Eq => add_equal(c, v),
+        Comparison::NotEq => add_excluded(kinds, values, c, j),
+        Comparison::Lt => add_upper(c, v, false),
+        Comparison::LtEq => add_upper(c, v, true),
+        Comparison::Gt => add_lower(c, v, false),
+        Comparison::GtEq => add_lower(c, v, true),
+    }
+}
+
+fn closes_low(ends: ClosedInterval) -> bool
+    ensures { λ r. ⌜ r ≡ closesLow ends ⌝ }
+{
+    match ends {
+        ClosedInterval::Both => true,
+        ClosedInterval::Left => true,
+        ClosedInterval::Right => false,
+        ClosedInterval::None => false,
+    }
+}
+
+fn closes_high(ends: ClosedInterval) -> bool
+    ensures { λ r. ⌜ r ≡ closesHigh ends ⌝ }
+{
+    match ends {
+        ClosedInterval::Both => true,
+        ClosedInterval::Left => false,
+        ClosedInterval::Right => true,
+        ClosedInterval::None => false,
+    }
+}
+
+fn add_between(
+    c: ColumnConstraints,
+    ends: ClosedInterval,
+    v: Scalar,
+    w: Scalar,
+) -> ColumnConstraints
+    ensures { λ r. ⌜ ((t : Conjuncts) → columnOf t r ≡ q.addUpper payload (w .0) (closesHigh ends)
+        (q.addLower payload (v .0) (closesLow ends) (columnOf t c))) ⌝ }
+    ensures { λ r. ⌜ (r .marks ≡ c .marks) × (r .len ≡ c .len) ⌝ }
+{
+    let d = add_lower(c, v, closes_low(ends));
+    add_upper(d, w, closes_high(ends))
+}
+
+/// What conjunct j says of its column.
+pub fn add_says(
+    kinds: &[u8],
+    values: &[u64],
+    starts: &[u32],
+    counts: &[u32],
+    pool: &[u8],
+    c: ColumnConstraints,
+    j: u8,
+    s: Says,
+) -> ColumnConstraints
+    requires { ⌜ Fine (c .marks) (c .len) × (j < 128) × Told (conjuncts (now kinds) (now values) (now starts)
+        (now counts) (now pool)) j (saysIn (now pool) s) ⌝ }
+    ensures { λ r. ⌜ (let t = conjuncts (now (kinds .entry)) (now (values .entry)) (now (starts .entry))
+        (now (counts .entry)) (now (pool .entry)) in
+        columnOf t r ≡ q.addAll payload (saysIn (now (pool .entry)) s) (columnOf t c)) ⌝ }
+    ensures { λ r. ⌜ Fine (r .marks) (r .len) ⌝ }
+{
+    match s {
+        Says::Nothing => c,
+        Says::Compare(k, v) => add_comparison(kinds, values, c, j, k, v),
+        Says::Between(ends, v, w) => add_between(c, ends, v, w),
+        Says::Allow(_, _) => add_allowed(c, j),
+        Says::Disallow(strict, _, _) => add_disallowed(counts, c, j, strict),
+        Says::Require(n) => require_nullability(c, n),
+    }
+}

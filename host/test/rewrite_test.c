@@ -1,0 +1,841 @@
+/*
+ * screen_rewrite: the paper's cases, every refusal, every limit, and that no byte is written but the records added.
+ *
+ * A test builds a screen line by line, runs the call, and then goes on building: what it appends after the call is what
+ * the call must have appended. So the lent buffers are compared whole, the room behind the added records too.
+ */
+#include "lend.h"
+
+enum { INT = SCREEN_TYPE_INT, DAY = SCREEN_TYPE_DAY, TRUTH = SCREEN_TYPE_TRUTH };
+enum { EQ = SCREEN_OP_EQ, NE = SCREEN_OP_NOT_EQ, LT = SCREEN_OP_LT, LE = SCREEN_OP_LT_EQ, GT = SCREEN_OP_GT,
+       GE = SCREEN_OP_GT_EQ, AND = SCREEN_OP_AND, OR = SCREEN_OP_OR };
+enum { PLENTY = 700 }; /* more records than any screen here adds */
+
+/* Out-parameters before a call, to see that a refusal and an unchanged screen keep them. */
+#define MARK_ROOT UINT64_C(0x0123456789abcdef)
+#define MARK_USED UINT64_C(0xfedcba9876543210)
+
+/* ---------------------------------------------------------------------------------------- screens of joined lines */
+
+static uint32_t top;   /* the lines joined so far, if there are any */
+static unsigned lines; /* how many there are */
+
+static void join(uint32_t next)
+{
+    top = lines == 0 ? next : binary(AND, top, next);
+    lines++;
+}
+
+/* A new screen with this many Int columns. */
+static void begin_ints(size_t columns)
+{
+    uint8_t table[LEND_TABLE];
+    memset(table, INT, sizeof table);
+    begin(table, columns);
+    lines = 0;
+}
+
+/* A new screen with columns of all three types. */
+static void begin_types(void)
+{
+    begin_mixed();
+    lines = 0;
+}
+
+static void compare(unsigned code, uint32_t number, int64_t value)
+{
+    join(line(code, number, INT, value));
+}
+
+/* Answers the record of the equality. */
+static uint32_t equal_columns(uint32_t left, uint32_t right)
+{
+    uint32_t a = column(left);
+    uint32_t b = column(right);
+    uint32_t equality = binary(EQ, a, b);
+    join(equality);
+    return equality;
+}
+
+/* is_in of a column over the pool's next values, first, first + 1, .. */
+static uint32_t member(unsigned nulls_equal, unsigned holds_null, uint32_t number, int64_t first, uint32_t count)
+{
+    uint32_t start = (uint32_t)(sent.pool_len / 8);
+    uint32_t x = column(number);
+    for (uint32_t i = 0; i < count; i++)
+        pool_value(first + i);
+    return is_in(nulls_equal, x, list(holds_null, INT, start, count));
+}
+
+static void null_test(uint32_t number)
+{
+    join(is_null(column(number)));
+}
+
+/* Unreached literals until so many records are used. The root stays. */
+static void fill_to(uint64_t used)
+{
+    uint64_t root = sent.root;
+    while (sent.used < used)
+        literal(INT, 0);
+    sent.root = root;
+}
+
+/* A line that the merging does not read, whose tree has so many records, 3 at least: shared inputs and null tests. */
+static uint32_t opaque_tree(uint32_t size)
+{
+    uint32_t ladder[16]; /* the tree of ladder[i] has 2^(i+1) - 1 records */
+    unsigned n = 1;
+    uint32_t count;
+    uint32_t made;
+    ladder[0] = column(2);
+    for (; (2u << n) - 1 <= size; n++)
+        ladder[n] = binary(OR, ladder[n - 1], ladder[n - 1]);
+    made = ladder[n - 1];
+    count = (1u << n) - 1;
+    while (n-- > 0)
+        if (count + (2u << n) <= size) {
+            made = binary(OR, made, ladder[n]);
+            count += 2u << n;
+        }
+    for (; count < size; count++)
+        made = is_not_null(made);
+    return made;
+}
+
+/* ------------------------------------------------------------------------------------------------ running the call */
+
+static struct sent before;                /* as it was sent, its room filled with marks */
+static uint8_t records_after[LEND_RECORDS];
+static uint32_t answer;
+static uint64_t new_root;
+static uint64_t new_used;
+static int others_kept; /* table and pool */
+
+/* Lends so many records behind the used ones, and some bytes more, with values that no record has. */
+static void room(size_t records, size_t bytes)
+{
+    size_t len = 16 * records + bytes;
+    for (size_t i = 0; i < len; i++)
+        sent.records[16 * sent.used + i] = (uint8_t)(0xa0 + i % 23);
+    sent.records_len = 16 * (size_t)sent.used + len;
+}
+
+static void run(void)
+{
+    struct slices s = lend();
+    before = sent;
+    new_root = MARK_ROOT;
+    new_used = MARK_USED;
+    answer = screen_rewrite(s.table, sent.table_len, s.records, sent.records_len, s.pool, sent.pool_len, sent.used,
+                            sent.root, &new_root, &new_used);
+    if (sent.records_len > 0)
+        memcpy(records_after, s.records, sent.records_len);
+    others_kept = kept(s.table, sent.table, sent.table_len) && kept(s.pool, sent.pool, sent.pool_len);
+    give_back(&s);
+}
+
+/* ------------------------------------------------------------------------- which rows pass, before and after a call */
+
+static int64_t values[24];
+static size_t values_len;
+
+static void try_value(int64_t value)
+{
+    for (size_t i = 0; i < values_len; i++)
+        if (values[i] == value)
+            return;
+    if (values_len < sizeof values / sizeof values[0])
+        values[values_len++] = value;
+}
+
+static int64_t value_at(const uint8_t *at)
+{
+    uint64_t value = 0;
+    for (unsigned i = 8; i-- > 0;)
+        value = value << 8 | at[i];
+    return (int64_t)value;
+}
+
+/* The values of the screen sent and their neighbours, those of the last lines first. */
+static void gather_values(void)
+{
+    values_len = 0;
+    for (size_t n = before.used; n-- > 0;)
+        if (before.records[16 * n] == SCREEN_KIND_LITERAL) {
+            int64_t value = value_at(before.records + 16 * n + 8);
+            try_value(value);
+            try_value(value == INT64_MAX ? value : value + 1);
+            try_value(value == INT64_MIN ? value : value - 1);
+        }
+    for (size_t at = 0; at < before.pool_len; at += 8)
+        try_value(value_at(before.pool + at));
+}
+
+/* Even columns hold the first value, odd ones the second; values_len stands for null. */
+static uint64_t make_row(uint8_t *row, size_t even, size_t odd)
+{
+    uint64_t nulls = 0;
+    for (size_t c = 0; c < before.table_len; c++) {
+        size_t choice = c % 2 == 0 ? even : odd;
+        int64_t value = choice < values_len ? values[choice] : 0;
+        if (before.table[c] == DAY && (value < INT32_MIN || value > INT32_MAX))
+            value = 0;
+        if (before.table[c] == TRUTH)
+            value = value > 0;
+        store(row + 8 * c, 8, (uint64_t)value);
+        if (choice == values_len)
+            nulls |= UINT64_C(1) << c;
+    }
+    return nulls;
+}
+
+static int passes(const uint8_t *records, uint64_t used, uint64_t root, const uint8_t *row, uint64_t nulls)
+{
+    return screen_test_row(before.table, before.table_len, records, before.records_len, before.pool, before.pool_len,
+                           used, root, row, 8 * before.table_len, nulls) == SCREEN_TRUE;
+}
+
+/* Each row passes the screen returned exactly if it passes the screen sent. Answers how many passed. */
+static unsigned same_rows(const char *name)
+{
+    uint8_t row[8 * LEND_TABLE];
+    unsigned passing = 0;
+    int same = 1;
+    gather_values();
+    for (size_t even = 0; even <= values_len; even++)
+        for (size_t odd = 0; odd <= values_len; odd++) {
+            uint64_t nulls = make_row(row, even, odd);
+            int was = passes(before.records, before.used, before.root, row, nulls);
+            same &= was == passes(records_after, new_used, new_root, row, nulls);
+            passing += (unsigned)was;
+        }
+    report(same, name, "a row passes before and not after, or the other way round");
+    return passing;
+}
+
+/* ------------------------------------------------------------------------------------------ what the call must say */
+
+static void nothing_written(const char *name, uint32_t want)
+{
+    report(answer == want, name, answer < 256 ? screen_refusal_text(answer) : "another answer");
+    report(new_root == MARK_ROOT && new_used == MARK_USED, name, "an out-parameter was written");
+    report(others_kept && kept(records_after, before.records, before.records_len), name, "a lent byte changed");
+}
+
+static void refused(const char *name, uint32_t want)
+{
+    run();
+    nothing_written(name, want);
+}
+
+static void unchanged(const char *name)
+{
+    run();
+    nothing_written(name, SCREEN_UNCHANGED);
+}
+
+/* The call added exactly the records that stand in `sent` since. */
+static void added_these(const char *name, uint32_t want, uint64_t added)
+{
+    report(answer == want, name, answer < 256 ? screen_refusal_text(answer) : "another answer");
+    report(sent.used - before.used == added, name, "the test expects another number of records");
+    report(new_root == sent.root && new_used == sent.used, name, "another root or used count");
+    report(others_kept && kept(records_after, sent.records, before.records_len), name, "other records than expected");
+    if (new_used <= SCREEN_MAX_RECORDS)
+        report(screen_check(before.table, before.table_len, records_after, before.records_len, before.pool,
+                            before.pool_len, new_used, new_root) == SCREEN_ACCEPTED, name, "no well-formed screen");
+}
+
+/* After run() and the records expected. Some of the rows must pass, so that the comparison says something. */
+static void rewritten(const char *name, uint64_t added)
+{
+    added_these(name, SCREEN_REWRITTEN, added);
+    if (answer == SCREEN_REWRITTEN)
+        report(same_rows(name) > 0, name, "no row passed");
+}
+
+static void nothing_passes(const char *name)
+{
+    run();
+    literal(TRUTH, 0);
+    added_these(name, SCREEN_NOTHING_PASSES, 1);
+    if (answer == SCREEN_NOTHING_PASSES)
+        report(same_rows(name) == 0, name, "a row passed");
+}
+
+/* ------------------------------------------------------------------------------------------ the cases of the paper */
+
+/* Two comparisons of c0 that become one, with room for it. */
+static void two_become_one(const char *name, unsigned code1, int64_t value1, unsigned code2, int64_t value2,
+                           unsigned code, int64_t value)
+{
+    begin_ints(2);
+    compare(code1, 0, value1);
+    compare(code2, 0, value2);
+    room(5, 7);
+    run();
+    line(code, 0, INT, value);
+    rewritten(name, 3);
+}
+
+static void two_lines(unsigned code1, int64_t value1, unsigned code2, int64_t value2)
+{
+    begin_ints(2);
+    compare(code1, 0, value1);
+    compare(code2, 0, value2);
+    room(5, 7);
+}
+
+static void test_bounds(void)
+{
+    two_become_one("c0>3, c0>5", GT, 3, GT, 5, GT, 5);
+    two_become_one("c0>=3, c0<=3", GE, 3, LE, 3, EQ, 3);
+    two_lines(GE, 3, LT, 3);
+    nothing_passes("c0>=3, c0<3");
+    two_lines(GT, 3, LT, 4);
+    unchanged("c0>3, c0<4");
+    two_become_one("c0>=3, c0!=3", GE, 3, NE, 3, GT, 3);
+
+    begin_ints(2);
+    uint32_t five = literal(INT, 5);
+    join(binary(LT, five, column(0)));
+    compare(GT, 0, 4);
+    room(3, 0);
+    run();
+    line(GT, 0, INT, 5);
+    rewritten("5<c0, c0>4", 3);
+
+    two_become_one("a negative bound", LT, 3, LT, -1, LT, -1);
+    two_become_one("extremes", GE, INT64_MIN, GE, INT64_MAX, GE, INT64_MAX);
+    two_become_one("an equal bound that is open", LE, 3, LT, 3, LT, 3);
+    two_become_one("an exclusion outside", GT, 5, NE, 5, GT, 5);
+    two_lines(NE, 5, NE, 4);
+    unchanged("two exclusions");
+}
+
+static void test_equalities(void)
+{
+    begin_ints(2);
+    uint32_t equality = equal_columns(0, 1);
+    compare(GT, 0, 5);
+    room(9, 3);
+    run();
+    uint32_t left = line(GT, 0, INT, 5);
+    uint32_t right = line(GT, 1, INT, 5);
+    binary(AND, binary(AND, equality, left), right);
+    rewritten("c0==c1, c0>5", 8);
+
+    begin_ints(2);
+    equal_columns(0, 1);
+    compare(EQ, 0, 7);
+    room(9, 3);
+    run();
+    left = line(EQ, 0, INT, 7);
+    right = line(EQ, 1, INT, 7);
+    binary(AND, left, right);
+    rewritten("c0==c1, c0==7", 7);
+
+    begin_ints(2);
+    equal_columns(0, 0);
+    room(5, 0);
+    unchanged("c0==c0");
+    compare(EQ, 0, 4);
+    room(5, 0);
+    run();
+    line(EQ, 0, INT, 4);
+    rewritten("c0==c0, c0==4", 3);
+
+    begin_ints(2);
+    equal_columns(0, 1);
+    compare(EQ, 0, 7);
+    compare(EQ, 1, 8);
+    room(5, 0);
+    nothing_passes("c0==c1, c0==7, c1==8");
+}
+
+static void test_members(void)
+{
+    begin_ints(2);
+    uint32_t x = column(0);
+    uint32_t low = literal(INT, 1);
+    join(is_between(SCREEN_CLOSED_BOTH, x, low, literal(INT, 5)));
+    room(5, 0);
+    unchanged("is_between(c0,1,5)");
+
+    begin_ints(2);
+    null_test(0);
+    compare(GT, 0, 1);
+    room(5, 0);
+    nothing_passes("is_null(c0), c0>1");
+
+    begin_ints(2);
+    join(member(0, 0, 0, 1, 2));
+    compare(GT, 0, 2);
+    room(5, 0);
+    nothing_passes("c0 in [1,2], c0>2");
+
+    begin_ints(2);
+    join(member(0, 1, 0, 1, 2));
+    compare(GT, 0, 2);
+    room(5, 0);
+    unchanged("c0 in [1,2,null], c0>2");
+
+    for (unsigned nulls_equal = 0; nulls_equal < 2; nulls_equal++) {
+        begin_ints(2);
+        null_test(0);
+        join(not_of(member(nulls_equal, 0, 0, 1, 1)));
+        room(5, 0);
+        if (nulls_equal)
+            unchanged("is_null(c0), Not is_in(c0,[1]) with nulls_equal");
+        else
+            nothing_passes("is_null(c0), Not is_in(c0,[1])");
+    }
+
+    begin_ints(2);
+    null_test(0);
+    join(not_of(member(1, 0, 0, 1, 1)));
+    join(not_of(member(0, 0, 0, 1, 1)));
+    room(5, 0);
+    nothing_passes("a value that a negated is_in without nulls_equal gives as well");
+}
+
+/* A list of so many values, all at most 2. */
+static void long_list(uint32_t count)
+{
+    begin_ints(1);
+    uint32_t x = column(0);
+    for (uint32_t i = 0; i < count; i++)
+        pool_value(1 + i % 2);
+    join(is_in(0, x, list(0, INT, 0, count)));
+    compare(GT, 0, 2);
+    room(1, 0);
+}
+
+static void test_long_lists(void)
+{
+    long_list(100);
+    nothing_passes("100 values, all at most 2, c0>2");
+    long_list(101);
+    unchanged("101 values, all at most 2, c0>2");
+    begin_ints(1);
+    join(member(0, 0, 0, 1, 100));
+    join(member(0, 0, 0, 101, 100));
+    room(1, 0);
+    nothing_passes("two lists of 100 values, none in both");
+    begin_ints(1);
+    join(member(0, 0, 0, 1, 100));
+    join(member(0, 0, 0, 100, 100));
+    room(1, 0);
+    unchanged("two lists of 100 values, one in both");
+}
+
+/* --------------------------------------------------------------------------------------- what else the merging does */
+
+static void test_order(void)
+{
+    begin_ints(1);
+    compare(NE, 0, 5);
+    compare(NE, 0, 3);
+    compare(NE, 0, 9);
+    compare(NE, 0, 3);
+    room(20, 0);
+    run();
+    uint32_t first = line(NE, 0, INT, 5);
+    uint32_t second = line(NE, 0, INT, 3);
+    uint32_t third = line(NE, 0, INT, 9);
+    binary(AND, binary(AND, first, second), third);
+    rewritten("excluded values in the order of the lines", 11);
+
+    begin_ints(1);
+    join(member(0, 0, 0, 1, 3));
+    uint32_t in = top;
+    compare(GT, 0, 0);
+    compare(GT, 0, 1);
+    room(20, 0);
+    run();
+    binary(AND, in, line(GT, 0, INT, 1));
+    rewritten("is_in stays", 4);
+
+    begin_ints(3);
+    compare(GT, 2, 1);
+    compare(GT, 0, 1);
+    compare(GT, 2, 0);
+    room(20, 0);
+    run();
+    first = line(GT, 2, INT, 1);
+    second = line(GT, 0, INT, 1);
+    binary(AND, first, second);
+    rewritten("columns in the order of the lines", 7);
+}
+
+static void test_types(void)
+{
+    begin_types();
+    join(line(GE, 1, DAY, -3));
+    join(line(GE, 1, DAY, INT32_MIN));
+    room(20, 0);
+    run();
+    line(GE, 1, DAY, -3);
+    rewritten("Days", 3);
+
+    begin_types();
+    join(line(GT, 2, TRUTH, 0));
+    join(line(GE, 2, TRUTH, 1));
+    room(20, 0);
+    run();
+    line(GE, 2, TRUTH, 1);
+    rewritten("truths", 3);
+
+    begin_types();
+    join(line(SCREEN_OP_EQ_VALIDITY, 0, INT, 4));
+    join(line(SCREEN_OP_EQ_VALIDITY, 0, INT, 5));
+    room(20, 0);
+    unchanged("comparisons that take null as a value");
+    begin_types();
+    join(column(2));
+    join(literal(TRUTH, 1));
+    join(null_of(TRUTH));
+    room(20, 0);
+    unchanged("lines that are no comparisons");
+}
+
+/* A record reached as a conjunct twice counts twice, and one that is not read is kept twice. */
+static void test_shared(void)
+{
+    begin_ints(1);
+    uint32_t shared = line(GT, 0, INT, 3);
+    binary(AND, shared, shared);
+    room(3, 0);
+    run();
+    line(GT, 0, INT, 3);
+    rewritten("a line twice", 3);
+
+    begin_types();
+    uint32_t opaque = column(2);
+    uint32_t twice = binary(SCREEN_OP_LOGICAL_AND, opaque, opaque);
+    uint32_t bound = line(GT, 0, INT, 3);
+    binary(AND, binary(AND, bound, twice), bound);
+    room(9, 0);
+    run();
+    bound = line(GT, 0, INT, 3);
+    binary(AND, binary(AND, opaque, opaque), bound);
+    rewritten("a line that is not read, twice", 5);
+}
+
+/* 63 equalities over 64 columns, listed from the far end, and a line on the first column. */
+static void equality_chain(const char *name, unsigned code, int equalities_stay)
+{
+    uint32_t conjuncts[63 + 64];
+    unsigned n = 0;
+    begin_ints(64);
+    for (uint32_t i = 63; i-- > 0;) {
+        uint32_t equality = equal_columns(i, i + 1);
+        if (equalities_stay)
+            conjuncts[n++] = equality;
+    }
+    compare(code, 0, 7);
+    room(PLENTY, 0);
+    run();
+    /* The columns stand in the order in which the lines name them: 62, 63, 61, 60, .. 0. */
+    for (uint32_t i = 0; i < 64; i++)
+        conjuncts[n++] = line(code, i == 0 ? 62 : i == 1 ? 63 : 63 - i, INT, 7);
+    lines = 0;
+    for (unsigned i = 0; i < n; i++)
+        join(conjuncts[i]);
+    rewritten(name, 3 * 64 + n - 1);
+}
+
+static void test_chain(void)
+{
+    equality_chain("a chain of equalities, its first column fixed", EQ, 0);
+    equality_chain("a chain of equalities, its first column bounded", GT, 1);
+}
+
+/* -------------------------------------------------------------------------------------- refused as by screen_check */
+
+static void test_check_refusals(void)
+{
+    begin_ints(65);
+    join(literal(TRUTH, 1));
+    room(3, 0);
+    refused("65 columns", SCREEN_REFUSED_TABLE);
+    sent.table_len = 64;
+    sent.table[3] = 9;
+    refused("no type", SCREEN_REFUSED_TABLE);
+
+    two_lines(GT, 3, GT, 5);
+    sent.used = UINT64_C(1) << 60;
+    refused("a large used", SCREEN_REFUSED_SIZE);
+    sent.used = 13;
+    refused("more used than lent", SCREEN_REFUSED_SIZE);
+    sent.used = 7;
+    sent.pool_len = 9;
+    refused("a cut-off pool", SCREEN_REFUSED_SIZE);
+    sent.pool_len = 0;
+    sent.root = 7;
+    refused("root equal to used", SCREEN_REFUSED_ROOT);
+    sent.root = UINT64_MAX;
+    refused("root at its largest", SCREEN_REFUSED_ROOT);
+    sent.root = 6;
+    sent.records[3] = 1;
+    refused("a nonzero unused field", SCREEN_REFUSED_RECORD);
+    sent.records[3] = 0;
+    sent.records[4] = 2;
+    refused("a column not in the table", SCREEN_REFUSED_REFERENCE);
+    sent.records[4] = 0;
+    sent.records[6 * 16 + 8] = 6;
+    refused("its own input", SCREEN_REFUSED_REFERENCE);
+    sent.records[6 * 16 + 8] = 5;
+    sent.records[2 * 16 + 1] = 8;
+    refused("arithmetic", SCREEN_REFUSED_OPERATOR);
+    sent.records[2 * 16 + 1] = GT;
+    sent.records[16 + 2] = DAY;
+    refused("two types", SCREEN_REFUSED_TYPES);
+    sent.records[16 + 2] = INT;
+    sent.root = 0;
+    refused("an Int root", SCREEN_REFUSED_TYPES);
+    sent.root = 6;
+    run();
+    line(GT, 0, INT, 5);
+    rewritten("the same screen undamaged", 3);
+
+    begin_ints(1);
+    compare(GT, 0, 3);
+    join(not_of(line(EQ, 0, INT, 1)));
+    room(9, 0);
+    refused("Not above a comparison", SCREEN_REFUSED_OPERATOR);
+}
+
+static void test_empty_slices(void)
+{
+    uint8_t one[32] = {SCREEN_KIND_NULL, 0, TRUTH};
+    uint8_t *odd = (uint8_t *)(uintptr_t)1;
+    uint64_t root = MARK_ROOT;
+    uint64_t used = MARK_USED;
+    report(screen_rewrite(NULL, 0, NULL, 0, NULL, 0, 0, 0, &root, &used) == SCREEN_REFUSED_ROOT, "all NULL", "not 3");
+    report(screen_rewrite(odd, 0, odd, 0, odd, 0, 0, 0, &root, &used) == SCREEN_REFUSED_ROOT, "address 1", "not 3");
+    report(screen_rewrite(NULL, 0, NULL, 0, NULL, 0, 1, 0, &root, &used) == SCREEN_REFUSED_SIZE, "all NULL", "not 2");
+    report(screen_rewrite(NULL, 0, one, 16, NULL, 0, 1, 0, &root, &used) == SCREEN_UNCHANGED, "a null alone",
+           "not unchanged");
+    report(screen_rewrite(odd, 0, one, 32, odd, 0, 1, 0, &root, &used) == SCREEN_UNCHANGED, "a null alone",
+           "not unchanged");
+    report(root == MARK_ROOT && used == MARK_USED, "empty slices", "an out-parameter was written");
+}
+
+/* --------------------------------------------------------------------------- 8, 9: the tree and the conjuncts sent */
+
+static void test_tree(void)
+{
+    begin_types();
+    join(opaque_tree(4096));
+    room(3, 0);
+    unchanged("a tree of 4,096");
+    begin_types();
+    join(opaque_tree(4097));
+    room(3, 0);
+    refused("a tree of 4,097", SCREEN_REFUSED_TREE);
+
+    /* And(And(tree, c0>3), c0>5): eight records more. */
+    for (uint32_t size = 4096; size <= 4097; size++) {
+        begin_types();
+        uint32_t opaque = opaque_tree(size - 8);
+        join(opaque);
+        join(line(GT, 0, INT, 3));
+        join(line(GT, 0, INT, 5));
+        room(9, 0);
+        if (size == 4097) {
+            refused("a tree of 4,097 with lines to merge", SCREEN_REFUSED_TREE);
+            continue;
+        }
+        run();
+        binary(AND, opaque, line(GT, 0, INT, 5));
+        added_these("a tree of 4,096 with lines to merge", SCREEN_REWRITTEN, 4);
+    }
+
+    begin_types();
+    uint32_t doubled = column(2);
+    for (unsigned i = 0; i < 64; i++)
+        doubled = binary(AND, doubled, doubled);
+    room(3, 0);
+    refused("a tree of 2^65 - 1 and 2^64 conjuncts: 8 before 9", SCREEN_REFUSED_TREE);
+}
+
+/* One line so many times, by sharing. */
+static void conjuncts(unsigned n)
+{
+    uint32_t ladder[8];
+    unsigned left = n;
+    begin_ints(1);
+    ladder[0] = line(GT, 0, INT, 3);
+    for (unsigned i = 1; i < 8; i++)
+        ladder[i] = binary(AND, ladder[i - 1], ladder[i - 1]);
+    for (unsigned i = 8; i-- > 0;)
+        for (; left >= 1u << i; left -= 1u << i)
+            join(ladder[i]);
+    sent.root = top;
+    room(3, 0);
+}
+
+static void test_conjuncts(void)
+{
+    for (unsigned n = 127; n <= 128; n++) {
+        conjuncts(n);
+        run();
+        line(GT, 0, INT, 3);
+        rewritten("127 and 128 conjuncts", 3);
+    }
+    conjuncts(129);
+    refused("129 conjuncts", SCREEN_REFUSED_CONJUNCTS);
+    begin_ints(1);
+    for (unsigned i = 0; i < 127; i++)
+        compare(GE, 0, i);
+    compare(NE, 0, 200);
+    room(7, 0);
+    run();
+    uint32_t bound = line(GE, 0, INT, 126);
+    binary(AND, bound, line(NE, 0, INT, 200));
+    rewritten("128 different conjuncts", 7);
+    begin_ints(1);
+    compare(LT, 0, 0);
+    for (unsigned i = 0; i < 128; i++)
+        compare(GE, 0, i);
+    room(7, 0);
+    refused("129 conjuncts, the second impossible", SCREEN_REFUSED_CONJUNCTS);
+}
+
+/* ------------------------------------------------------------------------------ 11: no room for the records to add */
+
+static void test_used_count(void)
+{
+    for (uint64_t used = 4092; used <= 4096; used++) {
+        begin_ints(1);
+        compare(GT, 0, 3);
+        compare(GT, 0, 5);
+        fill_to(used);
+        room(100, 0);
+        if (used > 4093) {
+            refused("used and three more pass 4,096", SCREEN_REFUSED_ROOM);
+            continue;
+        }
+        run();
+        line(GT, 0, INT, 5);
+        rewritten("used and three more up to 4,096", 3);
+    }
+    for (uint64_t used = 4095; used <= 4096; used++) {
+        begin_ints(1);
+        compare(GE, 0, 3);
+        compare(LT, 0, 3);
+        fill_to(used);
+        room(100, 0);
+        if (used == 4095)
+            nothing_passes("used and one more are 4,096");
+        else
+            refused("used and one more pass 4,096", SCREEN_REFUSED_ROOM);
+    }
+    begin_ints(1);
+    compare(GT, 0, 3);
+    compare(LT, 0, 4);
+    fill_to(4096);
+    unchanged("4,096 used and no room");
+    room(100, 0);
+    unchanged("4,096 used");
+}
+
+static void test_lent_records(void)
+{
+    /* Three records are needed, with 0 to 3 lent, and bytes behind them that are no whole record. */
+    for (size_t records = 0; records <= 3; records++)
+        for (size_t bytes = 0; bytes <= 15; bytes += 15) {
+            begin_ints(1);
+            compare(GT, 0, 3);
+            compare(GT, 0, 5);
+            room(records, bytes);
+            if (records < 3) {
+                refused("less room than three records", SCREEN_REFUSED_ROOM);
+                continue;
+            }
+            run();
+            line(GT, 0, INT, 5);
+            rewritten("room for exactly three records", 3);
+        }
+    for (size_t bytes = 0; bytes <= 16; bytes++) {
+        begin_ints(1);
+        compare(GE, 0, 3);
+        compare(LT, 0, 3);
+        room(0, bytes);
+        if (bytes < 16)
+            refused("less room than one record", SCREEN_REFUSED_ROOM);
+        else
+            nothing_passes("room for exactly one record");
+    }
+    begin_ints(2);
+    equal_columns(0, 1);
+    compare(GT, 0, 5);
+    room(7, 15);
+    refused("eight to add and a byte short", SCREEN_REFUSED_ROOM);
+}
+
+/* And(And(tree, c0==c3), c0>5) has eight records more than the tree; the rebuilt one, with c3>5, has twelve more. */
+static void test_rebuilt_tree(void)
+{
+    for (uint32_t size = 4084; size <= 4089; size++) {
+        begin_types();
+        uint32_t opaque = opaque_tree(size);
+        join(opaque);
+        uint32_t equality = equal_columns(0, 3);
+        join(line(GT, 0, INT, 5));
+        room(40, 0);
+        if (size > 4084) {
+            refused("a rebuilt tree over 4,096", size > 4088 ? SCREEN_REFUSED_TREE : SCREEN_REFUSED_ROOM);
+            continue;
+        }
+        run();
+        uint32_t left = line(GT, 0, INT, 5);
+        uint32_t right = line(GT, 3, INT, 5);
+        binary(AND, binary(AND, binary(AND, opaque, equality), left), right);
+        added_these("a rebuilt tree of 4,096", SCREEN_REWRITTEN, 9);
+    }
+}
+
+/* 63 equalities and 65 exclusions: each column would get each of them, 4,160 comparisons. */
+static void test_too_many(void)
+{
+    begin_ints(64);
+    for (uint32_t i = 0; i < 63; i++)
+        equal_columns(i, i + 1);
+    for (int64_t i = 0; i < 65; i++)
+        compare(NE, (uint32_t)(i % 64), i);
+    room(4096, 0);
+    refused("4,160 comparisons to add", SCREEN_REFUSED_ROOM);
+}
+
+static void test_texts(void)
+{
+    static const uint32_t own[] = {SCREEN_REFUSED_TREE, SCREEN_REFUSED_CONJUNCTS, SCREEN_REFUSED_EMPTY,
+                                   SCREEN_REFUSED_ROOM};
+    for (size_t i = 0; i < sizeof own / sizeof own[0]; i++)
+        report(strcmp(screen_refusal_text(own[i]), screen_refusal_text(0)) != 0, "screen_refusal_text", "no sentence");
+}
+
+int main(void)
+{
+    test_bounds();
+    test_equalities();
+    test_members();
+    test_long_lists();
+    test_order();
+    test_types();
+    test_shared();
+    test_chain();
+    test_check_refusals();
+    test_empty_slices();
+    test_tree();
+    test_conjuncts();
+    test_used_count();
+    test_lent_records();
+    test_rebuilt_tree();
+    test_too_many();
+    test_texts();
+    return finish();
+}
