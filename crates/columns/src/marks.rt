@@ -308,8 +308,10 @@ fn is_outside(
         (now (pool .entry)) (now (marks .entry)) n) (listOf (now (starts .entry)) (now (counts .entry))
         (now (pool .entry)) j) (v .0) ⌝ }
 {
-    let h = listed(starts, counts, pool, j, v);
-    allows(kinds, starts, counts, pool, marks, n, v) & !h
+    if listed(starts, counts, pool, j, v) {
+        return false;
+    }
+    allows(kinds, starts, counts, pool, marks, n, v)
 }
 
 // Has the list of f, one of the allowed ones, a value in all of them that is not in the list of j.

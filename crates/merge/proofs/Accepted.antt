@@ -6,8 +6,8 @@ use Prim.Native.Nat.{ℕ, _<_}
 use lib.Dec.{ltb}
 use borrow.Author.Tests.{ltb-true}
 use Rattle.records.specs.Record.{node, recordAt}
-use Rattle.records.specs.Fit.{reachOk}
-use Rattle.records.specs.Checked.{Checked}
+use Rattle.checking.specs.Fit.{reachOk}
+use Rattle.checking.specs.Checked.{Checked}
 use Rattle.records.specs.declared.operator.Operator.{Operator}
 use Rattle.records.specs.declared.operator.Operator.the-variants as operator
 use Rattle.records.specs.declared.record.Record.{Record}

@@ -2,11 +2,11 @@
 use mathlib.Core.Path.{_≡_, refl}
 use mathlib.Core.List.{map}
 use Rattle.records.specs.Bytes.{word, valueAt, all, first}
-use Rattle.records.specs.Check.{typesKnown, tableOk, sizesOk, meaningFault, recordFault, firstFault, recordsAnswer}
-use Rattle.records.specs.Check.{checkAnswer}
+use Rattle.checking.specs.Check.{typesKnown, tableOk, sizesOk, meaningFault, recordFault, firstFault, recordsAnswer}
+use Rattle.checking.specs.Check.{checkAnswer}
 use Rattle.records.specs.Course.{upTo, course}
-use Rattle.records.specs.Fit.{allFit, listOk, reachOk, isBinary, servedOk, typeOf, typeAt, sameType, binaryFits}
-use Rattle.records.specs.Fit.{betweenFits, memberFits, typesOk}
+use Rattle.checking.specs.Fit.{allFit, listOk, reachOk, isBinary, servedOk, typeOf, typeAt, sameType, binaryFits}
+use Rattle.checking.specs.Fit.{betweenFits, memberFits, typesOk}
 use Rattle.records.specs.Operator.{operatorAt}
 use Rattle.records.specs.Record.{fieldsAt, closedAt, decode, recordAt, encode}
 use Rattle.records.specs.Shape.{knownType, inType, maxCode, isTyped, usesA, usesB, usesC, knownOk, zeroOr, unusedOk}

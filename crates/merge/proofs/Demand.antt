@@ -15,17 +15,17 @@ use borrow.Author.Tests.{ltb-true, lt-ltb, le-ltb, ltb-false, leb-true}
 use Rattle.records.specs.Bytes.{word, all}
 use Rattle.records.specs.Operator.{operatorAt}
 use Rattle.records.specs.Record.{node, fieldsAt, decode, recordAt}
-use Rattle.records.specs.Tree.{treeCount}
-use Rattle.records.specs.Check.{checkAnswer}
-use Rattle.records.specs.Checked.{Checked}
-use Rattle.records.proofs.Accepted.{checked}
+use Rattle.checking.specs.Tree.{treeCount}
+use Rattle.checking.specs.Check.{checkAnswer}
+use Rattle.checking.specs.Checked.{Checked}
+use Rattle.checking.proofs.Accepted.{checked}
 use Rattle.records.specs.declared.operator.Operator.{Operator}
 use Rattle.records.specs.declared.operator.Operator.the-variants as operator
 use Rattle.records.specs.declared.record.Fields.{Fields}
 use Rattle.records.specs.declared.record.Record.{Record}
 use Rattle.records.specs.declared.record.Record.the-variants as kind
-use Rattle.records.specs.declared.check.CheckAnswer.{CheckAnswer}
-use Rattle.records.specs.declared.check.CheckAnswer.the-variants as check
+use Rattle.checking.specs.declared.check.CheckAnswer.{CheckAnswer}
+use Rattle.checking.specs.declared.check.CheckAnswer.the-variants as check
 use Rattle.truth.specs.Halves.{ordZ, twice, key}
 use Rattle.truth.specs.declared.logic.Truth.{Truth}
 use Rattle.truth.specs.declared.logic.Truth.the-variants.{False, True}

@@ -7,7 +7,7 @@ use Prim.Native.Nat.{ℕ, zero, suc, _+_, _*_, _≤_, _<_}
 use native.Mathlib.Omega.{arith}
 use lib.ListN.{length, getD, length-append}
 use Rattle.records.specs.Record.{node, columnNumber, fieldsAt, decode, recordAt, encode, inputs}
-use Rattle.records.specs.Tree.{sumAt, treeStep, treeCount}
+use Rattle.checking.specs.Tree.{sumAt, treeStep, treeCount}
 use Rattle.records.specs.Operator.{operatorAt}
 use Rattle.records.specs.declared.operator.Operator.{Operator}
 use Rattle.records.specs.declared.operator.Operator.the-variants as operator

@@ -5,10 +5,10 @@ use mathlib.Core.List.{List, _++_}
 use Prim.Native.Nat.{ℕ, suc, _/_}
 use lib.Dec.{ltb, leb}
 use lib.ListN.{length}
-use Rattle.records.specs.Check.{checkAnswer}
-use Rattle.records.specs.Tree.{treeCount}
-use Rattle.records.specs.declared.check.CheckAnswer.{CheckAnswer}
-use Rattle.records.specs.declared.check.CheckAnswer.the-variants as check
+use Rattle.checking.specs.Check.{checkAnswer}
+use Rattle.checking.specs.Tree.{treeCount}
+use Rattle.checking.specs.declared.check.CheckAnswer.{CheckAnswer}
+use Rattle.checking.specs.declared.check.CheckAnswer.the-variants as check
 use Rattle.truth.specs.FromBytes.{aexprAt}
 use Rattle.constraints.specs.Payload.{payload}
 use Rattle.constraints.specs.Values.{isEmpty}

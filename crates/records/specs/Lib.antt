@@ -3,10 +3,4 @@ pub mod Course
 pub mod Operator
 pub mod Record
 pub mod Shape
-pub mod Fit
-pub mod Check
-pub mod Table
-pub mod Tree
-pub mod Columns
-pub mod Checked
 pub mod RoundTrip

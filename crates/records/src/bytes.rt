@@ -46,6 +46,15 @@ fn join8(low: u32, high: u32) -> u64
     low as u64 + 4294967296 * high as u64
 }
 
+// The value number `k` of a pool that holds it.
+pub fn value_in(p: &[u8], k: usize) -> u64
+    requires { ⌜ 8 * k + 7 < length (now p) ⌝ }
+    ensures { λ r. ⌜ r ≡ valueAt (now (p .entry)) k ⌝ }
+{
+    let at = 8 * k;
+    join8(word_in(p, at), word_in(p, at + 4))
+}
+
 // The value number `k` of a pool.
 pub fn value_at(p: &[u8], k: usize) -> u64
     requires { ⌜ k < 2 ^ 34 ⌝ }
@@ -53,7 +62,7 @@ pub fn value_at(p: &[u8], k: usize) -> u64
 {
     let at = 8 * k;
     if at + 7 < p.len() {
-        return join8(word_in(p, at), word_in(p, at + 4));
+        return value_in(p, k);
     }
     join8(word_at(p, at), word_at(p, at + 4))
 }

@@ -65,7 +65,7 @@ pub enum Inputs {
 }
 
 // Sixteen bytes that are there.
-fn fields_in(rs: &[u8], n: Node) -> Fields
+pub fn fields_in(rs: &[u8], n: Node) -> Fields
     requires { ⌜ 16 * n .0 + 15 < length (now rs) ⌝ }
     ensures { λ r. ⌜ r ≡ fieldsAt (now (rs .entry)) n ⌝ }
 {

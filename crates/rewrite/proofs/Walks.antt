@@ -15,7 +15,7 @@ use Rattle.records.specs.Record.{node, recordAt}
 use Rattle.records.specs.declared.record.Record.{Record}
 use Rattle.records.specs.declared.record.Record.the-variants as kind
 use Rattle.records.proofs.Courses.{course-top, upTo-below, upTo-off, course-map, course-agree}
-use Rattle.records.proofs.Tables.{Filled}
+use Rattle.checking.proofs.Tables.{Filled}
 use Rattle.records.proofs.Laws.{by-test}
 use Rattle.truth.specs.AExpr.{AExpr, Inputs, Column, Literal, Null, BinaryExpr, Not, IsNull, IsNotNull, IsBetween}
 use Rattle.truth.specs.AExpr.{ListLiteral, IsIn, Missing}

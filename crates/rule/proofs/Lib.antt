@@ -1,13 +1,1 @@
-pub mod Adding
-pub mod Answers
-pub mod Arrays
-pub mod Chains
-pub mod Collecting
-pub mod Concluding
-pub mod Emitting
 pub mod Merged
-pub mod Propagating
-pub mod Reckoning
-pub mod Reckons
-pub mod Resolving
-pub mod Screens

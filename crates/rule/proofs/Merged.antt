@@ -4,10 +4,10 @@ use mathlib.Core.List.{List}
 use Prim.Native.Nat.{ℕ, _≤_, min}
 use native.Mathlib.Omega.{arith}
 use lib.ListN.{length, getD}
-use Rattle.records.specs.Check.{checkAnswer}
-use Rattle.records.specs.Tree.{treeCount}
-use Rattle.records.specs.declared.check.CheckAnswer.the-variants as check
-use Rattle.records.proofs.Accepted.{checked}
+use Rattle.checking.specs.Check.{checkAnswer}
+use Rattle.checking.specs.Tree.{treeCount}
+use Rattle.checking.specs.declared.check.CheckAnswer.the-variants as check
+use Rattle.checking.proofs.Accepted.{checked}
 use Rattle.truth.specs.FromBytes.{aexprOf}
 use Rattle.constraints.specs.Payload.{payload}
 use Rattle.merge.specs.declared.rewrite.RewriteAnswer.{RewriteAnswer}
@@ -17,9 +17,9 @@ use Rattle.merge.specs.Emit.{Outcome, mergeFilterConstraints}
 use Rattle.merge.specs.Write.{outcomeBytes}
 use Rattle.merge.specs.Rewrite.{rewriteAnswer, writtenIf, rewriteBytes}
 use Rattle.rewrite.specs.Walk.{walked, firstOf}
-use Rattle.rule.specs.Reckon.{reckonedAnswer}
-use Rattle.rule.proofs.Answers.{walkedOutcome, rewrite-on}
-use Rattle.rule.proofs.Screens.{nodes-count}
+use Rattle.stages.specs.Reckon.{reckonedAnswer}
+use Rattle.stages.proofs.Answers.{walkedOutcome, rewrite-on}
+use Rattle.stages.proofs.Screens.{nodes-count}
 
 -- The merging of the first n nodes.
 abbrev mergedNodes : List ℕ → List ℕ → List ℕ → ℕ → Outcome ℕ

@@ -1,4 +1,0 @@
-pub mod Columns
-pub mod Reckon
-pub mod Rewritten
-pub mod State

@@ -7,11 +7,11 @@ use native.Mathlib.Omega.{arith}
 use lib.Dec.{ltb, leb}
 use lib.ListN.{length, getD}
 use borrow.Author.Tests.{leb-true}
-use Rattle.records.specs.Check.{checkAnswer}
+use Rattle.checking.specs.Check.{checkAnswer}
 use Rattle.records.specs.Record.{node, columnNumber, encode}
-use Rattle.records.specs.Tree.{treeCount}
-use Rattle.records.specs.declared.check.CheckAnswer.{CheckAnswer}
-use Rattle.records.specs.declared.check.CheckAnswer.the-variants as check
+use Rattle.checking.specs.Tree.{treeCount}
+use Rattle.checking.specs.declared.check.CheckAnswer.{CheckAnswer}
+use Rattle.checking.specs.declared.check.CheckAnswer.the-variants as check
 use Rattle.records.specs.declared.operator.Operator.the-variants as operator
 use Rattle.records.specs.declared.record.Record.{Record}
 use Rattle.records.specs.declared.record.Record.the-variants as kind

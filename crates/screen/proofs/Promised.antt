@@ -8,11 +8,11 @@ use native.Mathlib.Omega.{arith}
 use lib.Dec.{ltb}
 use lib.ListN.{length}
 use borrow.Author.Tests.{le-ltb}
-use Rattle.records.specs.Check.{checkAnswer}
-use Rattle.records.specs.Tree.{treeCount}
-use Rattle.records.specs.declared.check.CheckAnswer.{CheckAnswer}
-use Rattle.records.specs.declared.check.CheckAnswer.the-variants as check
-use Rattle.records.proofs.Answers.{refused-small}
+use Rattle.checking.specs.Check.{checkAnswer}
+use Rattle.checking.specs.Tree.{treeCount}
+use Rattle.checking.specs.declared.check.CheckAnswer.{CheckAnswer}
+use Rattle.checking.specs.declared.check.CheckAnswer.the-variants as check
+use Rattle.checking.proofs.Answers.{refused-small}
 use Rattle.truth.specs.FromBytes.{aexprAt}
 use Rattle.constraints.specs.Values.{isEmpty}
 use Rattle.merge.specs.declared.rewrite.RewriteAnswer.{RewriteAnswer}

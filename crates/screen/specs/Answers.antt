@@ -1,10 +1,10 @@
 -- The numbers and values that the C interface gives for each answer. An answer below 256 is a refusal with 01's number;
 -- 256 and up is an answer. An out-parameter that an answer does not set keeps its value.
 use Prim.Native.Nat.{ℕ}
-use Rattle.records.specs.declared.check.CheckAnswer.{CheckAnswer}
-use Rattle.records.specs.declared.check.CheckAnswer.the-variants as check
-use Rattle.records.specs.declared.columns.ColumnsAnswer.{ColumnsAnswer}
-use Rattle.records.specs.declared.columns.ColumnsAnswer.the-variants as columns
+use Rattle.checking.specs.declared.check.CheckAnswer.{CheckAnswer}
+use Rattle.checking.specs.declared.check.CheckAnswer.the-variants as check
+use Rattle.checking.specs.declared.columns.ColumnsAnswer.{ColumnsAnswer}
+use Rattle.checking.specs.declared.columns.ColumnsAnswer.the-variants as columns
 use Rattle.merge.specs.declared.rewrite.RewriteAnswer.{RewriteAnswer}
 use Rattle.merge.specs.declared.rewrite.RewriteAnswer.the-variants as rewrite
 use Rattle.truth.specs.declared.logic.Truth.{Truth}

@@ -1,19 +1,19 @@
 // The calls of the C interface (include/screen.h) and nothing else. Each turns the answer of a layer below into 01's number and
 // into the values of its out-parameters. No call asks anything of its arguments.
 ghost use mathlib.Core.Path.{_≡_};
-ghost use Rattle.records.specs.Check.{checkAnswer};
-ghost use Rattle.records.specs.Columns.{columnsAnswer};
+ghost use Rattle.checking.specs.Check.{checkAnswer};
+ghost use Rattle.checking.specs.Columns.{columnsAnswer};
 ghost use Rattle.screen.specs.Answers.{checkNumber, columnsNumber, columnsOut, countOut, rowNumber, truthNumber};
 ghost use Rattle.screen.specs.Answers.{rewriteNumber, newRootOut, newUsedOut};
 ghost use Rattle.truth.specs.RowTest.{testRowAnswer};
 ghost use Rattle.merge.specs.Rewrite.{rewriteAnswer, rewriteBytes};
 ghost use Rattle.screen.specs.Promises.{ColumnsPromise, returned, BytesKept, RewritePromise};
+use checking::check::CheckAnswer;
+use checking::check::check_screen;
+use checking::columns::ColumnsAnswer;
+use checking::columns::columns_read;
 use merge::rewrite::RewriteAnswer;
-use records::check::CheckAnswer;
-use records::check::check_screen;
-use records::columns::ColumnsAnswer;
-use records::columns::columns_read;
-use rule::rewriting::rewrite_screen;
+use rule::rewrite_screen;
 use truth::logic::Truth;
 use truth::test::RowAnswer;
 use truth::test::test_row;

@@ -8,9 +8,9 @@ use native.Mathlib.Omega.{arith}
 use lib.Dec.{ltb, eqb}
 use lib.ListN.{length}
 use borrow.Author.Tests.{lt-ltb, le-ltb, eq-eqb, ne-eqb, eqb-true}
-use Rattle.records.specs.Tree.{treeCount}
-use Rattle.records.specs.Checked.{Checked}
-use Rattle.records.proofs.Accepted.{checked-used}
+use Rattle.checking.specs.Tree.{treeCount}
+use Rattle.checking.specs.Checked.{Checked}
+use Rattle.checking.proofs.Accepted.{checked-used}
 use Rattle.truth.specs.declared.logic.Truth.{Truth}
 use Rattle.truth.specs.declared.test.RowAnswer.{RowAnswer}
 use Rattle.truth.specs.declared.test.RowAnswer.the-variants.{Refused, Tested}

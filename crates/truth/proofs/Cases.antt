@@ -11,10 +11,10 @@ use Rattle.records.specs.Record.{fieldsAt, closedAt, decode, recordAt}
 use Rattle.records.specs.Shape.{knownType, inType, maxCode, isTyped, usesA, usesB, usesC, knownOk, zeroOr, unusedOk}
 use Rattle.records.specs.Shape.{literalOk}
 use Rattle.records.specs.Shape.{shapeOk}
-use Rattle.records.specs.Fit.{allFit, listOk, reachOk, servedOk, typeOf, typeAt, sameType, binaryFits, betweenFits}
-use Rattle.records.specs.Fit.{isBinary, memberFits, typesOk}
-use Rattle.records.specs.Check.{typesKnown, tableOk, sizesOk, meaningFault, recordFault, firstFault, recordsAnswer}
-use Rattle.records.specs.Check.{checkAnswer}
+use Rattle.checking.specs.Fit.{allFit, listOk, reachOk, servedOk, typeOf, typeAt, sameType, binaryFits, betweenFits}
+use Rattle.checking.specs.Fit.{isBinary, memberFits, typesOk}
+use Rattle.checking.specs.Check.{typesKnown, tableOk, sizesOk, meaningFault, recordFault, firstFault, recordsAnswer}
+use Rattle.checking.specs.Check.{checkAnswer}
 use Rattle.truth.specs.declared.logic.Truth.the-variants.{False, Unknown, True}
 use Rattle.truth.specs.declared.test.RowAnswer.{RowAnswer}
 use Rattle.truth.specs.declared.test.RowAnswer.the-variants.{Refused, Tested}

@@ -12,16 +12,16 @@ use borrow.Author.Tests.{ltb-true, leb-true, eqb-true, lt-ltb}
 use Rattle.records.specs.Operator.{operatorAt, codeOf, isLeftOut}
 use Rattle.records.specs.Record.{fieldsAt, decode, recordAt, node, columnNumber, closedAt, inputs}
 use Rattle.records.specs.Shape.{shapeOk, knownOk, unusedOk, literalOk, maxCode, isTyped, knownType}
-use Rattle.records.specs.Fit.{reachOk, servedOk, typesOk, typeAt, listOk, allFit, memberFits}
-use Rattle.records.specs.Check.{tableOk, typesKnown}
-use Rattle.records.specs.Checked.{CheckedRecord, Checked}
+use Rattle.checking.specs.Fit.{reachOk, servedOk, typesOk, typeAt, listOk, allFit, memberFits}
+use Rattle.checking.specs.Check.{tableOk, typesKnown}
+use Rattle.checking.specs.Checked.{CheckedRecord, Checked}
 use Rattle.records.specs.declared.operator.Operator.{Operator}
 use Rattle.records.specs.declared.operator.Operator.the-variants as operator
 use Rattle.records.specs.declared.record.Fields.{Fields}
 use Rattle.records.specs.declared.record.Record.{Record}
 use Rattle.records.specs.declared.record.Record.the-variants as kind
 use Rattle.records.proofs.Laws.{and-left, and-right, by-test}
-use Rattle.records.proofs.Accepted.{Below, inputs-below, checked-lent}
+use Rattle.checking.proofs.Accepted.{Below, inputs-below, checked-lent}
 use Rattle.truth.specs.AExpr.{AExpr, Missing, Inputs, WF}
 use Rattle.truth.specs.FromBytes.{binaryExpr, toAExpr, aexprOf, aexprAt}
 use Rattle.truth.specs.Evaluate.{Served, ColumnThere, Fit, Evaluable}

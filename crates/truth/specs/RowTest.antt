@@ -7,10 +7,10 @@ use lib.Dec.{ltb, eqb}
 use lib.ListN.{length, getD}
 use Rattle.records.specs.Bytes.{valueAt, all}
 use Rattle.records.specs.Shape.{inType}
-use Rattle.records.specs.Check.{checkAnswer}
-use Rattle.records.specs.Tree.{treeCount}
-use Rattle.records.specs.declared.check.CheckAnswer.{CheckAnswer}
-use Rattle.records.specs.declared.check.CheckAnswer.the-variants as check
+use Rattle.checking.specs.Check.{checkAnswer}
+use Rattle.checking.specs.Tree.{treeCount}
+use Rattle.checking.specs.declared.check.CheckAnswer.{CheckAnswer}
+use Rattle.checking.specs.declared.check.CheckAnswer.the-variants as check
 use Rattle.truth.specs.declared.test.RowAnswer.{RowAnswer}
 use Rattle.truth.specs.declared.test.RowAnswer.the-variants.{Refused, Tested}
 use Rattle.truth.specs.FromBytes.{aexprAt, nullMarked, rowOf, truthIn}

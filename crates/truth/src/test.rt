@@ -1,14 +1,14 @@
 // Testing a row: the checks in 01's order, then the root's truth. A row passes on true only.
 ghost use mathlib.Core.Path.{_≡_};
-ghost use Rattle.records.specs.Checked.{Checked};
+ghost use Rattle.checking.specs.Checked.{Checked};
 ghost use Rattle.truth.specs.RowTest.{checkedAnswer, testRowAnswer};
 use crate::evaluate::truth_at;
 use crate::logic::Truth;
 use crate::row::row_fault;
-use records::check::CheckAnswer;
-use records::check::check_screen;
+use checking::check::CheckAnswer;
+use checking::check::check_screen;
+use checking::tree::tree_count;
 use records::record::Node;
-use records::tree::tree_count;
 
 // A refusal with its number, or what the row makes of the screen.
 pub enum RowAnswer {

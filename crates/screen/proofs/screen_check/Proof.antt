@@ -3,7 +3,7 @@ use Rattle.screen.proofs.screen_check.Statement.{statement}
 use Rattle.screen.proofs.screen_check.Tie as tie
 use Rattle.screen.proofs.screen_check.Reads as reads
 use Rattle.screen.proofs.screen_check.Lts as lts
-use Rattle.records.proofs.check.check_screen.Reads as check-screen-reads
+use Rattle.checking.proofs.check.check_screen.Reads as check-screen-reads
 
 -- src/lib.rt:24:11
 check-screen-requires : tie.Need-check-screen-requires

@@ -1,13 +1,13 @@
 use native.Mathlib.Omega.{arith}
 use mathlib.Core.Path.{refl, sym, _∙_}
-use Rattle.records.proofs.Answers.{columns-refused, columns-found}
-use Rattle.records.proofs.Bits.{word-reaches}
+use Rattle.checking.proofs.Answers.{columns-refused, columns-found}
+use Rattle.checking.proofs.Bits.{word-reaches}
 use borrow.Author.Needs.{needs}
 use Rattle.screen.proofs.screen_columns_read.Statement.{statement}
 use Rattle.screen.proofs.screen_columns_read.Tie as tie
 use Rattle.screen.proofs.screen_columns_read.Reads as reads
 use Rattle.screen.proofs.screen_columns_read.Lts as lts
-use Rattle.records.proofs.columns.columns_read.Reads as columns-read-reads
+use Rattle.checking.proofs.columns.columns_read.Reads as columns-read-reads
 
 -- src/lib.rt:47:11
 columns-read-requires : tie.Need-columns-read-requires

@@ -6,7 +6,7 @@ use Rattle.screen.proofs.screen_rewrite.Statement.{statement}
 use Rattle.screen.proofs.screen_rewrite.Tie as tie
 use Rattle.screen.proofs.screen_rewrite.Reads as reads
 use Rattle.screen.proofs.screen_rewrite.Lts as lts
-use Rattle.rule.proofs.rewriting.rewrite_screen.Reads as rewrite-screen-reads
+use Rattle.rule.proofs.rewrite_screen.Reads as rewrite-screen-reads
 
 -- src/lib.rt:121:11
 rewrite-screen-requires : tie.Need-rewrite-screen-requires

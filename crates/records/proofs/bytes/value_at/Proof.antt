@@ -6,58 +6,45 @@ use Rattle.records.proofs.bytes.value_at.Tie as tie
 use Rattle.records.proofs.bytes.value_at.Reads as reads
 use Rattle.records.proofs.bytes.value_at.Lts as lts
 use Rattle.records.proofs.bytes.join8.Reads as join8-reads
+use Rattle.records.proofs.bytes.value_in.Reads as value-in-reads
 use Rattle.records.proofs.bytes.word_at.Reads as word-at-reads
-use Rattle.records.proofs.bytes.word_in.Reads as word-in-reads
 
--- src/bytes.rt:49:14
+-- src/bytes.rt:63:14
 mul-at : tie.Need-mul-at
 mul-at c = search needs
 
--- src/bytes.rt:50:8
+-- src/bytes.rt:64:8
 add-if1 : tie.Need-add-if1
 add-if1 c = search needs
 
--- src/bytes.rt:51:22
-word-in-requires : tie.Need-word-in-requires
-word-in-requires c κs = search needs
+-- src/bytes.rt:65:16
+value-in-requires : tie.Need-value-in-requires
+value-in-requires c κs = search needs
 
--- src/bytes.rt:51:49
-add-word-in : tie.Need-add-word-in
-add-word-in c = search needs
-
--- src/bytes.rt:51:38
-word-in-requires-2 : tie.Need-word-in-requires-2
-word-in-requires-2 c κs = search needs
-
--- src/bytes.rt:51:9
-join8-requires : tie.Need-join8-requires
-join8-requires c κs = search needs
-
--- src/bytes.rt:51:9
+-- src/bytes.rt:65:9
 returns : tie.Need-returns
-unfolding valueAt
-returns c = search (flags, ← c .join8 .ensures, ← c .before .word-in2 .ensures, ← c .before .before .word-in .ensures)
+returns c = c .value-in .ensures
 
--- src/bytes.rt:53:11
+-- src/bytes.rt:67:11
 word-at-requires : tie.Need-word-at-requires
 word-at-requires c κs = search needs
 
--- src/bytes.rt:53:38
+-- src/bytes.rt:67:38
 add-word-at : tie.Need-add-word-at
 add-word-at c = search needs
 
--- src/bytes.rt:53:27
+-- src/bytes.rt:67:27
 word-at-requires-2 : tie.Need-word-at-requires-2
 word-at-requires-2 c κs = search needs
 
--- src/bytes.rt:53:5
-join8-requires-2 : tie.Need-join8-requires-2
-join8-requires-2 c κs = search needs
+-- src/bytes.rt:67:5
+join8-requires : tie.Need-join8-requires
+join8-requires c κs = search needs
 
--- src/bytes.rt:45:1
+-- src/bytes.rt:59:1
 returns-2 : tie.Need-returns-2
 unfolding valueAt
-returns-2 c = search (flags, ← c .join82 .ensures, ← c .before .word-at2 .ensures, ← c .before .before .word-at .ensures)
+returns-2 c = search (flags, ← c .join8 .ensures, ← c .before .word-at2 .ensures, ← c .before .before .word-at .ensures)
 
 pub value-at-spec : {M : Type 1} → statement M
 value-at-spec =
@@ -65,13 +52,10 @@ value-at-spec =
     (tie.spec
     mul-at
     add-if1
-    word-in-requires
-    add-word-in
-    word-in-requires-2
-    join8-requires
+    value-in-requires
     returns
     word-at-requires
     add-word-at
     word-at-requires-2
-    join8-requires-2
+    join8-requires
     returns-2)

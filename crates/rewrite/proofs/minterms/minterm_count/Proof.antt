@@ -2,7 +2,7 @@ use mathlib.Core.Path.{_≡_}
 use Prim.Native.Nat.{_+_, _-_, _≤_, min}
 use native.Mathlib.Omega.{arith}
 use lib.ListN.{length, length-set}
-use Rattle.records.proofs.Tables.{Filled, filled-more}
+use Rattle.checking.proofs.Tables.{Filled, filled-more}
 use Rattle.merge.specs.Minterms.{minterms}
 use Rattle.rewrite.specs.Walk.{walked}
 use Rattle.rewrite.proofs.Walks.{count-turn}

@@ -5,7 +5,7 @@ use Rattle.truth.proofs.test.test_checked.Statement.{statement}
 use Rattle.truth.proofs.test.test_checked.Tie as tie
 use Rattle.truth.proofs.test.test_checked.Reads as reads
 use Rattle.truth.proofs.test.test_checked.Lts as lts
-use Rattle.records.proofs.tree.tree_count.Reads as tree-count-reads
+use Rattle.checking.proofs.tree.tree_count.Reads as tree-count-reads
 use Rattle.truth.proofs.evaluate.truth_at.Reads as truth-at-reads
 use Rattle.truth.proofs.row.row_fault.Reads as row-fault-reads
 

@@ -1,4 +1,4 @@
-use Rattle.records.proofs.Accepted.{checked, accepted-root}
+use Rattle.checking.proofs.Accepted.{checked, accepted-root}
 use native.Mathlib.Omega.{arith}
 use Prim.Native.Nat.{_<_}
 use mathlib.Core.Path.{sym, _∙_}
@@ -8,7 +8,7 @@ use Rattle.truth.proofs.test.test_row.Statement.{statement}
 use Rattle.truth.proofs.test.test_row.Tie as tie
 use Rattle.truth.proofs.test.test_row.Reads as reads
 use Rattle.truth.proofs.test.test_row.Lts as lts
-use Rattle.records.proofs.check.check_screen.Reads as check-screen-reads
+use Rattle.checking.proofs.check.check_screen.Reads as check-screen-reads
 use Rattle.truth.proofs.test.test_checked.Reads as test-checked-reads
 
 -- src/test.rt:53:9

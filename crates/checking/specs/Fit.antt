@@ -1,0 +1,131 @@
+-- Numbers 5, 6 and 7 of 01: what a record asks of the table, of the pool and of the records below it.
+-- t is the column table, rs the records, p the pool.
+use Prim.Native.Nat.{ℕ, _+_, _/_, _<_}
+use mathlib.Core.List.{List, [], _∷_}
+use mathlib.Core.Bool.{Bool, true, false, cond, not, _&&_}
+use mathlib.Core.Path.{_≡_}
+use lib.ListN.{length, getD}
+use lib.Dec.{ltb, leb, eqb}
+use Rattle.records.specs.Bytes.{valueAt, all}
+use Rattle.records.specs.Operator.{isComparison, isLeftOut}
+use Rattle.records.specs.Record.{node, recordAt, inputs}
+use Rattle.records.specs.Shape.{inType}
+use Rattle.records.specs.declared.operator.Operator.{Operator}
+use Rattle.records.specs.declared.record.Node.{Node}
+use Rattle.records.specs.declared.record.Record.{Record}
+use Rattle.records.specs.declared.record.Record.the-variants as kind
+
+-- count values of the pool, from the one numbered start on, are of the type
+unfoldable pub allFit : List ℕ → ℕ → ℕ → ℕ → Bool
+allFit p ty start count = all (λ (k : ℕ). inType ty (valueAt p (start + k))) count
+
+-- 5: a list lies in the pool and its values are of its type
+unfoldable pub listOk : List ℕ → ℕ → ℕ → ℕ → Bool
+listOk p ty start count = leb (start + count) (length p / 8) && allFit p ty start count
+
+-- 5: each input is below its own record
+abbrev pub allBelow : ℕ → List ℕ → Bool
+allBelow n [] = true
+allBelow n (x ∷ l) = ltb x n && allBelow n l
+
+-- 5: a column is in the table, a list in the pool, the inputs of any other record are below it
+unfoldable pub reachOk : List ℕ → List ℕ → Record → Node → Bool
+reachOk t p kind.Invalid n = true
+reachOk t p (kind.Column c) n = ltb (c .0) (length t)
+reachOk t p (kind.Literal ty v) n = true
+reachOk t p (kind.Null ty) n = true
+reachOk t p (kind.Binary o x y) n = allBelow (n .0) (inputs (kind.Binary o x y))
+reachOk t p (kind.Not x) n = allBelow (n .0) (inputs (kind.Not x))
+reachOk t p (kind.IsNull x) n = allBelow (n .0) (inputs (kind.IsNull x))
+reachOk t p (kind.IsNotNull x) n = allBelow (n .0) (inputs (kind.IsNotNull x))
+reachOk t p (kind.IsBetween k x low high) n = allBelow (n .0) (inputs (kind.IsBetween k x low high))
+reachOk t p (kind.List ty marked start count) n = listOk p ty start count
+reachOk t p (kind.IsIn equal x list) n = allBelow (n .0) (inputs (kind.IsIn equal x list))
+
+unfoldable pub isBinary : Record → Bool
+isBinary kind.Invalid = false
+isBinary (kind.Column c) = false
+isBinary (kind.Literal ty v) = false
+isBinary (kind.Null ty) = false
+isBinary (kind.Binary o x y) = true
+isBinary (kind.Not x) = false
+isBinary (kind.IsNull x) = false
+isBinary (kind.IsNotNull x) = false
+isBinary (kind.IsBetween k x low high) = false
+isBinary (kind.List ty marked start count) = false
+isBinary (kind.IsIn equal x list) = false
+
+-- 6: a left-out operator, or Not above a binary record
+unfoldable pub servedOk : List ℕ → Record → Bool
+servedOk rs kind.Invalid = true
+servedOk rs (kind.Column c) = true
+servedOk rs (kind.Literal ty v) = true
+servedOk rs (kind.Null ty) = true
+servedOk rs (kind.Binary o x y) = not (isLeftOut o)
+servedOk rs (kind.Not x) = not (isBinary (recordAt rs x))
+servedOk rs (kind.IsNull x) = true
+servedOk rs (kind.IsNotNull x) = true
+servedOk rs (kind.IsBetween k x low high) = true
+servedOk rs (kind.List ty marked start count) = true
+servedOk rs (kind.IsIn equal x list) = true
+
+-- the type of a record as an input: 1 Int, 2 Day, 3 Truth; 0 for a list, which is no value
+unfoldable pub typeOf : List ℕ → Record → ℕ
+typeOf t kind.Invalid = 0
+typeOf t (kind.Column c) = getD t (c .0) 0
+typeOf t (kind.Literal ty v) = ty
+typeOf t (kind.Null ty) = ty
+typeOf t (kind.Binary o x y) = 3
+typeOf t (kind.Not x) = 3
+typeOf t (kind.IsNull x) = 3
+typeOf t (kind.IsNotNull x) = 3
+typeOf t (kind.IsBetween k x low high) = 3
+typeOf t (kind.List ty marked start count) = 0
+typeOf t (kind.IsIn equal x list) = 3
+
+unfoldable pub typeAt : List ℕ → List ℕ → Node → ℕ
+typeAt t rs n = typeOf t (recordAt rs n)
+
+-- a table with the types of the records below n
+unfoldable pub Typed : List ℕ → List ℕ → List ℕ → ℕ → Type 0
+Typed t rs types n = (a : ℕ) → a < n → getD types a 0 ≡ typeAt t rs (node a)
+
+-- two values of one type
+unfoldable pub sameType : ℕ → ℕ → Bool
+sameType x y = ltb 0 x && eqb x y
+
+-- comparisons take two sides of one type, logic takes Truth
+unfoldable pub binaryFits : Operator → ℕ → ℕ → Bool
+binaryFits o x y = cond (isComparison o) (sameType x y) (eqb x 3 && eqb y 3)
+
+-- is_between takes three of one type
+unfoldable pub betweenFits : ℕ → ℕ → ℕ → Bool
+betweenFits x low high = sameType x low && sameType x high
+
+-- is_in takes a list of its value's type
+unfoldable pub memberFits : ℕ → Record → Bool
+memberFits x kind.Invalid = false
+memberFits x (kind.Column c) = false
+memberFits x (kind.Literal ty v) = false
+memberFits x (kind.Null ty) = false
+memberFits x (kind.Binary o y z) = false
+memberFits x (kind.Not y) = false
+memberFits x (kind.IsNull y) = false
+memberFits x (kind.IsNotNull y) = false
+memberFits x (kind.IsBetween k y low high) = false
+memberFits x (kind.List ty marked start count) = sameType x ty
+memberFits x (kind.IsIn equal y list) = false
+
+-- 7: types that do not fit; a null test takes any value, so no list
+unfoldable pub typesOk : List ℕ → List ℕ → Record → Bool
+typesOk t rs kind.Invalid = true
+typesOk t rs (kind.Column c) = true
+typesOk t rs (kind.Literal ty v) = true
+typesOk t rs (kind.Null ty) = true
+typesOk t rs (kind.Binary o x y) = binaryFits o (typeAt t rs x) (typeAt t rs y)
+typesOk t rs (kind.Not x) = eqb (typeAt t rs x) 3
+typesOk t rs (kind.IsNull x) = ltb 0 (typeAt t rs x)
+typesOk t rs (kind.IsNotNull x) = ltb 0 (typeAt t rs x)
+typesOk t rs (kind.IsBetween k x low high) = betweenFits (typeAt t rs x) (typeAt t rs low) (typeAt t rs high)
+typesOk t rs (kind.List ty marked start count) = true
+typesOk t rs (kind.IsIn equal x list) = memberFits (typeAt t rs x) (recordAt rs list)

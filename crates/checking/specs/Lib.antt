@@ -1,0 +1,6 @@
+pub mod Fit
+pub mod Check
+pub mod Table
+pub mod Tree
+pub mod Columns
+pub mod Checked

@@ -1,0 +1,97 @@
+// Columns read. As the tree count, through a table with one word a record: records are shared.
+ghost use mathlib.Core.Path.{_≡_};
+ghost use Prim.Native.Nat.{_<_};
+ghost use lib.Count.{ones};
+ghost use Rattle.records.specs.Record.{listOf, recordAt};
+ghost use Rattle.checking.specs.Columns.{columnBit, ownColumn, orAt, columnsStep, columnsWord, columnsAnswer};
+ghost use Rattle.checking.specs.Table.{below};
+use crate::check::CheckAnswer;
+use crate::check::check_screen;
+use records::record::Column;
+use records::record::Inputs;
+use records::record::Node;
+use records::record::Record;
+use records::record::inputs_of;
+use records::record::record_at;
+
+// What columns read answers: a refusal with its number, or the word and the number of ones in it.
+pub enum ColumnsAnswer {
+    Refused(u32),
+    Read(u64, u64),
+}
+
+fn column_bit(c: Column) -> u64
+    ensures { λ r. ⌜ r ≡ columnBit (c .0) ⌝ }
+{
+    let at = c.0;
+    if at < 64 { 1 << at } else { 0 }
+}
+
+fn own_column(r: Record) -> u64
+    ensures { λ w. ⌜ w ≡ ownColumn r ⌝ }
+{
+    match r {
+        Record::Column(c) => column_bit(c),
+        _ => 0,
+    }
+}
+
+// The word of an input; one that is not below its record reaches nothing.
+fn word_of(words: &[u64; 4096], n: Node, x: Node) -> u64
+    requires { ⌜ n .0 < 4096 ⌝ }
+    ensures { λ r. ⌜ r ≡ below (now (words .entry)) (n .0) (x .0) ⌝ }
+{
+    if x.0 < n.0 {
+        let at = x.0 as usize;
+        return words[at];
+    }
+    0
+}
+
+fn word_of_inputs(words: &[u64; 4096], n: Node, inputs: Inputs) -> u64
+    requires { ⌜ n .0 < 4096 ⌝ }
+    ensures { λ r. ⌜ r ≡ orAt (below (now (words .entry)) (n .0)) (listOf inputs) ⌝ }
+{
+    match inputs {
+        Inputs::Zero => 0,
+        Inputs::One(x) => word_of(words, n, x) | 0,
+        Inputs::Two(x, y) => word_of(words, n, x) | (word_of(words, n, y) | 0),
+        Inputs::Three(x, y, z) => word_of(words, n, x)
+            | (word_of(words, n, y) | (word_of(words, n, z) | 0)),
+    }
+}
+
+fn columns_step(words: &[u64; 4096], rs: &[u8], n: Node) -> u64
+    requires { ⌜ n .0 < 4096 ⌝ }
+    ensures { λ w. ⌜ w ≡ columnsStep (below (now (words .entry)) (n .0)) (recordAt (now (rs .entry)) n) ⌝ }
+{
+    let r = record_at(rs, n);
+    own_column(r) | word_of_inputs(words, n, inputs_of(r))
+}
+
+// A bit for each column that the root reaches.
+pub fn columns_word(rs: &[u8], root: Node) -> u64
+    requires { ⌜ root .0 < 4096 ⌝ }
+    ensures { λ w. ⌜ w ≡ columnsWord (now (rs .entry)) (root .0) ⌝ }
+{
+    let mut words = [0u64; 4096];
+    let mut i: u32 = 0;
+    while i <= root.0 {
+        let w = columns_step(&words, rs, Node(i));
+        words[i as usize] = w;
+        i += 1;
+    }
+    words[root.0 as usize]
+}
+
+pub fn columns_read(t: &[u8], rs: &[u8], p: &[u8], used: u64, root: u64) -> ColumnsAnswer
+    ensures { λ a. ⌜ a ≡ columnsAnswer (now (t .entry)) (now (rs .entry)) (now (p .entry)) used root ⌝ }
+{
+    match check_screen(t, rs, p, used, root) {
+        CheckAnswer::Refused(k) => ColumnsAnswer::Refused(k),
+        CheckAnswer::Accepted => {
+            let word = columns_word(rs, Node(root as u32));
+            ColumnsAnswer::Read(word, u64::count_ones(word) as u64)
+        }
+    }
+}

@@ -1,0 +1,5 @@
+pub mod Arrays
+pub mod Collecting
+pub mod Concluding
+pub mod Propagating
+pub mod Resolving

@@ -1,0 +1,275 @@
+-- Resolve, and the comparisons written out: one column more.
+use mathlib.Core.Path.{_≡_, refl, sym, _∙_, ap, subst}
+use mathlib.Core.Bool.{Bool, true, false, cond, _||_, or-true, or-false}
+use mathlib.Core.List.{List, [], _∷_, _++_, append-nil}
+use mathlib.Core.Option.{Option, none, some}
+use Prim.Native.Nat.{ℕ, zero, suc, _+_, _*_, _<_, _≤_, _%_}
+use native.Mathlib.Omega.{arith}
+use native.Mathlib.Numerals.{add-one}
+use lib.ListN.{length, getD, set, length-append}
+use lib.Dec.{eqb}
+use borrow.Author.Tests.{eqb-true, eqb-false, ne-eqb}
+use Rattle.records.proofs.Laws.{by-test}
+use Rattle.constraints.specs.Bound as b
+use Rattle.constraints.specs.Column as q
+use Rattle.constraints.specs.Comparisons.{ColumnComparison, lowerComparison, upperComparison, excludedComparisons}
+use Rattle.constraints.specs.Comparisons.{collectBy, collectColumnComparisons}
+use Rattle.constraints.specs.Payload.{payload}
+use Rattle.constraints.specs.Resolve.{fixedAt, resolveDeferred}
+use Rattle.columns.specs.Abstraction.{Conjuncts, columnOf, excludedBy, gather, ofKind, Fine}
+use Rattle.columns.specs.declared.column.ColumnConstraints.{ColumnConstraints}
+use Rattle.columns.proofs.Pigeon.{few}
+use Rattle.merge.specs.Collect.{isIn, update}
+use Rattle.merge.specs.Emit.{ofColumn, anyUnsat, comparisons}
+use Rattle.merge.specs.Write.{writeComparison, writeComparisons}
+use Rattle.rewrite.specs.Walk.{firstOf}
+use Rattle.filter_constraint.specs.State.{pastColumn, Table, Shows, resolveAll, resolvedIn, Resolved, shown, Written}
+use Rattle.filter_constraint.proofs.Arrays.{shows-set, is-in-snoc}
+use Rattle.filter_constraint.proofs.Propagating.{low-slot, or-assoc}
+
+-- a table that agrees on the columns
+shows-agree : (t : Conjuncts) (table : List ColumnConstraints) (T U : Table) → ((a : ℕ) → T a ≡ U a) → Shows t table T
+    → Shows t table U
+shows-agree t table T U e S = record { size = S .size; column = λ a h. S .column a h ∙ e a; fine = S .fine }
+
+-- ---- a column behind the others
+unsat-snoc : (l : List ℕ) (a : ℕ) (T : Table) → anyUnsat (l ++ (a ∷ [])) T ≡ (anyUnsat l T || T a .unsat)
+unsat-snoc [] a T = or-false (T a .unsat)
+unsat-snoc (c ∷ l) a T =
+    ap (λ x. T c .unsat || x) (unsat-snoc l a T) ∙ or-assoc (T c .unsat) (anyUnsat l T) (T a .unsat)
+
+append-assoc′ : (x y z : List (ℕ × ColumnComparison ℕ)) → x ++ (y ++ z) ≡ (x ++ y) ++ z
+append-assoc′ [] y z = refl
+append-assoc′ (c ∷ x) y z = ap (λ l. c ∷ l) (append-assoc′ x y z)
+
+pub comparisons-snoc : (l : List ℕ) (a : ℕ) (T : Table)
+    → comparisons payload (l ++ (a ∷ [])) T ≡
+    comparisons payload l T ++ ofColumn a (collectColumnComparisons payload (T a))
+comparisons-snoc [] a T = append-nil (ofColumn a (collectColumnComparisons payload (T a)))
+comparisons-snoc (c ∷ l) a T =
+    ap (λ x. ofColumn c (collectColumnComparisons payload (T c)) ++ x) (comparisons-snoc l a T)
+    ∙ append-assoc′ (ofColumn c (collectColumnComparisons payload (T c))) (comparisons payload l T)
+    (ofColumn a (collectColumnComparisons payload (T a)))
+
+pub of-column-length : (a : ℕ) (l : List (ColumnComparison ℕ)) → length (ofColumn a l) ≡ length l
+of-column-length a [] = refl
+of-column-length a (x ∷ l) = ap suc (of-column-length a l)
+
+pub comparisons-more : (order : List ℕ) (o : ℕ) (T : Table)
+    → length (comparisons payload (firstOf order (o + 1)) T) ≡
+    length (comparisons payload (firstOf order o) T) + length (collectColumnComparisons payload (T (getD order o 0)))
+unfolding firstOf
+comparisons-more order o T =
+    rw (add-one)
+    (ap length (comparisons-snoc (firstOf order o) (getD order o 0) T)
+    ∙ length-append (comparisons payload (firstOf order o) T)
+    (ofColumn (getD order o 0) (collectColumnComparisons payload (T (getD order o 0))))
+    ∙ ap (λ k. length (comparisons payload (firstOf order o) T) + k)
+    (of-column-length (getD order o 0) (collectColumnComparisons payload (T (getD order o 0)))))
+
+-- fewer columns have no more comparisons
+pub comparisons-upto : (order : List ℕ) (T : Table) (o d : ℕ)
+    → length (comparisons payload (firstOf order o) T) ≤ length (comparisons payload (firstOf order (o + d)) T)
+comparisons-upto order T o zero =
+    let e : o + 0 ≡ o = omega arith in rw e (omega arith)
+comparisons-upto order T o (suc d) =
+    let e : o + suc d ≡ o + d + 1 = omega arith in
+    let ih = comparisons-upto order T o d in
+    let m = comparisons-more order (o + d) T in
+    rw e (omega (arith, ih, m))
+
+pub in-first : (order : List ℕ) (w n : ℕ) → w < n → isIn (getD order w 0) (firstOf order n) ≡ true
+unfolding firstOf
+in-first order w zero h = absurd (omega arith)
+in-first order w (suc n) h = by-test (eqb w n)
+    (λ e. last (eqb-true w n e))
+    (λ e. let d = eqb-false w n e in
+    is-in-snoc (getD order w 0) (getD order n 0) (firstOf order n)
+    ∙ ap (λ x. x || eqb (getD order w 0) (getD order n 0)) (in-first order w n (omega (arith, h, d))))
+  where
+    self : (k : ℕ) → eqb k k ≡ true
+    self k = by-test (eqb k k) (λ h. h) (λ h. absurd (eqb-false k k h refl))
+
+    last : w ≡ n → isIn (getD order w 0) (firstOf order n ++ (getD order n 0 ∷ [])) ≡ true
+    last e =
+        is-in-snoc (getD order w 0) (getD order n 0) (firstOf order n)
+        ∙ ap (λ k. isIn (getD order w 0) (firstOf order n) || eqb (getD order w 0) (getD order k 0)) (sym e)
+        ∙ ap (λ x. isIn (getD order w 0) (firstOf order n) || x) (self (getD order w 0))
+        ∙ or-true (isIn (getD order w 0) (firstOf order n))
+
+-- the comparisons depend on the listed columns only
+pub comparisons-agree : (order : List ℕ) (T U : Table) (n : ℕ) → ((w : ℕ) → w < n → T (getD order w 0) ≡ U (getD order w 0))
+    → comparisons payload (firstOf order n) T ≡ comparisons payload (firstOf order n) U
+unfolding firstOf
+comparisons-agree order T U zero e = refl
+comparisons-agree order T U (suc n) e =
+    comparisons-snoc (firstOf order n) (getD order n 0) T
+    ∙ ap (λ l. l ++ ofColumn (getD order n 0) (collectColumnComparisons payload (T (getD order n 0))))
+    (comparisons-agree order T U n (λ w h. e w (omega (arith, h))))
+    ∙ ap (λ c. comparisons payload (firstOf order n) U ++ ofColumn (getD order n 0) (collectColumnComparisons payload c))
+    (e n (omega arith))
+    ∙ sym (comparisons-snoc (firstOf order n) (getD order n 0) U)
+
+-- ---- a column is written out as at most 130 comparisons
+excluded-few : (kinds values a : List ℕ) (n : ℕ) → length (excludedBy kinds values a n) ≤ n
+unfolding excludedBy gather
+excluded-few kinds values a zero = omega arith
+excluded-few kinds values a (suc n) = go (excluded-few kinds values a n) (ofKind kinds 0 (getD a n 0))
+  where
+    go : length (excludedBy kinds values a n) ≤ n → (x : Bool) → length (cond x (excludedBy kinds values a n ++ (getD values (getD a n 0) 0 ∷ []))
+        (excludedBy kinds values a n)) ≤ suc n
+    go ih true =
+        let e = length-append (excludedBy kinds values a n) (getD values (getD a n 0) 0 ∷ []) in omega (arith, e, ih)
+    go ih false = omega (arith, ih)
+
+excluded-length : (l : List ℕ) → length (excludedComparisons l) ≡ length l
+excluded-length [] = refl
+excluded-length (v ∷ l) = ap suc (excluded-length l)
+
+lower-few : (x : b.Bound ℕ) → length (lowerComparison x) ≤ 1
+lower-few b.absent = omega arith
+lower-few (b.at i v) = omega arith
+
+upper-few : (x : b.Bound ℕ) → length (upperComparison x) ≤ 1
+upper-few b.absent = omega arith
+upper-few (b.at i v) = omega arith
+
+pub column-few : (t : Conjuncts) (c : ColumnConstraints) → Fine (c .marks) (c .len)
+    → length (collectColumnComparisons payload (columnOf t c)) ≤ 130
+column-few t c f = go (fixedAt payload (columnOf t c .lower) (columnOf t c .upper))
+  where
+    go : (o : Option ℕ) → length (collectBy o (columnOf t c)) ≤ 130
+    go (some v) = omega arith
+    go none =
+        let p = length-append (lowerComparison (columnOf t c .lower))
+        (upperComparison (columnOf t c .upper) ++ excludedComparisons (columnOf t c .excluded)) in
+        let r = length-append (upperComparison (columnOf t c .upper)) (excludedComparisons (columnOf t c .excluded)) in
+        let e = excluded-length (columnOf t c .excluded) in
+        let x = excluded-few (t .kinds) (t .values) (c .marks) (c .len) in
+        let n = few (c .marks) (c .len) f in
+        let l = lower-few (columnOf t c .lower) in
+        let u = upper-few (columnOf t c .upper) in
+        omega (arith, p, r, e, x, n, l, u)
+
+-- ---- resolving, column by column
+pub resolved-none : (t : Conjuncts) (table : List ColumnConstraints) (order : List ℕ) (held : Bool) (T : Table)
+    → Shows t table T → Resolved t table (firstOf order 0) held held 0 T
+unfolding firstOf
+resolved-none t table order held T S = record { shows = S; stops = sym (or-false held); counted = refl }
+
+module _ (t : Conjuncts) (table : List ColumnConstraints) (order : List ℕ) (o : ℕ) (held unsat : Bool) (total : ℕ)
+    (T : Table) (P : Resolved t table (firstOf order o) held unsat total T) where
+  abbrev a : ℕ
+  a = getD order o 0
+
+  at-a : (c : ColumnConstraints) (k : ℕ) → a < 64 → isIn a (firstOf order o) ≡ false
+      → columnOf t c ≡ resolveDeferred payload (columnOf t (getD table a pastColumn)) → Fine (c .marks) (c .len)
+      → k ≡ length (collectColumnComparisons payload (columnOf t c))
+      → Resolved t (set table a c) (firstOf order (o + 1)) held (unsat || c .unsat) (total + k) T
+  unfolding firstOf
+  at-a c k la new ec f ek =
+      let e : columnOf t c ≡ resolveDeferred payload (T a) =
+      ec ∙ ap (resolveDeferred payload) (P .shows .column a la
+      ∙ ap (λ x. cond x (resolveDeferred payload (T a)) (T a)) new) in
+      let m : length (comparisons payload (firstOf order (o + 1)) (resolveAll T)) ≡
+      length (comparisons payload (firstOf order o) (resolveAll T))
+      + length (collectColumnComparisons payload (resolveDeferred payload (T a))) =
+      comparisons-more order o (resolveAll T) in
+      let k′ : k ≡ length (collectColumnComparisons payload (resolveDeferred payload (T a))) =
+      ek ∙ ap (λ x. length (collectColumnComparisons payload x)) e in
+      let p = P .counted in
+      record {
+        shows = subst (λ l. Shows t (set table a c) (resolvedIn l T)) (ap (firstOf order) (sym (add-one o)))
+            (shows-agree t (set table a c) (update (resolvedIn (firstOf order o) T) a (resolveDeferred payload (T a)))
+            (resolvedIn (firstOf order o ++ (a ∷ [])) T) agree
+            (shows-set t table (resolvedIn (firstOf order o) T) a c (resolveDeferred payload (T a)) (P .shows) la e f));
+        stops =
+            ap (λ x. x || c .unsat) (P .stops)
+            ∙ ap (λ x. (held || anyUnsat (firstOf order o) (resolveAll T)) || x) (ap (λ x. x .unsat) e)
+            ∙ sym (or-assoc held (anyUnsat (firstOf order o) (resolveAll T)) (resolveDeferred payload (T a) .unsat))
+            ∙ ap (λ x. held || x) (sym (unsat-snoc (firstOf order o) a (resolveAll T)))
+            ∙ ap (λ n. held || anyUnsat (firstOf order n) (resolveAll T)) (sym (add-one o));
+        counted = omega (arith, m, k′, p);
+      }
+    where
+      agree : (c : ℕ) → update (resolvedIn (firstOf order o) T) a (resolveDeferred payload (T a)) c ≡
+          resolvedIn (firstOf order o ++ (a ∷ [])) T c
+      agree c = by-test (eqb a c)
+          (λ h. rw (h, is-in-snoc c a (firstOf order o), ← eqb-true a c h, eq-self a, or-true (isIn a (firstOf order o))))
+          (λ h. rw (
+            h,
+            is-in-snoc c a (firstOf order o),
+            ne-eqb c a (λ p. eqb-false a c h (sym p)),
+            or-false (isIn c (firstOf order o)),
+          ))
+        where
+          eq-self : (n : ℕ) → eqb n n ≡ true
+          eq-self n = by-test (eqb n n) (λ h. h) (λ h. absurd (eqb-false n n h refl))
+
+  pub resolved-more : (x : ℕ) (c : ColumnConstraints) (k : ℕ) → a < 64 → isIn a (firstOf order o) ≡ false → x ≡ a % 64
+      → columnOf t c ≡ resolveDeferred payload (columnOf t (getD table x pastColumn)) → Fine (c .marks) (c .len)
+      → k ≡ length (collectColumnComparisons payload (columnOf t c))
+      → Resolved t (set table x c) (firstOf order (o + 1)) held (unsat || c .unsat) (total + k) T
+  resolved-more x c k la new ex ec f ek =
+      let p : x ≡ a = low-slot a x la ex in
+      rw p (at-a c k la new (rw p at ec) f ek)
+
+-- ---- writing, column by column
+pub write-append : (t : List ℕ) (u : ℕ) (l m : List (ℕ × ColumnComparison ℕ)) (rs : List ℕ)
+    → writeComparisons t u (l ++ m) rs ≡ writeComparisons t (u + 3 * length l) m (writeComparisons t u l rs)
+write-append t u [] m rs = let e : u ≡ u + 3 * 0 = omega arith in ap (λ v. writeComparisons t v m rs) e
+write-append t u (x ∷ l) m rs =
+    let e : suc (suc (suc u)) + 3 * length l ≡ u + 3 * suc (length l) = omega arith in
+    write-append t (suc (suc (suc u))) l m (writeComparison t u x rs)
+    ∙ ap (λ v. writeComparisons t v m (writeComparisons t (suc (suc (suc u))) l (writeComparison t u x rs))) e
+
+pub written-none : (t : List ℕ) (used : ℕ) (order : List ℕ) (T : Table) (rs : List ℕ)
+    → Written t used rs (comparisons payload (firstOf order 0) T) used rs
+unfolding firstOf
+written-none t used order T rs = record { end = omega arith; bytes = refl; size = refl }
+
+pub written-more :
+    (t : List ℕ) (used : ℕ) (order : List ℕ) (w : ℕ) (s : Conjuncts) (table : List ColumnConstraints) (x u u′ : ℕ)
+    (rs₀ rs rs′ : List ℕ)
+    → Written t used rs₀ (comparisons payload (firstOf order w) (shown s table)) u rs
+    → getD order w 0 < 64 → x ≡ getD order w 0 % 64
+    → u′ ≡ u + 3 * length (collectColumnComparisons payload (columnOf s (getD table x pastColumn)))
+    → rs′ ≡ writeComparisons t u (ofColumn (getD order w 0) (collectColumnComparisons payload
+    (columnOf s (getD table x pastColumn)))) rs
+    → length rs′ ≡ length rs
+    → Written t used rs₀ (comparisons payload (firstOf order (w + 1)) (shown s table)) u′ rs′
+unfolding firstOf
+written-more t used order w s table x u u′ rs₀ rs rs′ W la ex eu er el =
+    let p : x ≡ a = low-slot a x la ex in
+    let m = comparisons-more order w (shown s table) in
+    let e = W .end in
+    let g : u′ ≡ u + 3 * length (collectColumnComparisons payload (shown s table a)) = rw p at eu in
+    record {
+      end = omega (arith, m, e, g);
+      bytes = (rw p at er)
+          ∙ ap (λ v. writeComparisons t v (ofColumn a (collectColumnComparisons payload (shown s table a))) rs) (W .end)
+          ∙ ap (writeComparisons t (used + 3 * length cs) (ofColumn a (collectColumnComparisons payload (shown s table a))))
+          (W .bytes)
+          ∙ sym (write-append t used cs (ofColumn a (collectColumnComparisons payload (shown s table a))) rs₀)
+          ∙ ap (λ l. writeComparisons t used l rs₀) (sym snoc-at);
+      size = el ∙ W .size;
+    }
+  where
+    a : ℕ
+    a = getD order w 0
+
+    cs : List (ℕ × ColumnComparison ℕ)
+    cs = comparisons payload (firstOf order w) (shown s table)
+
+    snoc-at : comparisons payload (firstOf order (w + 1)) (shown s table) ≡
+        cs ++ ofColumn a (collectColumnComparisons payload (shown s table a))
+    snoc-at = rw (add-one) (comparisons-snoc (firstOf order w) a (shown s table))
+
+-- the comparisons read kinds and values only
+pub same-comparisons : (s s′ : Conjuncts) (c : ColumnConstraints) → s .kinds ≡ s′ .kinds → s .values ≡ s′ .values
+    → collectColumnComparisons payload (columnOf s c) ≡ collectColumnComparisons payload (columnOf s′ c)
+same-comparisons s s′ c ek ev = go (fixedAt payload (columnOf s c .lower) (columnOf s c .upper))
+  where
+    go : (o : Option ℕ) → collectBy o (columnOf s c) ≡ collectBy o (columnOf s′ c)
+    go (some v) = refl
+    go none = rw (ek, ev)

@@ -1,0 +1,7 @@
+pub mod Adding
+pub mod Answers
+pub mod Chains
+pub mod Emitting
+pub mod Reckoning
+pub mod Reckons
+pub mod Screens

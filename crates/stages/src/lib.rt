@@ -1,0 +1,9 @@
+// The stages of the merging that need no table, each equal to its definition:
+// add: what a conjunct says, taken into its column;
+// emit: the comparisons of a resolved column, written out;
+// fields: small steps;
+// reckon: numbers 10 and 11 and the answer, before a byte is written.
+pub mod add;
+pub mod emit;
+pub mod fields;
+pub mod reckon;

@@ -1,0 +1,167 @@
+#include "print.h"
+
+#include "day.h"
+#include "screen.h"
+
+static void add_test(struct text *text, const struct build *build, uint64_t record);
+
+static void add_value(struct text *text, unsigned type, int64_t value)
+{
+    if (type == SCREEN_TYPE_DAY)
+        day_add(text, value);
+    else if (type == SCREEN_TYPE_TRUTH)
+        text_add(text, "%s", value != 0 ? "true" : "false");
+    else
+        text_add(text, "%lld", (long long)value);
+}
+
+static bool is_atom(unsigned kind)
+{
+    return kind == SCREEN_KIND_COLUMN || kind == SCREEN_KIND_LITERAL || kind == SCREEN_KIND_NULL;
+}
+
+static bool is_logic(struct fields fields)
+{
+    return fields.kind == SCREEN_KIND_BINARY && fields.code >= SCREEN_OP_AND;
+}
+
+/* A comparison's side: whatever is not one word stands in parentheses. Logic brings its own. */
+static void add_operand(struct text *text, const struct build *build, uint64_t record)
+{
+    struct fields fields = fields_at(build->records, record);
+    bool bare = is_atom(fields.kind) || is_logic(fields);
+    text_add(text, "%s", bare ? "" : "(");
+    add_test(text, build, record);
+    text_add(text, "%s", bare ? "" : ")");
+}
+
+static const char *operator_text(unsigned code)
+{
+    static const char *const TEXTS[] = {
+        [SCREEN_OP_EQ] = "==",         [SCREEN_OP_EQ_VALIDITY] = "is not distinct from",
+        [SCREEN_OP_NOT_EQ] = "!=",     [SCREEN_OP_NOT_EQ_VALIDITY] = "is distinct from",
+        [SCREEN_OP_LT] = "<",          [SCREEN_OP_LT_EQ] = "<=",
+        [SCREEN_OP_GT] = ">",          [SCREEN_OP_GT_EQ] = ">=",
+        [SCREEN_OP_AND] = "and",       [SCREEN_OP_OR] = "or",
+        [SCREEN_OP_XOR] = "xor",       [SCREEN_OP_LOGICAL_AND] = "&&",
+        [SCREEN_OP_LOGICAL_OR] = "||",
+    };
+    return TEXTS[code];
+}
+
+/* Logic of one operator leans to the left, as it is read: (a or b or c). */
+static void add_logic(struct text *text, const struct build *build, struct fields fields)
+{
+    struct fields left = fields_at(build->records, fields.a);
+    if (is_logic(left) && left.code == fields.code)
+        add_logic(text, build, left);
+    else
+        add_test(text, build, fields.a);
+    text_add(text, " %s ", operator_text(fields.code));
+    add_test(text, build, fields.b);
+}
+
+static void add_binary(struct text *text, const struct build *build, struct fields fields)
+{
+    if (is_logic(fields)) {
+        text_add(text, "(");
+        add_logic(text, build, fields);
+        text_add(text, ")");
+    } else {
+        add_operand(text, build, fields.a);
+        text_add(text, " %s ", operator_text(fields.code));
+        add_operand(text, build, fields.b);
+    }
+}
+
+static void add_not(struct text *text, const struct build *build, struct fields fields)
+{
+    text_add(text, "not ");
+    if (fields_at(build->records, fields.a).kind == SCREEN_KIND_BINARY)
+        add_operand(text, build, fields.a);
+    else
+        add_test(text, build, fields.a);
+}
+
+static void add_between(struct text *text, const struct build *build, struct fields fields)
+{
+    static const char *const CLOSED[] = {"", " closed left", " closed right", " closed none"};
+    add_operand(text, build, fields.a);
+    text_add(text, " between ");
+    add_operand(text, build, fields.b);
+    text_add(text, " and ");
+    add_operand(text, build, fields.c);
+    text_add(text, "%s", CLOSED[fields.code]);
+}
+
+static void add_list(struct text *text, const struct build *build, struct fields list)
+{
+    text_add(text, "(");
+    for (uint32_t i = 0; i < list.b; i++) {
+        text_add(text, "%s", i > 0 ? ", " : "");
+        add_value(text, list.type, value_at(build->pool + SCREEN_VALUE_BYTES * ((size_t)list.a + i)));
+    }
+    if (list.code == 1)
+        text_add(text, "%snull", list.b > 0 ? ", " : "");
+    text_add(text, ")");
+}
+
+static void add_is_in(struct text *text, const struct build *build, struct fields fields)
+{
+    add_operand(text, build, fields.a);
+    text_add(text, " in ");
+    add_list(text, build, fields_at(build->records, fields.b));
+    text_add(text, "%s", fields.code == 1 ? " nulls equal" : "");
+}
+
+static void add_test(struct text *text, const struct build *build, uint64_t record)
+{
+    struct fields fields = fields_at(build->records, record);
+    switch (fields.kind) {
+    case SCREEN_KIND_COLUMN:
+        text_add(text, "%s", build->names[fields.a]);
+        break;
+    case SCREEN_KIND_LITERAL:
+        add_value(text, fields.type, literal_value(fields));
+        break;
+    case SCREEN_KIND_NULL:
+        text_add(text, "null");
+        break;
+    case SCREEN_KIND_BINARY:
+        add_binary(text, build, fields);
+        break;
+    case SCREEN_KIND_NOT:
+        add_not(text, build, fields);
+        break;
+    case SCREEN_KIND_IS_BETWEEN:
+        add_between(text, build, fields);
+        break;
+    case SCREEN_KIND_IS_IN:
+        add_is_in(text, build, fields);
+        break;
+    default:
+        add_operand(text, build, fields.a);
+        text_add(text, fields.kind == SCREEN_KIND_IS_NULL ? " is null" : " is not null");
+    }
+}
+
+size_t add_conjuncts(struct text *text, struct view view)
+{
+    uint64_t waiting[SCREEN_MAX_TREE]; /* each holds a record of the tree, so they are never more */
+    size_t count = 1, conjuncts = 0;
+    waiting[0] = view.root;
+    while (count > 0) {
+        uint64_t record = waiting[--count];
+        struct fields fields = fields_at(view.build->records, record);
+        bool joins = fields.code == SCREEN_OP_AND || fields.code == SCREEN_OP_LOGICAL_AND;
+        if (fields.kind == SCREEN_KIND_BINARY && joins) {
+            waiting[count++] = fields.b;
+            waiting[count++] = fields.a;
+        } else {
+            add_test(text, view.build, record);
+            text_add(text, "\n");
+            conjuncts++;
+        }
+    }
+    return conjuncts;
+}

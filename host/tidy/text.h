@@ -1,0 +1,52 @@
+/* Files read whole, cut into lines, and memory that grows. */
+#ifndef TEXT_H
+#define TEXT_H
+
+#include "fault.h"
+
+#include <stdbool.h>
+#include <stddef.h>
+
+/* A part of some text, not ended by a zero byte. */
+struct slice {
+    const char *at;
+    size_t len;
+};
+
+/* Text of the program's own; always ended by a zero byte once something was added. */
+struct text {
+    char *bytes;
+    size_t len;
+    size_t room;
+};
+
+enum { TEXT_MAX_FILE = 4 << 20 }; /* bytes: above any listed chain, and small enough to hold in memory */
+
+/* Room for `needed` elements of `size` bytes; ends the program if there is no memory. */
+void *grown(void *array, size_t *room, size_t needed, size_t size);
+
+/* The whole file at `path`; a fault if it cannot be read or has over TEXT_MAX_FILE bytes. */
+bool text_read(struct text *text, const char *path, struct fault *fault);
+
+/* Cuts the next line off `rest`, without its end (byte 10, or 13 and 10). False if nothing is left. */
+bool next_line(struct slice *rest, struct slice *line);
+
+void text_add(struct text *text, const char *format, ...);
+
+void text_free(struct text *text);
+
+/* Without blanks at its ends. */
+struct slice trimmed(struct slice part);
+
+bool is_blank(char c);
+
+/* Is the part this word, in small or capital letters? */
+bool is_word(struct slice part, const char *word);
+
+/* Digits, after a minus or not. */
+bool is_decimal(struct slice part);
+
+/* A decimal number within 64 bits. */
+bool whole_number(struct slice part, long long *value);
+
+#endif
