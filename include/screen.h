@@ -3,8 +3,9 @@
  *
  * A screen is a tree of lines ("c0 > 5", "c1 is null", "c2 in [1, 2]") that a row of an option chain passes or not.
  * The caller lends it as plain bytes; nothing is allocated and nothing is kept after a call. Calls may run at the same
- * time on different threads if no buffer that one writes is lent to another. The four calls are proved to give the answer
- * stated here on every input, damaged bytes and any 64-bit numbers too, and to read nothing outside what was lent.
+ * time on different threads if no buffer that one writes is lent to another. The four calls are proved to give the
+ * answer stated here on every input, damaged bytes and any 64-bit numbers too, and to read nothing outside what was
+ * lent.
  *
  * WHAT IS LENT
  *

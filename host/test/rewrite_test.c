@@ -381,6 +381,18 @@ static void test_members(void)
     room(5, 0);
     unchanged("c0 in [1,2,null], c0>2");
 
+    begin_ints(2);
+    join(member(0, 1, 0, 1, 0));
+    compare(GT, 0, 2);
+    room(5, 0);
+    unchanged("a list of code 1 and count 0, c0>2");
+
+    begin_ints(2);
+    join(member(0, 0, 0, 1, 0));
+    compare(GT, 0, 2);
+    room(5, 0);
+    nothing_passes("c0 in [], c0>2");
+
     for (unsigned nulls_equal = 0; nulls_equal < 2; nulls_equal++) {
         begin_ints(2);
         null_test(0);

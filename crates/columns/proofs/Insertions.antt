@@ -298,10 +298,10 @@ all-done ks ss cs ps a v i n l g h =
 -- ---- an impossible column takes nothing, another one does
 pub live-add : (a : q.Constraint ℕ) (cc : q.ColumnConstraints ℕ) → cc .unsat ≡ false → q.put payload a cc ≡
     q.add payload a cc
-live-add a cc u = sym (ap (λ b. q.addBy payload b a cc) u)
+live-add a cc u = sym (ap (λ b. cond b cc (q.put payload a cc)) u)
 
 pub dead-add : (a : q.Constraint ℕ) (cc : q.ColumnConstraints ℕ) → cc .unsat ≡ true → cc ≡ q.add payload a cc
-dead-add a cc u = sym (ap (λ b. q.addBy payload b a cc) u)
+dead-add a cc u = sym (ap (λ b. cond b cc (q.put payload a cc)) u)
 
 -- ---- a negated is_in that drops nulls
 abbrev withStrict : q.ColumnConstraints ℕ → Bool → q.ColumnConstraints ℕ

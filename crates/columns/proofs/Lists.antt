@@ -245,13 +245,15 @@ within-still (some m) l h = ap not h
 pub held-allowed : (t : Conjuncts) (c : ColumnConstraints) (j : ℕ) → c .unsat ≡ false → marked (c .marks) (c .len) j ≡
     true → getD (t .kinds) j 0 ≡ 1 → false ≡ changesIn (q.Allow (listOf (t .starts) (t .counts) (t .pool) j))
     (columnOf t c)
-held-allowed t c j u m k = sym (ap (λ x. q.changesBy payload x (q.Allow (listOf (t .starts) (t .counts) (t .pool) j))
-    (columnOf t c)) u ∙ within-still (columnOf t c .allowed) (listOf (t .starts) (t .counts) (t .pool) j)
+held-allowed t c j u m k = sym (ap (λ x. not x && q.changes payload
+    (q.Allow (listOf (t .starts) (t .counts) (t .pool) j)) (columnOf t c)) u ∙
+    within-still (columnOf t c .allowed) (listOf (t .starts) (t .counts) (t .pool) j)
     (all-within (t .kinds) (t .starts) (t .counts) (t .pool) (c .marks) (c .len) j m k))
 
 pub held-disallowed : (t : Conjuncts) (c : ColumnConstraints) (j : ℕ) → c .unsat ≡ false →
     marked (c .marks) (c .len) j ≡ true → getD (t .kinds) j 0 ≡ 2 → false ≡
     changesIn (q.Disallow false (listOf (t .starts) (t .counts) (t .pool) j)) (columnOf t c)
 held-disallowed t c j u m k = sym
-    (ap (λ x. q.changesBy payload x (q.Disallow false (listOf (t .starts) (t .counts) (t .pool) j)) (columnOf t c)) u
+    (ap (λ x. not x && q.changes payload (q.Disallow false (listOf (t .starts) (t .counts) (t .pool) j))
+    (columnOf t c)) u
     ∙ ap not (any-within (t .kinds) (t .starts) (t .counts) (t .pool) (c .marks) (c .len) j m k))

@@ -1,14 +1,15 @@
 -- The numbers of one column put into another, and the definition of merging. Assumes nothing.
+use Rattle.constraints.specs.Bound.{ofBound}
 use mathlib.Core.Path.{_≡_, refl, sym, _∙_, ap}
 use mathlib.Core.Bool.{Bool, true, false, not, cond, _&&_, _||_, or-true, or-false, and-true, and-assoc, or-assoc}
-use mathlib.Core.List.{List, [], _∷_, _++_}
+use mathlib.Core.List.{List, [], _∷_, _++_, map}
 use mathlib.Core.Option.{Option, none, some}
 use Prim.Native.Nat.{ℕ, zero, suc, _+_}
 use native.Mathlib.Omega.{arith}
 use native.Mathlib.Numerals.{add-one}
 use lib.ListN.{getD}
 use borrow.Author.Tests.{ne-eqb}
-use Rattle.constraints.specs.Values.{contains, insert, insertBy, extend, retain, retainBy, subset}
+use Rattle.constraints.specs.Values.{contains, insert, extend, retain, subset}
 use Rattle.constraints.specs.Column as q
 use Rattle.constraints.specs.Payload.{payload}
 use Rattle.columns.specs.Abstraction.{Conjuncts, columnOf, boundOf, gather, ofKind, listOf, excludedBy}
@@ -31,7 +32,7 @@ union-snoc d (w ∷ l) v = union-snoc (insert payload w d) l v
 pub union-ins : (d x : List ℕ) (v : ℕ) → extend payload d (insert payload v x) ≡ insert payload v (extend payload d x)
 union-ins d x v = go (contains payload (payload .key v) x) refl
   where
-    go : (b : Bool) → contains payload (payload .key v) x ≡ b → extend payload d (insertBy b v x) ≡
+    go : (b : Bool) → contains payload (payload .key v) x ≡ b → extend payload d (cond b x (x ++ (v ∷ []))) ≡
         insert payload v (extend payload d x)
     go true h = rw (contains-extend payload (payload .key v) d x, h, or-true (contains payload (payload .key v) d))
     go false h = union-snoc d x v
@@ -46,8 +47,9 @@ keep-keep l m (v ∷ x) = rw (contains-retain payload (payload .key v) l m)
     (go (contains payload (payload .key v) m) (contains payload (payload .key v) l) refl (keep-keep l m x))
   where
     go : (a b : Bool) → contains payload (payload .key v) l ≡ b → retain payload (retain payload l m) x ≡
-        retain payload l (retain payload m x) → retainBy (a && b) v (retain payload (retain payload l m) x) ≡
-        retain payload l (retainBy a v (retain payload m x))
+        retain payload l (retain payload m x) → cond (a && b) (v ∷ (retain payload (retain payload l m) x))
+        (retain payload (retain payload l m) x) ≡
+        retain payload l (cond a (v ∷ (retain payload m x)) (retain payload m x))
     go true true e h = rw (e, h)
     go true false e h = rw e h
     go false b e h = h
@@ -94,7 +96,7 @@ subset-insert d x v = go (has v d) refl
     own h true s = sym (subset-contains payload (payload .key v) d x s h)
     own h false s = refl
 
-    go : (b : Bool) → has v d ≡ b → subset payload (insertBy b v d) x ≡ (subset payload d x && has v x)
+    go : (b : Bool) → has v d ≡ b → subset payload (cond b d (d ++ (v ∷ []))) x ≡ (subset payload d x && has v x)
     go true h = own h (subset payload d x) refl
     go false h = subset-snoc d x v
 
@@ -234,7 +236,7 @@ marks-taken t a (suc n) m u = ap (λ y. takeMark t (getD a n 0) y) (marks-taken 
 
 -- ---- an impossible column takes nothing
 dead : (x : q.Constraint ℕ) (c : q.ColumnConstraints ℕ) → c .unsat ≡ true → q.add payload x c ≡ c
-dead x c u = ap (λ b. q.addBy payload b x c) u
+dead x c u = ap (λ b. cond b c (q.put payload x c)) u
 
 dead-all : (l : List (q.Constraint ℕ)) (c : q.ColumnConstraints ℕ) → c .unsat ≡ true → q.addAll payload l c ≡ c
 dead-all [] c u = refl
@@ -243,23 +245,23 @@ dead-all (x ∷ l) c u = ap (λ y. q.addAll payload l y) (dead x c u) ∙ dead-a
 dead-still : (l : List (q.Constraint ℕ)) (c : q.ColumnConstraints ℕ) → c .unsat ≡ true → q.changesAll payload l c ≡
     false
 dead-still [] c u = refl
-dead-still (x ∷ l) c u = ap (λ b. q.changesBy payload b x c || q.changesAll payload l (q.add payload x c)) u ∙
+dead-still (x ∷ l) c u = ap (λ b. (not b && q.changes payload x c) || q.changesAll payload l (q.add payload x c)) u ∙
     ap (λ y. q.changesAll payload l y) (dead x c u) ∙ dead-still l c u
 
 dead-emitting : (x : q.Constraint ℕ) (m : Merging) → m .column .unsat ≡ true → emitting x m ≡ m
 dead-emitting x m u = ap (λ b. record {
-  column = q.addBy payload b x (m .column);
+  column = cond b (m .column) (q.put payload x (m .column));
   emitted =
-      m .emitted || q.changesBy payload b x (m .column);
+      m .emitted || (not b && q.changes payload x (m .column));
   any = m .any;
 }) u ∙ rw (or-false (m .emitted))
 
 dead-recording : (x : q.Constraint ℕ) (m : Merging) → m .column .unsat ≡ true → recording x m ≡ m
 dead-recording x m u = ap (λ b. record {
-  column = q.addBy payload b x (m .column);
+  column = cond b (m .column) (q.put payload x (m .column));
   emitted = m .emitted;
   any =
-      m .any || q.changesBy payload b x (m .column);
+      m .any || (not b && q.changes payload x (m .column));
 }) u ∙ rw (or-false (m .any))
 
 dead-mark : (t : Conjuncts) (j : ℕ) (m : Merging) → m .column .unsat ≡ true → takeMark t j m ≡ m
@@ -280,10 +282,11 @@ dead-marks t a zero m u = refl
 dead-marks t a (suc n) m u = ap (λ y. takeMark t (getD a n 0) y) (dead-marks t a n m u) ∙ dead-mark t (getD a n 0) m u
 
 -- ---- the definition's way: all excluded values, then the allowed list, then the disallowed values
-excluded-joined : (l : List ℕ) (c : q.ColumnConstraints ℕ) → c .unsat ≡ false → q.addAll payload (q.excludedOf l) c ≡
+excluded-joined : (l : List ℕ) (c : q.ColumnConstraints ℕ) → c .unsat ≡ false → q.addAll payload (map q.Exclude l) c ≡
     joined c l none []
 excluded-joined [] c u = refl
-excluded-joined (v ∷ l) c u = ap (λ b. q.addAll payload (q.excludedOf l) (q.addBy payload b (q.Exclude v) c)) u ∙
+excluded-joined (v ∷ l) c u = ap (λ b. q.addAll payload (map q.Exclude l) (cond b c (q.put payload (q.Exclude v) c)))
+    u ∙
     excluded-joined l (q.put payload (q.Exclude v) c) u
 
 recorded-joined : (o : Option (List ℕ)) (d l : List ℕ) (c : q.ColumnConstraints ℕ) → c .unsat ≡ false →
@@ -291,15 +294,17 @@ recorded-joined : (o : Option (List ℕ)) (d l : List ℕ) (c : q.ColumnConstrai
 recorded-joined none d l c u = rw (u, or-false (c .strict))
 recorded-joined (some m) d l c u = rw (u, or-false (c .strict))
 
-excluded-new : (l : List ℕ) (c : q.ColumnConstraints ℕ) → c .unsat ≡ false → q.changesAll payload (q.excludedOf l) c ≡
+excluded-new : (l : List ℕ) (c : q.ColumnConstraints ℕ) → c .unsat ≡ false → q.changesAll payload (map q.Exclude l) c ≡
     not (subset payload l (c .excluded))
 excluded-new [] c u = refl
-excluded-new (v ∷ l) c u = ap (λ b. q.changesBy payload b (q.Exclude v) c || q.changesAll payload (q.excludedOf l)
-    (q.addBy payload b (q.Exclude v) c)) u
+excluded-new (v ∷ l) c u = ap (λ b. (not b && q.changes payload (q.Exclude v) c) ||
+    q.changesAll payload (map q.Exclude l)
+    (cond b c (q.put payload (q.Exclude v) c))) u
     ∙ ap (λ b. not (has v (c .excluded)) || b) (excluded-new l (q.put payload (q.Exclude v) c) u) ∙
     go (has v (c .excluded)) refl
   where
-    go : (b : Bool) → has v (c .excluded) ≡ b → (not b || not (subset payload l (insertBy b v (c .excluded)))) ≡
+    go : (b : Bool) → has v (c .excluded) ≡ b → (not b || not
+        (subset payload l (cond b (c .excluded) ((c .excluded) ++ (v ∷ []))))) ≡
         not (b && subset payload l (c .excluded))
     go true h = refl
     go false h = refl
@@ -319,7 +324,7 @@ changes-append : (l m : List (q.Constraint ℕ)) (c : q.ColumnConstraints ℕ) �
     (q.changesAll payload l c || q.changesAll payload m (q.addAll payload l c))
 changes-append [] m c = refl
 changes-append (x ∷ l) m c = rw (changes-append l m (q.add payload x c))
-    (sym (or-assoc (q.changesBy payload (c .unsat) x c) (q.changesAll payload l (q.add payload x c))
+    (sym (or-assoc (not (c .unsat) && q.changes payload x c) (q.changesAll payload l (q.add payload x c))
     (q.changesAll payload m (q.addAll payload l (q.add payload x c)))))
 
 -- what the definition makes of the values e, o, d, after the bounds
@@ -327,10 +332,10 @@ abbrev told : Merging → List ℕ → Option (List ℕ) → List ℕ → Mergin
 told m e o d =
     record {
       column = q.addAll payload (q.allowedOf o ++ (q.Disallow false d ∷ []))
-          (q.addAll payload (q.excludedOf e) (m .column));
-      emitted = m .emitted || q.changesAll payload (q.excludedOf e) (m .column);
+          (q.addAll payload (map q.Exclude e) (m .column));
+      emitted = m .emitted || q.changesAll payload (map q.Exclude e) (m .column);
       any = m .any || q.changesAll payload (q.allowedOf o ++ (q.Disallow false d ∷ []))
-          (q.addAll payload (q.excludedOf e) (m .column));
+          (q.addAll payload (map q.Exclude e) (m .column));
     }
 
 live-told : (m : Merging) (e : List ℕ) (o : Option (List ℕ)) (d : List ℕ) → m .column .unsat ≡ false → told m e o d ≡
@@ -339,14 +344,14 @@ live-told m e o d u =
     ap (λ y. record {
       column = q.addAll payload (q.allowedOf o ++ (q.Disallow false d ∷ [])) y;
       emitted =
-          m .emitted || q.changesAll payload (q.excludedOf e) (m .column);
+          m .emitted || q.changesAll payload (map q.Exclude e) (m .column);
       any =
           m .any || q.changesAll payload (q.allowedOf o ++ (q.Disallow false d ∷ [])) y;
     })
     (excluded-joined e (m .column) u)
     ∙ ap (λ y. record {
       column = y;
-      emitted = m .emitted || q.changesAll payload (q.excludedOf e) (m .column);
+      emitted = m .emitted || q.changesAll payload (map q.Exclude e) (m .column);
       any =
           m .any || q.changesAll payload (q.allowedOf o ++ (q.Disallow false d ∷ [])) (joined (m .column) e none []);
     })
@@ -371,20 +376,20 @@ dead-told m e o d u =
     ap (λ y. record {
       column = q.addAll payload (q.allowedOf o ++ (q.Disallow false d ∷ [])) y;
       emitted =
-          m .emitted || q.changesAll payload (q.excludedOf e) (m .column);
+          m .emitted || q.changesAll payload (map q.Exclude e) (m .column);
       any =
           m .any || q.changesAll payload (q.allowedOf o ++ (q.Disallow false d ∷ [])) y;
     })
-    (dead-all (q.excludedOf e) (m .column) u)
+    (dead-all (map q.Exclude e) (m .column) u)
     ∙ ap (λ y. record {
       column = y;
-      emitted = m .emitted || q.changesAll payload (q.excludedOf e) (m .column);
+      emitted = m .emitted || q.changesAll payload (map q.Exclude e) (m .column);
       any =
           m .any || q.changesAll payload (q.allowedOf o ++ (q.Disallow false d ∷ [])) (m .column);
     })
     (dead-all (q.allowedOf o ++ (q.Disallow false d ∷ [])) (m .column) u)
     ∙ rw (
-      dead-still (q.excludedOf e) (m .column) u,
+      dead-still (map q.Exclude e) (m .column) u,
       dead-still (q.allowedOf o ++ (q.Disallow false d ∷ []))
           (m .column) u,
       or-false (m .emitted),
@@ -405,27 +410,27 @@ marks-told t d m = go (m .column .unsat) refl
 -- ---- the bounds
 abbrev atLower : b.Bound ℕ → Merging → Merging
 atLower l m = record {
-  column = q.addAll payload (q.lowerOf l) (m .column);
+  column = q.addAll payload (ofBound q.Lower l) (m .column);
   emitted =
-      m .emitted || q.changesAll payload (q.lowerOf l) (m .column);
+      m .emitted || q.changesAll payload (ofBound q.Lower l) (m .column);
   any = m .any;
 }
 
 lower-told : (l : b.Bound ℕ) (m : Merging) → takeLower l m ≡ atLower l m
 lower-told b.absent m = rw (or-false (m .emitted))
-lower-told (b.at i v) m = rw (or-false (q.changesBy payload (m .column .unsat) (q.Lower i v) (m .column)))
+lower-told (b.at i v) m = rw (or-false (not (m .column .unsat) && q.changes payload (q.Lower i v) (m .column)))
 
 abbrev atUpper : b.Bound ℕ → Merging → Merging
 atUpper u m = record {
-  column = q.addAll payload (q.upperOf u) (m .column);
+  column = q.addAll payload (ofBound q.Upper u) (m .column);
   emitted =
-      m .emitted || q.changesAll payload (q.upperOf u) (m .column);
+      m .emitted || q.changesAll payload (ofBound q.Upper u) (m .column);
   any = m .any;
 }
 
 upper-told : (u : b.Bound ℕ) (m : Merging) → takeUpper u m ≡ atUpper u m
 upper-told b.absent m = rw (or-false (m .emitted))
-upper-told (b.at i v) m = rw (or-false (q.changesBy payload (m .column .unsat) (q.Upper i v) (m .column)))
+upper-told (b.at i v) m = rw (or-false (not (m .column .unsat) && q.changes payload (q.Upper i v) (m .column)))
 
 -- the two bounds first, then the numbers: that is merging
 abbrev mergeStart : q.ColumnConstraints ℕ → Merging
@@ -460,18 +465,18 @@ told-whole c d = sym (
       any =
           q.changesAll payload (q.recorded d) y;
     })
-    (append-3 (q.lowerOf (d .lower)) (q.upperOf (d .upper)) (q.excludedOf (d .excluded)) c)
+    (append-3 (ofBound q.Lower (d .lower)) (ofBound q.Upper (d .upper)) (map q.Exclude (d .excluded)) c)
     ∙ ap (λ y. record {
       column = q.addAll payload (q.recorded d)
-          (q.addAll payload (q.excludedOf (d .excluded))
-          (q.addAll payload (q.upperOf (d .upper)) (q.addAll payload (q.lowerOf (d .lower)) c)));
+          (q.addAll payload (map q.Exclude (d .excluded))
+          (q.addAll payload (ofBound q.Upper (d .upper)) (q.addAll payload (ofBound q.Lower (d .lower)) c)));
       emitted = y;
       any =
           q.changesAll payload (q.recorded d)
-          (q.addAll payload (q.excludedOf (d .excluded))
-          (q.addAll payload (q.upperOf (d .upper)) (q.addAll payload (q.lowerOf (d .lower)) c)));
+          (q.addAll payload (map q.Exclude (d .excluded))
+          (q.addAll payload (ofBound q.Upper (d .upper)) (q.addAll payload (ofBound q.Lower (d .lower)) c)));
     })
-    (changes-3 (q.lowerOf (d .lower)) (q.upperOf (d .upper)) (q.excludedOf (d .excluded)) c))
+    (changes-3 (ofBound q.Lower (d .lower)) (ofBound q.Upper (d .upper)) (map q.Exclude (d .excluded)) c))
 
 pub merge-law : (t : Conjuncts) (c : q.ColumnConstraints ℕ) (d : ColumnConstraints) →
     takeMarks t (d .marks) (d .len) (takeUpper (boundOf (d .upper)) (takeLower (boundOf (d .lower)) (mergeStart c))) ≡

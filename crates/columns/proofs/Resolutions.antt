@@ -1,4 +1,5 @@
 -- The walk of `resolve_deferred` over a column's numbers, and the definition. Assumes nothing.
+use Rattle.constraints.proofs.Resolves.{resolveIf, rangeOf}
 use mathlib.Core.Path.{_≡_, refl, sym, _∙_, ap}
 use mathlib.Core.Bool.{Bool, true, false, not, cond, _||_, or-false}
 use mathlib.Core.List.{List, [], _∷_, _++_}
@@ -63,22 +64,22 @@ by-walked TightenLower cc r o d v u = rw (u, open-at (r .lower) v)
 by-walked TightenUpper cc r o d v u = rw (u, open-at (r .upper) v)
 
 step-walked : (cc : q.ColumnConstraints ℕ) (r : z.Range ℕ) (o : Option (List ℕ)) (d : List ℕ) (v : ℕ) →
-    stepExcluded v (walked cc r o d) ≡ walked cc (z.resolveIf payload (r .crossed) v r) o d
+    stepExcluded v (walked cc r o d) ≡ walked cc (resolveIf payload (r .crossed) v r) o d
 step-walked cc r o d v = go (r .crossed) refl
   where
     go : (x : Bool) → r .crossed ≡ x → cond x (walked cc r o d) (consistent (applyExcluded v (walked cc r o d))) ≡
-        walked cc (z.resolveIf payload x v r) o d
+        walked cc (resolveIf payload x v r) o d
     go true u = refl
     go false u = by-walked (z.classifyAt payload (r .lower) (r .upper) v) cc r o d v u
 
 resolve-snoc : (l : List ℕ) (v : ℕ) (r : z.Range ℕ) → z.resolveExcluded payload (l ++ (v ∷ [])) r ≡
-    z.resolveIf payload (z.resolveExcluded payload l r .crossed) v (z.resolveExcluded payload l r)
+    resolveIf payload (z.resolveExcluded payload l r .crossed) v (z.resolveExcluded payload l r)
 resolve-snoc [] v r = refl
-resolve-snoc (w ∷ l) v r = resolve-snoc l v (z.resolveIf payload (r .crossed) w r)
+resolve-snoc (w ∷ l) v r = resolve-snoc l v (resolveIf payload (r .crossed) w r)
 
 -- ---- one number
 abbrev ranged : q.ColumnConstraints ℕ → List ℕ → Option (List ℕ) → List ℕ → q.ColumnConstraints ℕ
-ranged cc e o d = walked cc (z.resolveExcluded payload e (z.rangeOf cc)) o d
+ranged cc e o d = walked cc (z.resolveExcluded payload e (rangeOf cc)) o d
 
 mark-walked : (t : Conjuncts) (j : ℕ) (cc : q.ColumnConstraints ℕ) (e : List ℕ) (o : Option (List ℕ)) (d : List ℕ) →
     stepMark t j (ranged cc e o d) ≡
@@ -99,8 +100,8 @@ mark-walked t j cc e o d = go (eq-view (getD (t .kinds) j 0) 0) (eq-view (getD (
         (cond w (extend payload d (listOf (t .starts) (t .counts) (t .pool) j)) d)
     go (yes p) (yes r) s = absurd (omega (arith, p, r))
     go (yes p) (no r) (yes s) = absurd (omega (arith, p, s))
-    go (yes p) (no r) (no s) = step-walked cc (z.resolveExcluded payload e (z.rangeOf cc)) o d (getD (t .values) j 0)
-        ∙ ap (λ y. walked cc y o d) (sym (resolve-snoc e (getD (t .values) j 0) (z.rangeOf cc)))
+    go (yes p) (no r) (no s) = step-walked cc (z.resolveExcluded payload e (rangeOf cc)) o d (getD (t .values) j 0)
+        ∙ ap (λ y. walked cc y o d) (sym (resolve-snoc e (getD (t .values) j 0) (rangeOf cc)))
     go (no p) (yes r) (yes s) = absurd (omega (arith, r, s))
     go (no p) (yes r) (no s) = refl
     go (no p) (no r) (yes s) = rw (or-false (cc .strict))
@@ -137,7 +138,7 @@ walk-law t c d x e k =
     ap (λ y. withUnsat y (c .unsat || (x || y .unsat))) (e ∙ marks-walked t (c .marks) (c .len) (columnOf t c))
     ∙ ap (λ y. withUnsat (ranged (columnOf t c) (columnOf t c .excluded) (columnOf t c .allowed)
     (columnOf t c .disallowed)) (c .unsat ||
-    (y || z.resolveExcluded payload (columnOf t c .excluded) (z.rangeOf (columnOf t c)) .crossed))) k
+    (y || z.resolveExcluded payload (columnOf t c .excluded) (rangeOf (columnOf t c)) .crossed))) k
 
 pub lists-law : (cc : q.ColumnConstraints ℕ) (a p : Bool) → cc .unsat ≡ false → a ≡
     z.allowedFeasible payload cc (cc .allowed) → p ≡ z.fixedDisallowed payload cc (z.fixedValue payload cc) →

@@ -1,7 +1,8 @@
 -- What a column is written out as: the comparisons at its places, and their number. Assumes nothing.
+use Rattle.constraints.specs.Bound.{ofBound}
 use mathlib.Core.Path.{_≡_, refl, sym, _∙_, ap}
 use mathlib.Core.Bool.{Bool, true, false, not, cond}
-use mathlib.Core.List.{List, [], _∷_, _++_}
+use mathlib.Core.List.{List, [], _∷_, _++_, map}
 use mathlib.Core.Option.{Option, none, some}
 use Prim.Native.Nat.{ℕ, zero, suc, _+_, _-_, _≤_}
 use native.Mathlib.Omega.{arith}
@@ -40,8 +41,8 @@ count-few false r e = omega (arith, e)
 
 -- ---- the places, one after the other, are the comparisons in their order
 
-compared-snoc : (l : List ℕ) (v : ℕ) → e.excludedComparisons (l ++ (v ∷ [])) ≡
-    e.excludedComparisons l ++ (e.IsNotEq v ∷ [])
+compared-snoc : (l : List ℕ) (v : ℕ) → map e.IsNotEq (l ++ (v ∷ [])) ≡
+    map e.IsNotEq l ++ (e.IsNotEq v ∷ [])
 compared-snoc [] v = refl
 compared-snoc (w ∷ l) v = ap (λ m. e.IsNotEq w ∷ m) (compared-snoc l v)
 
@@ -53,25 +54,25 @@ nil : {A : Type 0} (l : List A) → l ++ [] ≡ l
 nil [] = refl
 nil (x ∷ l) = ap (λ y. x ∷ y) (nil l)
 
-mark-compared : (ks vs a : List ℕ) (n : ℕ) → e.excludedComparisons (excludedBy ks vs a (suc n)) ≡
-    e.excludedComparisons (excludedBy ks vs a n) ++ placedMark ks vs (getD a n 0)
+mark-compared : (ks vs a : List ℕ) (n : ℕ) → map e.IsNotEq (excludedBy ks vs a (suc n)) ≡
+    map e.IsNotEq (excludedBy ks vs a n) ++ placedMark ks vs (getD a n 0)
 unfolding excludedBy gather
 mark-compared ks vs a n = go (ofKind ks 0 (getD a n 0))
   where
-    go : (x : Bool) → e.excludedComparisons (cond x (excludedBy ks vs a n ++ (getD vs (getD a n 0) 0 ∷ []))
-        (excludedBy ks vs a n)) ≡ e.excludedComparisons (excludedBy ks vs a n) ++ cond x
+    go : (x : Bool) → map e.IsNotEq (cond x (excludedBy ks vs a n ++ (getD vs (getD a n 0) 0 ∷ []))
+        (excludedBy ks vs a n)) ≡ map e.IsNotEq (excludedBy ks vs a n) ++ cond x
         (e.IsNotEq (getD vs (getD a n 0) 0) ∷ []) []
     go true = compared-snoc (excludedBy ks vs a n) (getD vs (getD a n 0) 0)
-    go false = sym (nil (e.excludedComparisons (excludedBy ks vs a n)))
+    go false = sym (nil (map e.IsNotEq (excludedBy ks vs a n)))
 
-none-compared : (ks vs a : List ℕ) → e.excludedComparisons (excludedBy ks vs a 0) ≡ []
+none-compared : (ks vs a : List ℕ) → map e.IsNotEq (excludedBy ks vs a 0) ≡ []
 unfolding excludedBy gather
 none-compared ks vs a = refl
 
 -- the places of a column that no value fixes
 abbrev free : Conjuncts → ColumnConstraints → ℕ → List (e.ColumnComparison ℕ)
-free t c n = e.lowerComparison (boundOf (c .lower)) ++
-    (e.upperComparison (boundOf (c .upper)) ++ e.excludedComparisons (excludedBy (t .kinds) (t .values) (c .marks) n))
+free t c n = ofBound e.IsLower (boundOf (c .lower)) ++
+    (ofBound e.IsUpper (boundOf (c .upper)) ++ map e.IsNotEq (excludedBy (t .kinds) (t .values) (c .marks) n))
 
 unfixed : (t : Conjuncts) (c : ColumnConstraints) (p : ℕ) → z.fixedAt payload (boundOf (c .lower))
     (boundOf (c .upper)) ≡ none → placed t c p ≡ placedFree t c p
@@ -106,7 +107,7 @@ free-placed t c h zero = two t c ∙
       unfixed t c 0 h,
       unfixed t c 1 h,
       none-compared (t .kinds) (t .values) (c .marks),
-      nil (e.upperComparison (boundOf (c .upper))),
+      nil (ofBound e.IsUpper (boundOf (c .upper))),
     )
 free-placed t c h (suc n) =
     let s : 2 + suc n ≡ suc (2 + n) = omega arith in
@@ -118,11 +119,12 @@ free-placed t c h (suc n) =
       mark-compared (t .kinds) (t .values)
           (c .marks) n,
     )
-    (assoc (e.lowerComparison (boundOf (c .lower))) (e.upperComparison (boundOf (c .upper)) ++ e.excludedComparisons
-    (excludedBy (t .kinds) (t .values) (c .marks) n)) (placedMark (t .kinds) (t .values) (getD (c .marks) n 0))
-    ∙ ap (λ y. e.lowerComparison (boundOf (c .lower)) ++ y)
-    (assoc (e.upperComparison (boundOf (c .upper)))
-    (e.excludedComparisons (excludedBy (t .kinds) (t .values) (c .marks) n))
+    (assoc (ofBound e.IsLower (boundOf (c .lower))) (ofBound e.IsUpper (boundOf (c .upper)) ++
+    map e.IsNotEq (excludedBy (t .kinds) (t .values) (c .marks) n))
+    (placedMark (t .kinds) (t .values) (getD (c .marks) n 0))
+    ∙ ap (λ y. ofBound e.IsLower (boundOf (c .lower)) ++ y)
+    (assoc (ofBound e.IsUpper (boundOf (c .upper)))
+    (map e.IsNotEq (excludedBy (t .kinds) (t .values) (c .marks) n))
     (placedMark (t .kinds) (t .values) (getD (c .marks) n 0))))
 
 none-placed : (t : Conjuncts) (c : ColumnConstraints) (v : ℕ) → placedTo t c 0 ++ (e.IsEq v ∷ []) ≡ e.IsEq v ∷ []
@@ -157,24 +159,24 @@ count-le ks vs a (suc n) =
     let f = count-few (ofKind ks 0 (getD a n 0)) (cond (ofKind ks 0 (getD a n 0)) 1 0) refl in
     omega (arith, h, g, f)
 
-length-excluded : (l : List ℕ) → length (e.excludedComparisons l) ≡ length l
+length-excluded : (l : List ℕ) → length (map e.IsNotEq l) ≡ length l
 length-excluded [] = refl
 length-excluded (v ∷ l) = ap suc (length-excluded l)
 
-lower-count : (l : b.Bound ℕ) → length (e.lowerComparison l) ≡ cond (not (b.isAbsent l)) 1 0
+lower-count : (l : b.Bound ℕ) → length (ofBound e.IsLower l) ≡ cond (not (b.isAbsent l)) 1 0
 lower-count b.absent = refl
 lower-count (b.at i v) = refl
 
-upper-count : (l : b.Bound ℕ) → length (e.upperComparison l) ≡ cond (not (b.isAbsent l)) 1 0
+upper-count : (l : b.Bound ℕ) → length (ofBound e.IsUpper l) ≡ cond (not (b.isAbsent l)) 1 0
 upper-count b.absent = refl
 upper-count (b.at i v) = refl
 
 pub count-law : (l u : b.Bound ℕ) (x : List ℕ) →
-    length (e.lowerComparison l ++ (e.upperComparison u ++ e.excludedComparisons x)) ≡
+    length (ofBound e.IsLower l ++ (ofBound e.IsUpper u ++ map e.IsNotEq x)) ≡
     cond (not (b.isAbsent l)) 1 0 + (cond (not (b.isAbsent u)) 1 0 + length x)
-count-law l u x = length-append (e.lowerComparison l) (e.upperComparison u ++ e.excludedComparisons x) ∙
+count-law l u x = length-append (ofBound e.IsLower l) (ofBound e.IsUpper u ++ map e.IsNotEq x) ∙
     rw (
-      length-append (e.upperComparison u) (e.excludedComparisons x),
+      length-append (ofBound e.IsUpper u) (map e.IsNotEq x),
       lower-count l,
       upper-count u,
       length-excluded x,

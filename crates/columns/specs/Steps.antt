@@ -1,5 +1,6 @@
 -- One number of a conjunct after the other: what the loops over a column's numbers compute, as folds. The laws that
 -- these are the definitions of Column, Resolve and Comparisons are in proofs/.
+use Rattle.constraints.specs.Bound.{ofBound}
 use Prim.Native.Nat.{ℕ, zero, suc, _+_, _-_}
 use mathlib.Core.Bool.{Bool, false, not, cond, _&&_, _||_}
 use mathlib.Core.Path.{_≡_}
@@ -49,7 +50,7 @@ abbrev pub mergingOf : Conjuncts → Merged → Merging
 mergingOf t m = record { column = columnOf t (m .column); emitted = m .emitted; any = m .any }
 
 abbrev pub changesIn : q.Constraint ℕ → q.ColumnConstraints ℕ → Bool
-changesIn a cc = q.changesBy payload (cc .unsat) a cc
+changesIn a cc = (not (cc .unsat) && q.changes payload a cc)
 
 -- A constraint that is written out again, and one that is only recorded.
 abbrev pub emitting : q.Constraint ℕ → Merging → Merging
@@ -115,8 +116,8 @@ placedMark kinds values j = cond (ofKind kinds 0 j) (e.IsNotEq (getD values j 0)
 
 abbrev pub placedFree : Conjuncts → ColumnConstraints → ℕ → List (e.ColumnComparison ℕ)
 placedFree t c p =
-    cond (eqb p 0) (e.lowerComparison (boundOf (c .lower)))
-    (cond (eqb p 1) (e.upperComparison (boundOf (c .upper)))
+    cond (eqb p 0) (ofBound e.IsLower (boundOf (c .lower)))
+    (cond (eqb p 1) (ofBound e.IsUpper (boundOf (c .upper)))
     (placedMark (t .kinds) (t .values) (getD (c .marks) (p - 2) 0)))
 
 abbrev pub placedPoint : ℕ → ℕ → List (e.ColumnComparison ℕ)

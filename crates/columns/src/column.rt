@@ -1,7 +1,7 @@
 // A column's constraints: what the conjuncts say of its bounds and of nulls. The sets are in module `marks`.
 ghost use mathlib.Core.Path.{_≡_};
 ghost use Rattle.constraints.specs.Column as q;
-ghost use Rattle.constraints.specs.Resolve.{isNullRequired};
+ghost use Rattle.constraints.specs.Column.{isNullRequired};
 ghost use Rattle.constraints.specs.Payload.{payload};
 ghost use Rattle.columns.specs.Abstraction.{Conjuncts, columnOf};
 ghost use Rattle.columns.specs.Steps.{changesIn, consistent};

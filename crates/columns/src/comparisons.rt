@@ -6,7 +6,8 @@ ghost use mathlib.Core.Bool.{cond};
 ghost use mathlib.Core.List.{List};
 ghost use Prim.Native.Nat.{ℕ, _+_};
 ghost use lib.ListN.{length};
-ghost use Rattle.constraints.specs.Comparisons.{lowerComparison, upperComparison, collectColumnComparisons};
+ghost use Rattle.constraints.specs.Bound.{ofBound};
+ghost use Rattle.constraints.specs.Comparisons.{IsLower, IsUpper, collectColumnComparisons};
 ghost use Rattle.constraints.specs.Payload.{payload};
 ghost use Rattle.columns.specs.Abstraction.{Conjuncts, columnOf, boundOf, excludedBy, comparedOf, Fine};
 ghost use Rattle.columns.specs.Steps.{placedMark, placedFree, placedPoint, placed};
@@ -31,7 +32,7 @@ pub enum Compared {
 }
 
 fn at_lower(l: Bound) -> Compared
-    ensures { λ r. ⌜ comparedOf r ≡ lowerComparison (boundOf l) ⌝ }
+    ensures { λ r. ⌜ comparedOf r ≡ ofBound IsLower (boundOf l) ⌝ }
 {
     match l {
         Bound::Absent => Compared::Vacant,
@@ -41,7 +42,7 @@ fn at_lower(l: Bound) -> Compared
 }
 
 fn at_upper(u: Bound) -> Compared
-    ensures { λ r. ⌜ comparedOf r ≡ upperComparison (boundOf u) ⌝ }
+    ensures { λ r. ⌜ comparedOf r ≡ ofBound IsUpper (boundOf u) ⌝ }
 {
     match u {
         Bound::Absent => Compared::Vacant,

@@ -1,8 +1,10 @@
 // Resolving the excluded values, the allowed lists and the disallowed values against the final bounds.
 ghost use mathlib.Core.Path.{_≡_};
-ghost use mathlib.Core.Bool.{true, false};
+ghost use mathlib.Core.Bool.{true, false, cond};
+ghost use mathlib.Core.Option.{none, some};
 ghost use Prim.Native.Nat.{_<_};
 ghost use lib.ListN.{getD};
+ghost use Rattle.truth.specs.Order.{isEqual};
 ghost use Rattle.constraints.specs.Bound.{at};
 ghost use Rattle.constraints.specs.Column as q;
 ghost use Rattle.constraints.specs.Resolve as z;
@@ -96,7 +98,7 @@ fn classify_at(l: Bound, u: Bound, e: Scalar) -> ExcludedResolution
 }
 
 fn fixed_by(o: Ordering, v: Scalar) -> FixedValue
-    ensures { λ r. ⌜ fixedOf r ≡ z.fixedBy o (v .0) ⌝ }
+    ensures { λ r. ⌜ fixedOf r ≡ cond (isEqual o) (some (v .0)) none ⌝ }
 {
     match o {
         Ordering::Less => FixedValue::Nothing,

@@ -1,6 +1,6 @@
 -- What is known of one column.
 use mathlib.Core.Path.{_≡_, refl, sym, _∙_, ap}
-use mathlib.Core.Bool.{Bool, true, false, not, _&&_, _||_, and-true, and-false, and-comm, and-assoc, true≢false}
+use mathlib.Core.Bool.{Bool, true, false, not, _&&_, _||_, and-true, and-false, and-comm, and-assoc, true≢false, cond}
 use mathlib.Core.List.{List, [], _∷_, _++_}
 use mathlib.Core.Option.{Option, none, some}
 use Rattle.truth.specs.Order.{isEqual}
@@ -10,10 +10,10 @@ use Rattle.constraints.proofs.Bounds.{crossing-clears-nothing, tighten-
 use Rattle.constraints.proofs.Sets.{contains-extend, contains-insert, contains-retain}
 use Rattle.constraints.specs.Bound.{Bound, absent, at, clears, isAbsent, tighten, tightenBy}
 use Rattle.constraints.specs.Column.{Allow, ColumnConstraints, Constraint, Disallow, Exclude, Lower, Require}
-use Rattle.constraints.specs.Column.{Upper, add, addAll, addBy, common, firstRequired, isNone, opposed, put}
+use Rattle.constraints.specs.Column.{Upper, add, addAll, common, firstRequired, isNone, opposed, put}
 use Rattle.constraints.specs.Resolve.{isAllowed}
 use Rattle.constraints.specs.Scalars.{Scalars, opposite}
-use Rattle.constraints.specs.Values.{contains, insert, insertBy, isEmpty}
+use Rattle.constraints.specs.Values.{contains, insert, isEmpty}
 use Rattle.constraints.specs.declared.column.Nullability.{Nullability}
 use Rattle.constraints.specs.declared.column.Nullability.the-variants.{NonNull, Null, Unconstrained}
 
@@ -106,7 +106,7 @@ module _ {K Val : Type 0} (S : Scalars K Val) where
   insert-full v [] = refl
   insert-full v (w ∷ l) = go (contains S (S .key v) (w ∷ l))
     where
-      go : (b : Bool) → isEmpty (insertBy b v (w ∷ l)) ≡ false
+      go : (b : Bool) → isEmpty (cond b (w ∷ l) ((w ∷ l) ++ (v ∷ []))) ≡ false
       go true = refl
       go false = refl
 
@@ -222,7 +222,7 @@ module _ {K Val : Type 0} (S : Scalars K Val) where
       live e false f = rw (put-emitted a q x, put-recorded a q x f)
           (swap-mid (admitsEmitted q x) (obeysEmitted a x) (admitsRecorded q x) (obeysRecorded a x))
 
-      go : (b : Bool) → q .unsat ≡ b → admits (addBy S b a q) x ≡ (admits q x && obeys a x)
+      go : (b : Bool) → q .unsat ≡ b → admits (cond b q (put S a q)) x ≡ (admits q x && obeys a x)
       go true e = rw e
       go false e = live e (put S a q .unsat) refl ∙
           sym (ap (λ b. (not b && (admitsEmitted q x && admitsRecorded q x)) && obeys a x) e)
@@ -231,7 +231,7 @@ module _ {K Val : Type 0} (S : Scalars K Val) where
   pub add-live : (a : Constraint Val) (q : ColumnConstraints Val) → add S a q .unsat ≡ false → q .unsat ≡ false
   add-live a q = go (q .unsat) refl
     where
-      go : (b : Bool) → q .unsat ≡ b → addBy S b a q .unsat ≡ false → q .unsat ≡ false
+      go : (b : Bool) → q .unsat ≡ b → (cond b q (put S a q)) .unsat ≡ false → q .unsat ≡ false
       go true e h = h
       go false e h = e
 

@@ -1,9 +1,9 @@
 -- Single facts of a column: what travels along an equality. A fact is had by a merge exactly if one of the two had
 -- it.
 use mathlib.Core.Path.{_≡_, refl, sym, _∙_, ap, subst}
-use mathlib.Core.Bool.{Bool, true, false, not, _&&_, _||_, and-false, and-comm, and-self, true≢false, or-true}
+use mathlib.Core.Bool.{Bool, true, false, not, _&&_, _||_, and-false, and-comm, and-self, true≢false, or-true, cond}
 use mathlib.Core.Bool.{or-false, or-assoc}
-use mathlib.Core.List.{List, [], _∷_, _++_}
+use mathlib.Core.List.{List, [], _∷_, _++_, map}
 use mathlib.Core.Option.{Option, none, some}
 use Rattle.truth.proofs.Orders.{cmp-gt, cmp-refl}
 use Rattle.truth.specs.Order.{View, is-equal, is-greater, is-less, isEqual}
@@ -12,11 +12,11 @@ use Rattle.truth.specs.declared.scalar.Ordering.the-variants.{Equal, Greater, L
 use Rattle.constraints.proofs.Columns.{add-put, addAll-live}
 use Rattle.constraints.proofs.Merges.{or-no}
 use Rattle.constraints.proofs.Sets.{contains-extend, contains-insert, contains-retain}
-use Rattle.constraints.specs.Bound.{Bound, absent, at, tighten, tightenBy, tightens, tightensBy}
+use Rattle.constraints.specs.Bound.{Bound, absent, at, tighten, tightenBy, tightens, tightensBy, ofBound}
 use Rattle.constraints.specs.Column.{Allow, ColumnConstraints, Constraint, Disallow, Exclude, Lower, Require}
-use Rattle.constraints.specs.Column.{Upper, add, addAll, addBy, allowedChanges, allowedOf, changes, changesAll}
-use Rattle.constraints.specs.Column.{changesBy, common, emitted, excludedOf, lowerOf, mergeAny, mergeFrom, put}
-use Rattle.constraints.specs.Column.{recorded, upperOf}
+use Rattle.constraints.specs.Column.{Upper, add, addAll, allowedChanges, allowedOf, changes, changesAll}
+use Rattle.constraints.specs.Column.{common, emitted, mergeAny, mergeFrom, put}
+use Rattle.constraints.specs.Column.{recorded}
 use Rattle.constraints.specs.Scalars.{Scalars, opposite}
 use Rattle.constraints.specs.Values.{contains, subset}
 
@@ -188,7 +188,7 @@ module _ {K Val : Type 0} (S : Scalars K Val) where
       true
   add-keeps a f q h = go (q .unsat)
     where
-      go : (b : Bool) → has f (addBy S b a q) ≡ true
+      go : (b : Bool) → has f (cond b q (put S a q)) ≡ true
       go true = h
       go false = put-has a f q ∙ ap (λ b. b || gives a f) h
 
@@ -196,7 +196,7 @@ module _ {K Val : Type 0} (S : Scalars K Val) where
       has f (add S a q) ≡ false
   add-from a f q h g = go (q .unsat)
     where
-      go : (b : Bool) → has f (addBy S b a q) ≡ false
+      go : (b : Bool) → has f (cond b q (put S a q)) ≡ false
       go true = h
       go false = put-has a f q ∙ ap (λ b. b || gives a f) h ∙ g
 
@@ -262,7 +262,7 @@ module _ {K Val : Type 0} (S : Scalars K Val) where
   has-parts f-some q = sym (or-false _)
   has-parts (f-out k) q = sym (or-false _)
 
-  lows-give : (b : Bound Val) (f : Fact K Val) → givesAll (lowerOf b) f ≡ lowHas b f
+  lows-give : (b : Bound Val) (f : Fact K Val) → givesAll (ofBound Lower b) f ≡ lowHas b f
   lows-give absent (f-low c v) = refl
   lows-give absent (f-up c v) = refl
   lows-give absent (f-exc k) = refl
@@ -276,7 +276,7 @@ module _ {K Val : Type 0} (S : Scalars K Val) where
   lows-give (at d w) f-some = refl
   lows-give (at d w) (f-out k) = refl
 
-  ups-give : (b : Bound Val) (f : Fact K Val) → givesAll (upperOf b) f ≡ upHas b f
+  ups-give : (b : Bound Val) (f : Fact K Val) → givesAll (ofBound Upper b) f ≡ upHas b f
   ups-give absent (f-low c v) = refl
   ups-give absent (f-up c v) = refl
   ups-give absent (f-exc k) = refl
@@ -290,7 +290,7 @@ module _ {K Val : Type 0} (S : Scalars K Val) where
   ups-give (at d w) f-some = refl
   ups-give (at d w) (f-out k) = refl
 
-  excs-give : (l : List Val) (f : Fact K Val) → givesAll (excludedOf l) f ≡ excHas l f
+  excs-give : (l : List Val) (f : Fact K Val) → givesAll (map Exclude l) f ≡ excHas l f
   excs-give [] (f-low c v) = refl
   excs-give [] (f-up c v) = refl
   excs-give [] (f-exc k) = refl
@@ -326,8 +326,8 @@ module _ {K Val : Type 0} (S : Scalars K Val) where
   pub col-gives : (r : ColumnConstraints Val) (f : Fact K Val) → (givesAll (emitted r) f || givesAll (recorded r) f) ≡
       has f r
   col-gives r f = rw (
-    gives-app (lowerOf (r .lower)) (upperOf (r .upper) ++ excludedOf (r .excluded)) f,
-    gives-app (upperOf (r .upper)) (excludedOf (r .excluded)) f,
+    gives-app (ofBound Lower (r .lower)) (ofBound Upper (r .upper) ++ map Exclude (r .excluded)) f,
+    gives-app (ofBound Upper (r .upper)) (map Exclude (r .excluded)) f,
     lows-give (r .lower) f,
     ups-give (r .upper) f,
     excs-give (r .excluded) f,
@@ -429,17 +429,17 @@ module _ {K Val : Type 0} (S : Scalars K Val) where
   all-new : (l : List (Constraint Val)) (q : ColumnConstraints Val) → CarriedAll l → changesAll S l q ≡ true →
       Newly q (addAll S l q)
   all-new [] q k e = absurd (true≢false (sym e))
-  all-new (a ∷ l) q k e = go (changesBy S (q .unsat) a q) refl e (all-new l (add S a q) (k .1))
+  all-new (a ∷ l) q k e = go (not (q .unsat) && changes S a q) refl e (all-new l (add S a q) (k .1))
     where
-      here : (b : Bool) → q .unsat ≡ b → changesBy S b a q ≡ true → Newly q (addAll S (a ∷ l) q)
+      here : (b : Bool) → q .unsat ≡ b → (not b && changes S a q) ≡ true → Newly q (addAll S (a ∷ l) q)
       here true s c = absurd (true≢false (sym c))
       here false s c =
           let n = change-new a q (k .0) c in
-          let p : has (n .0) (add S a q) ≡ true = subst (λ b. has (n .0) (addBy S b a q) ≡ true) (sym s)
+          let p : has (n .0) (add S a q) ≡ true = subst (λ b. has (n .0) (cond b q (put S a q)) ≡ true) (sym s)
           (put-has a (n .0) q ∙ ap (λ b. has (n .0) q || b) (n .2) ∙ or-true (has (n .0) q)) in
           (n .0, n .1, all-keeps l (n .0) (add S a q) p)
 
-      go : (b : Bool) → changesBy S (q .unsat) a q ≡ b → (b || changesAll S l (add S a q)) ≡ true →
+      go : (b : Bool) → (not (q .unsat) && changes S a q) ≡ b → (b || changesAll S l (add S a q)) ≡ true →
           (changesAll S l (add S a q) ≡ true → Newly (add S a q) (addAll S l (add S a q))) →
           Newly q (addAll S (a ∷ l) q)
       go true c e ih = here (q .unsat) refl c
@@ -449,15 +449,15 @@ module _ {K Val : Type 0} (S : Scalars K Val) where
   carried-app [] m h k = k
   carried-app (a ∷ l) m h k = (h .0, carried-app l m (h .1) k)
 
-  lows-carried : (b : Bound Val) → CarriedAll (lowerOf b)
+  lows-carried : (b : Bound Val) → CarriedAll (ofBound Lower b)
   lows-carried absent = tt
   lows-carried (at c v) = (tt, tt)
 
-  ups-carried : (b : Bound Val) → CarriedAll (upperOf b)
+  ups-carried : (b : Bound Val) → CarriedAll (ofBound Upper b)
   ups-carried absent = tt
   ups-carried (at c v) = (tt, tt)
 
-  excs-carried : (l : List Val) → CarriedAll (excludedOf l)
+  excs-carried : (l : List Val) → CarriedAll (map Exclude l)
   excs-carried [] = tt
   excs-carried (v ∷ l) = (tt, excs-carried l)
 
@@ -466,8 +466,9 @@ module _ {K Val : Type 0} (S : Scalars K Val) where
   allows-carried (some l) = (tt, tt)
 
   outs-carried : (r : ColumnConstraints Val) → CarriedAll (emitted r)
-  outs-carried r = carried-app (lowerOf (r .lower)) (upperOf (r .upper) ++ excludedOf (r .excluded))
-      (lows-carried (r .lower)) (carried-app (upperOf (r .upper)) (excludedOf (r .excluded)) (ups-carried (r .upper))
+  outs-carried r = carried-app (ofBound Lower (r .lower)) (ofBound Upper (r .upper) ++ map Exclude (r .excluded))
+      (lows-carried (r .lower)) (carried-app (ofBound Upper (r .upper)) (map Exclude (r .excluded))
+      (ups-carried (r .upper))
       (excs-carried (r .excluded)))
 
   minds-carried : (r : ColumnConstraints Val) → CarriedAll (recorded r)

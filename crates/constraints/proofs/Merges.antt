@@ -1,7 +1,7 @@
 -- Merging one column's constraints into another's.
 use mathlib.Core.Path.{_≡_, refl, sym, _∙_, subst}
 use mathlib.Core.Bool.{Bool, true, false, not, _&&_, _||_, and-true, and-assoc, true≢false, or-false, and-eq-true-iff}
-use mathlib.Core.List.{List, [], _∷_, _++_}
+use mathlib.Core.List.{List, [], _∷_, _++_, map}
 use mathlib.Core.Option.{Option, none, some}
 use Rattle.truth.specs.Order.{isEqual}
 use Rattle.constraints.proofs.Bounds.{tighten-changes-nothing, tightensFrom}
@@ -10,11 +10,11 @@ use Rattle.constraints.proofs.Columns.{addAll-recorded, admits, admitsE
 use Rattle.constraints.proofs.Columns.{obeysAll, obeysEmitted, obeysEmittedAll, obeysRecorded}
 use Rattle.constraints.proofs.Columns.{obeysRecordedAll, swap-mid}
 use Rattle.constraints.proofs.Sets.{extend-subset, retain-subset}
-use Rattle.constraints.specs.Bound.{Bound, absent, at, clears}
+use Rattle.constraints.specs.Bound.{Bound, absent, at, clears, ofBound}
 use Rattle.constraints.specs.Column.{Allow, ColumnConstraints, Constraint, Disallow, Exclude, Lower, Require}
 use Rattle.constraints.specs.Column.{Upper, add, addAll, allowedChanges, allowedOf, changes, changesAll}
-use Rattle.constraints.specs.Column.{changesBy, common, emitted, excludedOf, lowerOf, mergeAny, mergeFrom, put}
-use Rattle.constraints.specs.Column.{recorded, upperOf}
+use Rattle.constraints.specs.Column.{common, emitted, mergeAny, mergeFrom, put}
+use Rattle.constraints.specs.Column.{recorded}
 use Rattle.constraints.specs.Resolve.{isAllowed}
 use Rattle.constraints.specs.Scalars.{Scalars, opposite}
 use Rattle.constraints.specs.Values.{contains, subset}
@@ -79,8 +79,8 @@ module _ {K Val : Type 0} (S : Scalars K Val) where
   addAll-changes-nothing (a ∷ l) q e f =
       let s : q .unsat ≡ false = add-live S a q (addAll-live S l (add S a q) f) in
       let t = add-put S a q (addAll-live S l (add S a q) f) in
-      let n = or-no (changesBy S (q .unsat) a q) (changesAll S l (add S a q)) e in
-      let c : changes S a q ≡ false = subst (λ b. changesBy S b a q ≡ false) s (n .0) in
+      let n = or-no (not (q .unsat) && changes S a q) (changesAll S l (add S a q)) e in
+      let c : changes S a q ≡ false = subst (λ b. (not b && changes S a q) ≡ false) s (n .0) in
       let p : add S a q ≡ q = t .0 ∙ put-changes-nothing a q s (t .1) c in
       let r = addAll-changes-nothing l (add S a q) (n .1) f in
       (r .0 ∙ p, (c, subst (Quiet l) p (r .1)))
@@ -100,16 +100,18 @@ module _ {K Val : Type 0} (S : Scalars K Val) where
   quiet-split [] m q h = (tt, h)
   quiet-split (a ∷ l) m q h = let r = quiet-split l m q (h .1) in ((h .0, r .0), r .1)
 
-  quiet-lo : (b : Bound Val) (q : ColumnConstraints Val) → Quiet (lowerOf b) q → tightensFrom S (q .lower) b ≡ false
+  quiet-lo : (b : Bound Val) (q : ColumnConstraints Val) → Quiet (ofBound Lower b) q → tightensFrom S (q .lower) b ≡
+      false
   quiet-lo absent q h = refl
   quiet-lo (at c v) q h = h .0
 
-  quiet-hi : (b : Bound Val) (q : ColumnConstraints Val) → Quiet (upperOf b) q → tightensFrom (opposite S) (q .upper)
+  quiet-hi : (b : Bound Val) (q : ColumnConstraints Val) → Quiet (ofBound Upper b) q →
+      tightensFrom (opposite S) (q .upper)
       b ≡ false
   quiet-hi absent q h = refl
   quiet-hi (at c v) q h = h .0
 
-  quiet-ex : (l : List Val) (q : ColumnConstraints Val) → Quiet (excludedOf l) q → subset S l (q .excluded) ≡ true
+  quiet-ex : (l : List Val) (q : ColumnConstraints Val) → Quiet (map Exclude l) q → subset S l (q .excluded) ≡ true
   quiet-ex [] q h = refl
   quiet-ex (v ∷ l) q h = rw (not-no (contains S (S .key v) (q .excluded)) (h .0)) (quiet-ex l q (h .1))
 
@@ -121,8 +123,8 @@ module _ {K Val : Type 0} (S : Scalars K Val) where
       let g = addAll-live S (recorded r) (addAll S (emitted r) q) f in
       let a = addAll-changes-nothing (emitted r) q (n .0) g in
       let b = addAll-changes-nothing (recorded r) (addAll S (emitted r) q) (n .1) f in
-      let o = quiet-split (lowerOf (r .lower)) (upperOf (r .upper) ++ excludedOf (r .excluded)) q (a .1) in
-      let u = quiet-split (upperOf (r .upper)) (excludedOf (r .excluded)) q (o .1) in
+      let o = quiet-split (ofBound Lower (r .lower)) (ofBound Upper (r .upper) ++ map Exclude (r .excluded)) q (a .1) in
+      let u = quiet-split (ofBound Upper (r .upper)) (map Exclude (r .excluded)) q (o .1) in
       let m = quiet-split (allowedOf (r .allowed)) (Disallow false (r .disallowed) ∷ []) q
       (subst (Quiet (recorded r)) (a .0) (b .1)) in (
         b .0 ∙ a .0,
@@ -155,44 +157,44 @@ module _ {K Val : Type 0} (S : Scalars K Val) where
   obeys-all (a ∷ l) x = rw (obeys-all l x)
       (swap-mid (obeysEmitted S a x) (obeysRecorded S a x) (obeysEmittedAll S l x) (obeysRecordedAll S l x))
 
-  lower-at : (b : Bound Val) (k : K) → obeysEmittedAll S (lowerOf b) (some k) ≡ clears S b k
+  lower-at : (b : Bound Val) (k : K) → obeysEmittedAll S (ofBound Lower b) (some k) ≡ clears S b k
   lower-at absent k = refl
   lower-at (at c v) k = and-true (clears S (at c v) k)
 
-  upper-at : (b : Bound Val) (k : K) → obeysEmittedAll S (upperOf b) (some k) ≡ clears (opposite S) b k
+  upper-at : (b : Bound Val) (k : K) → obeysEmittedAll S (ofBound Upper b) (some k) ≡ clears (opposite S) b k
   upper-at absent k = refl
   upper-at (at c v) k = and-true (clears (opposite S) (at c v) k)
 
-  excluded-at : (l : List Val) (k : K) → obeysEmittedAll S (excludedOf l) (some k) ≡ not (contains S k l)
+  excluded-at : (l : List Val) (k : K) → obeysEmittedAll S (map Exclude l) (some k) ≡ not (contains S k l)
   excluded-at [] k = refl
   excluded-at (v ∷ l) k = rw (excluded-at l k) (sym (not-or (isEqual (S .order .cmp k (S .key v))) (contains S k l)))
 
   pub emitted-at : (r : ColumnConstraints Val) (k : K) → obeysEmittedAll S (emitted r) (some k) ≡
       admitsEmitted S r (some k)
   emitted-at r k = rw (
-    emitted-append (lowerOf (r .lower)) (upperOf (r .upper) ++ excludedOf (r .excluded)) (some k),
-    emitted-append (upperOf (r .upper)) (excludedOf (r .excluded)) (some k),
+    emitted-append (ofBound Lower (r .lower)) (ofBound Upper (r .upper) ++ map Exclude (r .excluded)) (some k),
+    emitted-append (ofBound Upper (r .upper)) (map Exclude (r .excluded)) (some k),
     lower-at (r .lower) k,
     upper-at (r .upper) k,
     excluded-at (r .excluded) k,
   )
 
-  lower-recorded : (b : Bound Val) (x : Option K) → obeysRecordedAll S (lowerOf b) x ≡ true
+  lower-recorded : (b : Bound Val) (x : Option K) → obeysRecordedAll S (ofBound Lower b) x ≡ true
   lower-recorded absent x = refl
   lower-recorded (at c v) x = refl
 
-  upper-recorded : (b : Bound Val) (x : Option K) → obeysRecordedAll S (upperOf b) x ≡ true
+  upper-recorded : (b : Bound Val) (x : Option K) → obeysRecordedAll S (ofBound Upper b) x ≡ true
   upper-recorded absent x = refl
   upper-recorded (at c v) x = refl
 
-  excluded-recorded : (l : List Val) (x : Option K) → obeysRecordedAll S (excludedOf l) x ≡ true
+  excluded-recorded : (l : List Val) (x : Option K) → obeysRecordedAll S (map Exclude l) x ≡ true
   excluded-recorded [] x = refl
   excluded-recorded (v ∷ l) x = excluded-recorded l x
 
   emitted-recorded : (r : ColumnConstraints Val) (x : Option K) → obeysRecordedAll S (emitted r) x ≡ true
   emitted-recorded r x = rw (
-    recorded-append (lowerOf (r .lower)) (upperOf (r .upper) ++ excludedOf (r .excluded)) x,
-    recorded-append (upperOf (r .upper)) (excludedOf (r .excluded)) x,
+    recorded-append (ofBound Lower (r .lower)) (ofBound Upper (r .upper) ++ map Exclude (r .excluded)) x,
+    recorded-append (ofBound Upper (r .upper)) (map Exclude (r .excluded)) x,
     lower-recorded (r .lower) x,
     upper-recorded (r .upper) x,
     excluded-recorded (r .excluded) x,

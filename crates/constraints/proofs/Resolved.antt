@@ -1,7 +1,7 @@
 -- A resolved column: what is written out, and what is left of it.
 use mathlib.Core.Path.{_≡_, refl, sym, _∙_, ap, subst}
-use mathlib.Core.Bool.{Bool, true, false, not, _&&_, _||_, and-true, and-assoc, true≢false}
-use mathlib.Core.List.{List, [], _∷_, _++_}
+use mathlib.Core.Bool.{Bool, true, false, not, _&&_, _||_, and-true, and-assoc, true≢false, cond}
+use mathlib.Core.List.{List, [], _∷_, _++_, map}
 use mathlib.Core.Option.{Option, none, some, Option·none-ne-some, Option·some-injective}
 use Rattle.truth.proofs.Orders.{cmp-eq, cmp-gt, cmp-lt}
 use Rattle.truth.specs.Order.{View, above, is-equal, is-greater, is-less, isEqual}
@@ -9,16 +9,15 @@ use Rattle.truth.specs.declared.scalar.Ordering.{Ordering}
 use Rattle.truth.specs.declared.scalar.Ordering.the-variants.{Equal}
 use Rattle.constraints.proofs.Columns.{admitsEmitted, not-or}
 use Rattle.constraints.proofs.Merges.{or-no}
-use Rattle.constraints.proofs.Resolves.{fixed-lower, withExcluded-ranged, within}
-use Rattle.constraints.specs.Bound.{Bound, absent, at, clears, crosses, isAbsent}
+use Rattle.constraints.proofs.Resolves.{fixed-lower, withExcluded-ranged, within, resolveIf, rangeOf}
+use Rattle.constraints.specs.Bound.{Bound, absent, at, clears, crosses, isAbsent, ofBound}
 use Rattle.constraints.specs.Column.{Allow, ColumnConstraints, Constraint, Disallow, Exclude, Lower, Require}
-use Rattle.constraints.specs.Column.{Upper, add, addAll, addBy, put}
+use Rattle.constraints.specs.Column.{Upper, add, addAll, put}
 use Rattle.constraints.specs.Comparisons.{ColumnComparison, IsEq, IsLower, IsNotEq, IsUpper, collectBy}
-use Rattle.constraints.specs.Comparisons.{collectColumnComparisons, excludedComparisons, lowerComparison}
-use Rattle.constraints.specs.Comparisons.{upperComparison}
+use Rattle.constraints.specs.Comparisons.{collectColumnComparisons}
 use Rattle.constraints.specs.Resolve.{Range, allowedFeasible, classifyAt, classifyBy, classifyUpper, fixedAt}
-use Rattle.constraints.specs.Resolve.{fixedBy, fixedDisallowed, nullConflict, openAt, rangeOf, resolveBy}
-use Rattle.constraints.specs.Resolve.{resolveDeferred, resolveExcluded, resolveIf, withExcluded}
+use Rattle.constraints.specs.Resolve.{fixedDisallowed, nullConflict, openAt, resolveBy}
+use Rattle.constraints.specs.Resolve.{resolveDeferred, resolveExcluded, withExcluded}
 use Rattle.constraints.specs.Scalars.{Scalars, opposite}
 use Rattle.constraints.specs.Values.{contains, isEmpty}
 use Rattle.constraints.specs.declared.column.ExcludedResolution.{ExcludedResolution}
@@ -65,7 +64,8 @@ module _ {K Val : Type 0} (S : Scalars K Val) where
     where
       go : {o p : Ordering} → View (S .order .less) (S .key w) (S .key z) o →
           View (S .order .less) (S .key e) (S .key w) p →
-          isKeep (classifyBy p true TightenLower (classifyUpper S (at true z) e)) ≡ true → fixedBy o w ≡ none
+          isKeep (classifyBy p true TightenLower (classifyUpper S (at true z) e)) ≡ true →
+          cond (isEqual o) (some w) none ≡ none
       go (is-less a) b h = refl
       go (is-greater a) b h = refl
       go (is-equal a) (is-less b) h = absurd (true≢false (sym h))
@@ -124,7 +124,7 @@ module _ {K Val : Type 0} (S : Scalars K Val) where
   pub add-consistent : (a : Constraint Val) (q : ColumnConstraints Val) → Consistent q → Consistent (add S a q)
   add-consistent a q h = go (q .unsat) refl
     where
-      go : (b : Bool) → q .unsat ≡ b → Consistent (addBy S b a q)
+      go : (b : Bool) → q .unsat ≡ b → Consistent (cond b q (put S a q))
       go true e = h
       go false e = put-consistent a q e h
 
@@ -165,11 +165,12 @@ module _ {K Val : Type 0} (S : Scalars K Val) where
   fixed-clears (at true w) (at true z) v e k = go (S .order .view (S .key w) (S .key z)) (S .order .view (S .key w) k)
       e
     where
-      same : fixedBy Equal w ≡ some v → isEqual (S .order .cmp k (S .key v)) ≡ isEqual (S .order .cmp k (S .key w))
+      same : (cond (isEqual Equal) (some w) none) ≡ some v → isEqual (S .order .cmp k (S .key v)) ≡
+          isEqual (S .order .cmp k (S .key w))
       same e = ap (λ y. isEqual (S .order .cmp k (S .key y))) (sym (Option·some-injective w v e))
 
       go : {o p : Ordering} → View (S .order .less) (S .key w) (S .key z) o → View (S .order .less) (S .key w) k p →
-          fixedBy o w ≡ some v → isEqual (S .order .cmp k (S .key v)) ≡
+          cond (isEqual o) (some w) none ≡ some v → isEqual (S .order .cmp k (S .key v)) ≡
           (above true p && above true (S .order .cmp k (S .key z)))
       go (is-less a) b e = absurd (Option·none-ne-some v e)
       go (is-greater a) b e = absurd (Option·none-ne-some v e)
@@ -200,36 +201,36 @@ module _ {K Val : Type 0} (S : Scalars K Val) where
       (sym (and-assoc (comparisonTrue c x) (comparisonsTrue l x) (comparisonsTrue m x)))
 
   parts-ok : (q : ColumnConstraints Val) (x : Option K) → comparisonsTrue (collectBy none q) x ≡ admitsEmitted S q x
-  parts-ok q x = ok-app (lowerComparison (q .lower)) (upperComparison (q .upper) ++ excludedComparisons (q .excluded))
-      x ∙ ap (λ b. comparisonsTrue (lowerComparison (q .lower)) x && b)
-      (ok-app (upperComparison (q .upper)) (excludedComparisons (q .excluded)) x) ∙ fin x
+  parts-ok q x = ok-app (ofBound IsLower (q .lower)) (ofBound IsUpper (q .upper) ++ map IsNotEq (q .excluded))
+      x ∙ ap (λ b. comparisonsTrue (ofBound IsLower (q .lower)) x && b)
+      (ok-app (ofBound IsUpper (q .upper)) (map IsNotEq (q .excluded)) x) ∙ fin x
     where
-      lowN : (b : Bound Val) → comparisonsTrue (lowerComparison b) none ≡ isAbsent b
+      lowN : (b : Bound Val) → comparisonsTrue (ofBound IsLower b) none ≡ isAbsent b
       lowN absent = refl
       lowN (at c v) = refl
 
-      upN : (b : Bound Val) → comparisonsTrue (upperComparison b) none ≡ isAbsent b
+      upN : (b : Bound Val) → comparisonsTrue (ofBound IsUpper b) none ≡ isAbsent b
       upN absent = refl
       upN (at c v) = refl
 
-      neN : (l : List Val) → comparisonsTrue (excludedComparisons l) none ≡ isEmpty l
+      neN : (l : List Val) → comparisonsTrue (map IsNotEq l) none ≡ isEmpty l
       neN [] = refl
       neN (v ∷ l) = refl
 
-      lowS : (b : Bound Val) (k : K) → comparisonsTrue (lowerComparison b) (some k) ≡ clears S b k
+      lowS : (b : Bound Val) (k : K) → comparisonsTrue (ofBound IsLower b) (some k) ≡ clears S b k
       lowS absent k = refl
       lowS (at c v) k = and-true (clears S (at c v) k)
 
-      upS : (b : Bound Val) (k : K) → comparisonsTrue (upperComparison b) (some k) ≡ clears (opposite S) b k
+      upS : (b : Bound Val) (k : K) → comparisonsTrue (ofBound IsUpper b) (some k) ≡ clears (opposite S) b k
       upS absent k = refl
       upS (at c v) k = and-true (clears (opposite S) (at c v) k)
 
-      neS : (l : List Val) (k : K) → comparisonsTrue (excludedComparisons l) (some k) ≡ not (contains S k l)
+      neS : (l : List Val) (k : K) → comparisonsTrue (map IsNotEq l) (some k) ≡ not (contains S k l)
       neS [] k = refl
       neS (v ∷ l) k = rw (neS l k) (sym (not-or (isEqual (S .order .cmp k (S .key v))) (contains S k l)))
 
-      fin : (x : Option K) → (comparisonsTrue (lowerComparison (q .lower)) x &&
-          (comparisonsTrue (upperComparison (q .upper)) x && comparisonsTrue (excludedComparisons (q .excluded)) x)) ≡
+      fin : (x : Option K) → (comparisonsTrue (ofBound IsLower (q .lower)) x &&
+          (comparisonsTrue (ofBound IsUpper (q .upper)) x && comparisonsTrue (map IsNotEq (q .excluded)) x)) ≡
           admitsEmitted S q x
       fin none = rw (lowN (q .lower), upN (q .upper), neN (q .excluded))
       fin (some k) = rw (lowS (q .lower) k, upS (q .upper) k, neS (q .excluded) k)

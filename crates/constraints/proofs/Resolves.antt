@@ -1,6 +1,6 @@
 -- Resolving excluded values, allowed lists and disallowed values against the final bounds.
 use mathlib.Core.Path.{_≡_, refl, sym, _∙_, ap, subst}
-use mathlib.Core.Bool.{Bool, true, false, not, _&&_, _||_, and-true, and-false, and-assoc, true≢false}
+use mathlib.Core.Bool.{Bool, true, false, not, _&&_, _||_, and-true, and-false, and-assoc, true≢false, cond}
 use mathlib.Core.List.{List, [], _∷_}
 use mathlib.Core.Option.{Option, none, some, Option·none-ne-some, Option·some-injective}
 use mathlib.Core.Logic.{_⊎_, inl, inr}
@@ -14,11 +14,11 @@ use Rattle.constraints.proofs.Columns.{insert-full, not-or, nullFits, v
 use Rattle.constraints.proofs.Merges.{or-no}
 use Rattle.constraints.proofs.Sets.{contains-insert}
 use Rattle.constraints.specs.Bound.{Bound, absent, at, clears, crosses, isAbsent}
-use Rattle.constraints.specs.Column.{ColumnConstraints, isNone}
+use Rattle.constraints.specs.Column.{ColumnConstraints, isNone, isNullRequired}
 use Rattle.constraints.specs.Resolve.{Range, allowedFeasible, anyFeasible, classifyAt, classifyBy}
-use Rattle.constraints.specs.Resolve.{classifyUpper, fixedAt, fixedBy, fixedDisallowed, isAllowed, isFeasible}
-use Rattle.constraints.specs.Resolve.{isNullRequired, nullConflict, openAt, rangeOf, resolveBy, resolveDeferred}
-use Rattle.constraints.specs.Resolve.{resolveExcluded, resolveIf, withExcluded, withLists}
+use Rattle.constraints.specs.Resolve.{classifyUpper, fixedAt, fixedDisallowed, isAllowed, isFeasible}
+use Rattle.constraints.specs.Resolve.{nullConflict, openAt, resolveBy, resolveDeferred}
+use Rattle.constraints.specs.Resolve.{resolveExcluded, withExcluded, withLists}
 use Rattle.constraints.specs.Scalars.{Scalars, opposite}
 use Rattle.constraints.specs.Values.{contains, insert, isEmpty}
 use Rattle.constraints.specs.declared.column.ExcludedResolution.{ExcludedResolution}
@@ -26,6 +26,15 @@ use Rattle.constraints.specs.declared.column.ExcludedResolution.the-vari
 use Rattle.constraints.specs.declared.column.ExcludedResolution.the-variants.{TightenUpper}
 use Rattle.constraints.specs.declared.column.Nullability.{Nullability}
 use Rattle.constraints.specs.declared.column.Nullability.the-variants.{NonNull, Null, Unconstrained}
+
+-- The range of a column before its excluded values are gone through.
+abbrev pub rangeOf : {Val : Type 0} → ColumnConstraints Val → Range Val
+rangeOf q = record { lower = q .lower; upper = q .upper; kept = []; crossed = false }
+
+module _ {K Val : Type 0} (S : Scalars K Val) where
+  -- One excluded value, by whether the range is empty already.
+  abbrev pub resolveIf : Bool → Val → Range Val → Range Val
+  resolveIf b e r = cond b r (resolveBy S (classifyAt S (r .lower) (r .upper) e) e r)
 
 module _ {K Val : Type 0} (S : Scalars K Val) where
   pub openAt-present : (b : Bound Val) (e : Val) → isAbsent (openAt S b e) ≡ false
@@ -309,7 +318,8 @@ module _ {K Val : Type 0} (S : Scalars K Val) where
   fixed-at (at true w) (at true z) v e k = go (S .order .view (S .key w) (S .key z)) (S .order .view (S .key w) k) e
     where
       go : {o p : Ordering} → View (S .order .less) (S .key w) (S .key z) o → View (S .order .less) (S .key w) k p →
-          fixedBy o w ≡ some v → ((above true p && above true (S .order .cmp k (S .key z))) ≡ false) ⊎ (k ≡ S .key v)
+          cond (isEqual o) (some w) none ≡ some v → ((above true p && above true (S .order .cmp k (S .key z))) ≡
+          false) ⊎ (k ≡ S .key v)
       go (is-less a) b e = absurd (Option·none-ne-some v e)
       go (is-greater a) b e = absurd (Option·none-ne-some v e)
       go (is-equal a) (is-less b) e = inl (rw (cmp-gt (S .order) (subst (λ y. S .order .less y k) a b)))

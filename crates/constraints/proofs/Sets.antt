@@ -1,11 +1,11 @@
 -- Lists of values that stand for sets of keys.
 use mathlib.Core.Path.{_≡_, refl, sym, _∙_, subst}
-use mathlib.Core.Bool.{Bool, true, false, _&&_, _||_, and-false, true≢false, or-false, or-assoc, and-eq-true-iff}
+use mathlib.Core.Bool.{Bool, true, false, _&&_, _||_, and-false, true≢false, or-false, or-assoc, and-eq-true-iff, cond}
 use mathlib.Core.List.{List, [], _∷_, _++_}
 use Rattle.truth.specs.Order.{View, is-equal, is-greater, is-less, isEqual}
 use Rattle.truth.specs.declared.scalar.Ordering.{Ordering}
 use Rattle.constraints.specs.Scalars.{Scalars}
-use Rattle.constraints.specs.Values.{contains, extend, insert, insertBy, retain, retainBy, subset}
+use Rattle.constraints.specs.Values.{contains, extend, insert, retain, subset}
 
 module _ {K Val : Type 0} (S : Scalars K Val) where
   pub isEqual-subst : {a b : K} (P : K → Type 0) → isEqual (S .order .cmp a b) ≡ true → P a → P b
@@ -35,7 +35,7 @@ module _ {K Val : Type 0} (S : Scalars K Val) where
       (contains S k l || isEqual (S .order .cmp k (S .key v)))
   contains-insert k v l = go (contains S (S .key v) l) refl
     where
-      go : (b : Bool) → contains S (S .key v) l ≡ b → contains S k (insertBy b v l) ≡
+      go : (b : Bool) → contains S (S .key v) l ≡ b → contains S k (cond b l (l ++ (v ∷ []))) ≡
           (contains S k l || isEqual (S .order .cmp k (S .key v)))
       go true h = sym (contains-at k (S .key v) l h)
       go false h = simp (contains-append, or-false)
@@ -61,7 +61,7 @@ module _ {K Val : Type 0} (S : Scalars K Val) where
       out e (is-greater p) = refl
 
       go : (b : Bool) → contains S (S .key v) m ≡ b → contains S k (retain S m l) ≡
-          (contains S k l && contains S k m) → contains S k (retainBy b v (retain S m l)) ≡
+          (contains S k l && contains S k m) → contains S k (cond b (v ∷ (retain S m l)) (retain S m l)) ≡
           ((isEqual (S .order .cmp k (S .key v)) || contains S k l) && contains S k m)
       go true e ih = rw ih (inn e (S .order .view k (S .key v)))
       go false e ih = ih ∙ out e (S .order .view k (S .key v))

@@ -1,6 +1,7 @@
 -- One side of a column's range: `tighten` and `check_bound_consistency`. Stated for lower bounds; an upper bound is a
 -- lower bound of the opposite order.
 use mathlib.Core.Bool.{Bool, true, false, not, _&&_}
+use mathlib.Core.List.{List, [], _∷_}
 use Rattle.truth.specs.Order.{above}
 use Rattle.truth.specs.declared.scalar.Ordering.{Ordering}
 use Rattle.truth.specs.declared.scalar.Ordering.the-variants.{Less, Equal, Greater}
@@ -14,6 +15,11 @@ pub data Bound (Val : Type 0) : Type 0 where
 abbrev pub isAbsent : {Val : Type 0} → Bound Val → Bool
 isAbsent absent = true
 isAbsent (at inclusive v) = false
+
+-- What is said of a bound, if there is one.
+abbrev pub ofBound : {A Val : Type 0} → (Bool → Val → A) → Bound Val → List A
+ofBound says absent = []
+ofBound says (at inclusive v) = says inclusive v ∷ []
 
 -- By how the new value compares with the held one: a tighter value replaces; an equal one leaves the held value,
 -- inclusive only if both are; else nothing changes.

@@ -1,13 +1,13 @@
 -- `ColumnConstraints`: what an And chain says of one column, with the methods of the Rust. Each method is one
 -- `Constraint` taken in; an impossible column takes nothing more, which stands once, in `add`. `strict` is the
 -- documented difference: only a negated is_in without nulls_equal counts as a value constraint.
-use mathlib.Core.Bool.{Bool, true, false, not, _&&_, _||_}
-use mathlib.Core.List.{List, [], _∷_, _++_}
+use mathlib.Core.Bool.{Bool, true, false, not, _&&_, _||_, cond}
+use mathlib.Core.List.{List, [], _∷_, _++_, map}
 use mathlib.Core.Option.{Option, none, some}
 use Rattle.constraints.specs.declared.column.Nullability.{Nullability}
 use Rattle.constraints.specs.declared.column.Nullability.the-variants.{Unconstrained, Null, NonNull}
 use Rattle.constraints.specs.Scalars.{Scalars, opposite}
-use Rattle.constraints.specs.Bound.{Bound, absent, at, isAbsent, tighten, tightens, crosses}
+use Rattle.constraints.specs.Bound.{Bound, absent, ofBound, tighten, tightens, crosses}
 use Rattle.constraints.specs.Values.{isEmpty, contains, insert, extend, retain, subset}
 
 pub record ColumnConstraints (Val : Type 0) : Type 0 where
@@ -40,63 +40,26 @@ abbrev pub isNone : {A : Type 0} → Option A → Bool
 isNone none = true
 isNone (some a) = false
 
--- The column of which nothing is known.
-abbrev pub empty : {Val : Type 0} → ColumnConstraints Val
-empty =
-    record {
-      lower = absent;
-      upper = absent;
-      excluded = [];
-      allowed = none;
-      disallowed = [];
-      strict = false;
-      nullability = Unconstrained;
-      unsat = false;
-    }
-
--- ---- A column with one thing set anew.
+-- A column of these parts, in the record's order.
 abbrev pub column :
     {Val : Type 0} → Bound Val → Bound Val → List Val → Option (List Val) → List Val → Bool → Nullability → Bool →
     ColumnConstraints Val
-column lower upper excluded allowed disallowed strict nullability unsat =
-    record {
-      lower = lower;
-      upper = upper;
-      excluded = excluded;
-      allowed = allowed;
-      disallowed = disallowed;
-      strict = strict;
-      nullability = nullability;
-      unsat = unsat;
-    }
+column l u e a d s n x =
+    record { lower = l; upper = u; excluded = e; allowed = a; disallowed = d; strict = s; nullability = n; unsat = x }
 
+-- The column of which nothing is known.
+abbrev pub empty : {Val : Type 0} → ColumnConstraints Val
+empty = column absent absent [] none [] false Unconstrained false
+
+-- ---- A column with one thing set anew.
 abbrev pub setLower : {Val : Type 0} → Bound Val → ColumnConstraints Val → ColumnConstraints Val
-setLower b cc =
-    column b (cc .upper) (cc .excluded) (cc .allowed) (cc .disallowed) (cc .strict) (cc .nullability) (cc .unsat)
+setLower b cc = column b cc.upper cc.excluded cc.allowed cc.disallowed cc.strict cc.nullability cc.unsat
 
 abbrev pub setUpper : {Val : Type 0} → Bound Val → ColumnConstraints Val → ColumnConstraints Val
-setUpper b cc =
-    column (cc .lower) b (cc .excluded) (cc .allowed) (cc .disallowed) (cc .strict) (cc .nullability) (cc .unsat)
-
-abbrev pub setExcluded : {Val : Type 0} → List Val → ColumnConstraints Val → ColumnConstraints Val
-setExcluded l cc =
-    column (cc .lower) (cc .upper) l (cc .allowed) (cc .disallowed) (cc .strict) (cc .nullability) (cc .unsat)
-
-abbrev pub setAllowed : {Val : Type 0} → List Val → ColumnConstraints Val → ColumnConstraints Val
-setAllowed l cc =
-    column (cc .lower) (cc .upper) (cc .excluded) (some l) (cc .disallowed) (cc .strict) (cc .nullability) (cc .unsat)
-
-abbrev pub setDisallowed : {Val : Type 0} → List Val → Bool → ColumnConstraints Val → ColumnConstraints Val
-setDisallowed l strict cc =
-    column (cc .lower) (cc .upper) (cc .excluded) (cc .allowed) l strict (cc .nullability) (cc .unsat)
-
-abbrev pub setNullability : {Val : Type 0} → Nullability → ColumnConstraints Val → ColumnConstraints Val
-setNullability n cc =
-    column (cc .lower) (cc .upper) (cc .excluded) (cc .allowed) (cc .disallowed) (cc .strict) n (cc .unsat)
+setUpper b cc = column cc.lower b cc.excluded cc.allowed cc.disallowed cc.strict cc.nullability cc.unsat
 
 abbrev pub setUnsat : {Val : Type 0} → Bool → ColumnConstraints Val → ColumnConstraints Val
-setUnsat b cc =
-    column (cc .lower) (cc .upper) (cc .excluded) (cc .allowed) (cc .disallowed) (cc .strict) (cc .nullability) b
+setUnsat b cc = column cc.lower cc.upper cc.excluded cc.allowed cc.disallowed cc.strict cc.nullability b
 
 -- Of two null requirements the first is kept.
 abbrev pub firstRequired : Nullability → Nullability → Nullability
@@ -104,15 +67,19 @@ firstRequired Unconstrained n = n
 firstRequired Null n = Null
 firstRequired NonNull n = NonNull
 
+-- Whether is_null is required.
+abbrev pub isNullRequired : Nullability → Bool
+isNullRequired Unconstrained = false
+isNullRequired Null = true
+isNullRequired NonNull = false
+
 -- Whether they are opposite.
 abbrev pub opposed : Nullability → Nullability → Bool
 opposed Unconstrained n = false
 opposed Null Unconstrained = false
 opposed Null Null = false
 opposed Null NonNull = true
-opposed NonNull Unconstrained = false
-opposed NonNull Null = true
-opposed NonNull NonNull = false
+opposed NonNull n = isNullRequired n
 
 module _ {K Val : Type 0} (S : Scalars K Val) where
   -- A second allowed list keeps the common values.
@@ -128,20 +95,21 @@ module _ {K Val : Type 0} (S : Scalars K Val) where
   abbrev pub put : Constraint Val → ColumnConstraints Val → ColumnConstraints Val
   put (Lower inclusive v) cc = checkBoundConsistency (setLower (tighten S (cc .lower) inclusive v) cc)
   put (Upper inclusive v) cc = checkBoundConsistency (setUpper (tighten (opposite S) (cc .upper) inclusive v) cc)
-  put (Exclude v) cc = setExcluded (insert S v (cc .excluded)) cc
-  put (Allow values) cc = setAllowed (common (cc .allowed) values) cc
+  put (Exclude v) cc =
+      column cc.lower cc.upper (insert S v cc.excluded) cc.allowed cc.disallowed cc.strict cc.nullability cc.unsat
+  put (Allow values) cc =
+      column cc.lower cc.upper cc.excluded (some (common cc.allowed values))
+      cc.disallowed cc.strict cc.nullability cc.unsat
   put (Disallow counts values) cc =
-      setDisallowed (extend S (cc .disallowed) values) (cc .strict || counts && not (isEmpty values)) cc
+      column cc.lower cc.upper cc.excluded cc.allowed (extend S cc.disallowed values)
+      (cc.strict || counts && not (isEmpty values)) cc.nullability cc.unsat
   put (Require required) cc =
-      setUnsat (opposed (cc .nullability) required) (setNullability (firstRequired (cc .nullability) required) cc)
-
-  abbrev pub addBy : Bool → Constraint Val → ColumnConstraints Val → ColumnConstraints Val
-  addBy true c cc = cc
-  addBy false c cc = put c cc
+      column cc.lower cc.upper cc.excluded cc.allowed cc.disallowed cc.strict (firstRequired cc.nullability required)
+      (opposed cc.nullability required)
 
   -- An impossible column takes nothing more.
   abbrev pub add : Constraint Val → ColumnConstraints Val → ColumnConstraints Val
-  add c cc = addBy (cc .unsat) c cc
+  add c cc = cond (cc .unsat) cc (put c cc)
 
   -- The methods, by the Rust's names.
   abbrev pub addLower : Val → Bool → ColumnConstraints Val → ColumnConstraints Val
@@ -181,35 +149,19 @@ module _ {K Val : Type 0} (S : Scalars K Val) where
   changes (Disallow false values) cc = not (subset S values (cc .disallowed))
   changes (Require required) cc = true
 
-  abbrev pub changesBy : Bool → Constraint Val → ColumnConstraints Val → Bool
-  changesBy true c cc = false
-  changesBy false c cc = changes c cc
-
   abbrev pub changesAll : List (Constraint Val) → ColumnConstraints Val → Bool
   changesAll [] cc = false
-  changesAll (c ∷ l) cc = changesBy (cc .unsat) c cc || changesAll l (add c cc)
+  changesAll (c ∷ l) cc = (not (cc .unsat) && changes c cc) || changesAll l (add c cc)
 
 -- ---- `merge_from`: one column's constraints as a list, in the Rust's order: lower, upper, excluded, allowed,
 -- disallowed.
-abbrev pub lowerOf : {Val : Type 0} → Bound Val → List (Constraint Val)
-lowerOf absent = []
-lowerOf (at inclusive v) = Lower inclusive v ∷ []
-
-abbrev pub upperOf : {Val : Type 0} → Bound Val → List (Constraint Val)
-upperOf absent = []
-upperOf (at inclusive v) = Upper inclusive v ∷ []
-
-abbrev pub excludedOf : {Val : Type 0} → List Val → List (Constraint Val)
-excludedOf [] = []
-excludedOf (v ∷ l) = Exclude v ∷ excludedOf l
-
 abbrev pub allowedOf : {Val : Type 0} → Option (List Val) → List (Constraint Val)
 allowedOf none = []
 allowedOf (some values) = Allow values ∷ []
 
 -- Those that are written out again: bounds and excluded values.
 abbrev pub emitted : {Val : Type 0} → ColumnConstraints Val → List (Constraint Val)
-emitted cc = lowerOf (cc .lower) ++ (upperOf (cc .upper) ++ excludedOf (cc .excluded))
+emitted cc = ofBound Lower (cc .lower) ++ (ofBound Upper (cc .upper) ++ map Exclude (cc .excluded))
 
 -- Those that only detect contradictions. The columns of an equality are not null, so what is merged need not count.
 abbrev pub recorded : {Val : Type 0} → ColumnConstraints Val → List (Constraint Val)

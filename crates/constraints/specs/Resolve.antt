@@ -1,44 +1,33 @@
 -- `resolve_deferred` and what it calls: the excluded values, allowed lists and disallowed values against the final
 -- bounds.
-use mathlib.Core.Bool.{Bool, true, false, not, _&&_, _||_}
+use mathlib.Core.Bool.{Bool, true, false, not, _&&_, _||_, cond}
 use mathlib.Core.List.{List, [], _∷_}
 use mathlib.Core.Option.{Option, none, some}
+use Rattle.truth.specs.Order.{isEqual}
 use Rattle.truth.specs.declared.scalar.Ordering.{Ordering}
 use Rattle.truth.specs.declared.scalar.Ordering.the-variants.{Less, Equal, Greater}
-use Rattle.constraints.specs.declared.column.Nullability.{Nullability}
-use Rattle.constraints.specs.declared.column.Nullability.the-variants.{Unconstrained, Null, NonNull}
 use Rattle.constraints.specs.declared.column.ExcludedResolution.{ExcludedResolution}
 use Rattle.constraints.specs.declared.column.ExcludedResolution.the-variants.{Drop, Keep, TightenLower}
 use Rattle.constraints.specs.declared.column.ExcludedResolution.the-variants.{TightenUpper}
 use Rattle.constraints.specs.Scalars.{Scalars, opposite, scalarCmp}
 use Rattle.constraints.specs.Bound.{Bound, absent, at, isAbsent, crosses, clears}
 use Rattle.constraints.specs.Values.{isEmpty, contains, insert}
-use Rattle.constraints.specs.Column.{ColumnConstraints, isNone, setLower, setUpper, setExcluded, setUnsat}
+use Rattle.constraints.specs.Column.{ColumnConstraints, isNone, column, setUnsat, isNullRequired}
 
 -- ---- `has_value_constraint`, against is_null.
-abbrev pub isNullRequired : Nullability → Bool
-isNullRequired Unconstrained = false
-isNullRequired Null = true
-isNullRequired NonNull = false
-
 -- A bound, an excluded value, an allowed list or a strict negated is_in: each lets no null through.
 abbrev pub hasValueConstraint : {Val : Type 0} → ColumnConstraints Val → Bool
 hasValueConstraint cc =
-    not ((isAbsent (cc .lower) && (isAbsent (cc .upper) && isEmpty (cc .excluded)))
-    && (isNone (cc .allowed) && not (cc .strict)))
+    not ((isAbsent cc.lower && (isAbsent cc.upper && isEmpty cc.excluded)) && (isNone cc.allowed && not cc.strict))
 
 abbrev pub nullConflict : {Val : Type 0} → ColumnConstraints Val → Bool
 nullConflict cc = isNullRequired (cc .nullability) && hasValueConstraint cc
 
 -- ---- `classify_excluded`.
-abbrev pub tightenIf : Bool → ExcludedResolution → ExcludedResolution
-tightenIf true r = r
-tightenIf false r = Drop
-
 -- Outside the bound it drops; on it, it opens a closed end; else the answer is `inside`.
 abbrev pub classifyBy : Ordering → Bool → ExcludedResolution → ExcludedResolution → ExcludedResolution
 classifyBy Less inclusive onEnd inside = Drop
-classifyBy Equal inclusive onEnd inside = tightenIf inclusive onEnd
+classifyBy Equal inclusive onEnd inside = cond inclusive onEnd Drop
 classifyBy Greater inclusive onEnd inside = inside
 
 -- The range while the excluded values are gone through: its bounds, the values kept so far, and whether it became
@@ -48,15 +37,6 @@ pub record Range (Val : Type 0) : Type 0 where
   pub upper : Bound Val
   pub kept : List Val
   pub crossed : Bool
-
-abbrev pub rangeOf : {Val : Type 0} → ColumnConstraints Val → Range Val
-rangeOf cc = record { lower = cc .lower; upper = cc .upper; kept = []; crossed = false }
-
--- ---- `fixed_value`: the one value of a closed range that is a point.
-abbrev pub fixedBy : {Val : Type 0} → Ordering → Val → Option Val
-fixedBy Less v = none
-fixedBy Equal v = some v
-fixedBy Greater v = none
 
 module _ {K Val : Type 0} (S : Scalars K Val) where
   abbrev pub classifyUpper : Bound Val → Val → ExcludedResolution
@@ -86,22 +66,18 @@ module _ {K Val : Type 0} (S : Scalars K Val) where
   resolveBy TightenLower v r = rangeWith (openAt (r .lower) v) (r .upper) (r .kept)
   resolveBy TightenUpper v r = rangeWith (r .lower) (openAt (r .upper) v) (r .kept)
 
-  abbrev pub resolveIf : Bool → Val → Range Val → Range Val
-  resolveIf true v r = r
-  resolveIf false v r = resolveBy (classifyAt (r .lower) (r .upper) v) v r
-
   -- The excluded values in order of insertion, up to the one that leaves the range empty.
   abbrev pub resolveExcluded : List Val → Range Val → Range Val
   resolveExcluded [] r = r
-  resolveExcluded (v ∷ l) r = resolveExcluded l (resolveIf (r .crossed) v r)
+  resolveExcluded (v ∷ l) r = resolveExcluded l (cond r.crossed r (resolveBy (classifyAt r.lower r.upper v) v r))
 
   -- The column with its excluded values resolved. Impossible: it was, or null is required of a column with a value
   -- constraint (the Rust returns there; an impossible column is never written out), or the range became empty.
   abbrev pub withExcluded : ColumnConstraints Val → ColumnConstraints Val
   withExcluded cc =
-      let r = resolveExcluded (cc .excluded) (rangeOf cc) in
-      setUnsat (cc .unsat || (nullConflict cc || r .crossed))
-      (setExcluded (r .kept) (setUpper (r .upper) (setLower (r .lower) cc)))
+      let r = resolveExcluded cc.excluded (record { lower = cc.lower; upper = cc.upper; kept = []; crossed = false }) in
+      column r.lower r.upper r.kept cc.allowed cc.disallowed cc.strict cc.nullability
+      (cc.unsat || (nullConflict cc || r.crossed))
 
   -- ---- `is_feasible`, of a key.
   abbrev pub isAllowed : Option (List Val) → K → Bool
@@ -122,12 +98,12 @@ module _ {K Val : Type 0} (S : Scalars K Val) where
   allowedFeasible cc none = true
   allowedFeasible cc (some values) = anyFeasible cc values
 
+  -- ---- `fixed_value`: the one value of a closed range that is a point.
   abbrev pub fixedAt : Bound Val → Bound Val → Option Val
   fixedAt absent upper = none
   fixedAt (at false v) upper = none
   fixedAt (at true v) absent = none
-  fixedAt (at true v) (at false w) = none
-  fixedAt (at true v) (at true w) = fixedBy (scalarCmp S v w) v
+  fixedAt (at true v) (at inclusive w) = cond (inclusive && isEqual (scalarCmp S v w)) (some v) none
 
   abbrev pub fixedValue : ColumnConstraints Val → Option Val
   fixedValue cc = fixedAt (cc .lower) (cc .upper)
@@ -139,9 +115,7 @@ module _ {K Val : Type 0} (S : Scalars K Val) where
   -- The last two tests: no allowed value is feasible; the fixed value is disallowed.
   abbrev pub withLists : ColumnConstraints Val → ColumnConstraints Val
   withLists cc =
-      setUnsat
-      (cc .unsat || (not (allowedFeasible cc (cc .allowed)) || fixedDisallowed cc (fixedAt (cc .lower) (cc .upper))))
-      cc
+      setUnsat (cc.unsat || (not (allowedFeasible cc cc.allowed) || fixedDisallowed cc (fixedValue cc))) cc
 
   -- `resolve_deferred`.
   abbrev pub resolveDeferred : ColumnConstraints Val → ColumnConstraints Val

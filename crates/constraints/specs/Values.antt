@@ -1,5 +1,5 @@
 -- Sets of values, as lists in order of insertion; a value is in a list when its key is.
-use mathlib.Core.Bool.{Bool, true, false, _&&_}
+use mathlib.Core.Bool.{Bool, true, false, _&&_, cond}
 use mathlib.Core.List.{List, [], _∷_, _++_}
 use Rattle.truth.specs.Membership.{mem}
 use Rattle.constraints.specs.Scalars.{Scalars}
@@ -8,14 +8,6 @@ abbrev pub isEmpty : {A : Type 0} → List A → Bool
 isEmpty [] = true
 isEmpty (x ∷ l) = false
 
-abbrev pub insertBy : {Val : Type 0} → Bool → Val → List Val → List Val
-insertBy true v l = l
-insertBy false v l = l ++ (v ∷ [])
-
-abbrev pub retainBy : {Val : Type 0} → Bool → Val → List Val → List Val
-retainBy true v l = v ∷ l
-retainBy false v l = l
-
 module _ {K Val : Type 0} (S : Scalars K Val) where
   -- Some value of the list has the key k.
   abbrev pub contains : K → List Val → Bool
@@ -23,7 +15,7 @@ module _ {K Val : Type 0} (S : Scalars K Val) where
 
   -- `insert`: behind the others, unless an equal value is there, which then stays.
   abbrev pub insert : Val → List Val → List Val
-  insert v l = insertBy (contains (S .key v) l) v l
+  insert v l = cond (contains (S .key v) l) l (l ++ (v ∷ []))
 
   -- `extend`: the values of the second list inserted into the first, one by one.
   abbrev pub extend : List Val → List Val → List Val
@@ -33,7 +25,7 @@ module _ {K Val : Type 0} (S : Scalars K Val) where
   -- `retain`: of the second list, the values that the first contains.
   abbrev pub retain : List Val → List Val → List Val
   retain m [] = []
-  retain m (v ∷ l) = retainBy (contains (S .key v) m) v (retain m l)
+  retain m (v ∷ l) = cond (contains (S .key v) m) (v ∷ retain m l) (retain m l)
 
   -- Every value of the first list is in the second.
   abbrev pub subset : List Val → List Val → Bool

@@ -1,7 +1,7 @@
 -- Collect: one conjunct more.
 use mathlib.Core.Path.{_≡_, refl, sym, _∙_, ap, subst}
 use mathlib.Core.Bool.{Bool, true, false, not, cond, _&&_, true≢false}
-use mathlib.Core.List.{List, [], _∷_, _++_}
+use mathlib.Core.List.{List, [], _∷_, _++_, map}
 use Prim.Native.Nat.{ℕ, zero, suc, _+_, _-_, _<_, _≤_, _%_}
 use native.Mathlib.Omega.{arith}
 use native.Mathlib.Numerals.{add-one}
@@ -15,8 +15,8 @@ use Rattle.constraints.specs.Payload.{payload}
 use Rattle.constraints.specs.declared.column.Nullability.the-variants.{NonNull}
 use Rattle.columns.specs.Abstraction.{Conjuncts, columnOf, Fine}
 use Rattle.columns.specs.declared.column.ColumnConstraints.{ColumnConstraints}
-use Rattle.merge.specs.Classify.{Conjunct, Bounds, Equality, Recorded, NonNullPair, Opaque, classify, classifyAll}
-use Rattle.merge.specs.Collect.{Collected, begin, collect, collectOne, collectIf, enter, update, requireNonNull}
+use Rattle.merge.specs.Classify.{Conjunct, Bounds, Equality, Recorded, NonNullPair, Opaque, classify}
+use Rattle.merge.specs.Collect.{Collected, begin, collect, collectOne, enter, update, requireNonNull}
 use Rattle.truth.specs.FromBytes.{aexprOf}
 use Rattle.rewrite.specs.Read.{conjunctIn}
 use Rattle.rewrite.specs.declared.classify.Conjunct as code
@@ -26,29 +26,32 @@ use Rattle.filter_constraint.proofs.Arrays.{entered-more, shows-set, ke
 
 -- ---- the conjuncts one by one
 collect-snoc : (l : List (Conjunct ℕ)) (k : Conjunct ℕ) (s : Collected ℕ)
-    → collect payload (l ++ (k ∷ [])) s ≡ collectIf payload (collect payload l s .unsat) k (collect payload l s)
+    → collect payload (l ++ (k ∷ [])) s ≡ cond (collect payload l s .unsat) (collect payload l s)
+    (collectOne payload k (collect payload l s))
 collect-snoc [] k s = refl
-collect-snoc (j ∷ l) k s = collect-snoc l k (collectIf payload (s .unsat) j s)
+collect-snoc (j ∷ l) k s = collect-snoc l k (cond (s .unsat) s (collectOne payload j s))
 
 classify-snoc : (R : ℕ → AExpr ℕ) (l : List ℕ) (n : ℕ)
-    → classifyAll R (l ++ (n ∷ [])) ≡ classifyAll R l ++ (classify R n ∷ [])
+    → map (classify R) (l ++ (n ∷ [])) ≡ map (classify R) l ++ (classify R n ∷ [])
 classify-snoc R [] n = refl
 classify-snoc R (m ∷ l) n = ap (λ x. classify R m ∷ x) (classify-snoc R l n)
 
 collect-step : (R : ℕ → AExpr ℕ) (nodes : List ℕ) (i : ℕ)
     → collectTo R nodes (suc i) ≡
-    collectIf payload (collectTo R nodes i .unsat) (classify R (getD nodes i 0)) (collectTo R nodes i)
+    cond (collectTo R nodes i .unsat) (collectTo R nodes i) (collectOne payload (classify R (getD nodes i 0))
+    (collectTo R nodes i))
 unfolding collectTo firstOf
 collect-step R nodes i =
     ap (λ l. collect payload l begin) (classify-snoc R (firstOf nodes i) (getD nodes i 0))
-    ∙ collect-snoc (classifyAll R (firstOf nodes i)) (classify R (getD nodes i 0)) begin
+    ∙ collect-snoc (map (classify R) (firstOf nodes i)) (classify R (getD nodes i 0)) begin
 
 pub collect-more : (R : ℕ → AExpr ℕ) (nodes : List ℕ) (i : ℕ) (b : Bool) → b ≡ collectTo R nodes i .unsat → b ≡ false
     → collectTo R nodes (i + 1) ≡ collectOne payload (classify R (getD nodes i 0)) (collectTo R nodes i)
 collect-more R nodes i b eb e =
     ap (collectTo R nodes) (add-one i)
     ∙ collect-step R nodes i
-    ∙ ap (λ b. collectIf payload b (classify R (getD nodes i 0)) (collectTo R nodes i)) (sym eb ∙ e)
+    ∙ ap (λ b. cond b (collectTo R nodes i) (collectOne payload (classify R (getD nodes i 0)) (collectTo R nodes i)))
+    (sym eb ∙ e)
 
 -- ---- reading that stopped stays
 collect-still : (R : ℕ → AExpr ℕ) (nodes : List ℕ) (i : ℕ) → collectTo R nodes i .unsat ≡ true → (d : ℕ)
@@ -59,7 +62,8 @@ collect-still R nodes i h (suc d) =
     let ih : collectTo R nodes (i + d) ≡ collectTo R nodes i = collect-still R nodes i h d in
     ap (collectTo R nodes) e
     ∙ collect-step R nodes (i + d)
-    ∙ ap (λ b. collectIf payload b (classify R (getD nodes (i + d) 0)) (collectTo R nodes (i + d)))
+    ∙ ap (λ b. cond b (collectTo R nodes (i + d)) (collectOne payload (classify R (getD nodes (i + d) 0))
+    (collectTo R nodes (i + d))))
     (ap (λ s. s .unsat) ih ∙ h)
     ∙ ih
 

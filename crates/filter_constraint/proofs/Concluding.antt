@@ -1,7 +1,8 @@
 -- What the ends of the loops give: the outcome of the merging, and each of its answers.
+use Rattle.merge.specs.Classify.{classify}
 use mathlib.Core.Path.{_≡_, refl, sym, _∙_, ap, subst}
 use mathlib.Core.Bool.{Bool, true, false, not, cond, _&&_, _||_, or-false}
-use mathlib.Core.List.{List, [], _∷_, _++_}
+use mathlib.Core.List.{List, [], _∷_, _++_, map}
 use Prim.Native.Nat.{ℕ, zero, suc, _+_, _-_, _*_, _<_, _≤_, _%_}
 use native.Mathlib.Omega.{arith}
 use lib.ListN.{length, getD}
@@ -15,10 +16,9 @@ use Rattle.constraints.specs.Resolve.{resolveDeferred}
 use Rattle.constraints.specs.Values.{isEmpty}
 use Rattle.columns.specs.Abstraction.{Conjuncts, columnOf, Fine}
 use Rattle.columns.specs.declared.column.ColumnConstraints.{ColumnConstraints}
-use Rattle.merge.specs.Classify.{classifyAll}
 use Rattle.merge.specs.Collect.{Collected, isIn}
 use Rattle.merge.specs.Propagate.{propagate, propagateEmitted}
-use Rattle.merge.specs.Emit.{Outcome, Unchanged, NothingPasses, Rebuilt, outcomeBy, ofColumn, keptEqualities, droppedEquality}
+use Rattle.merge.specs.Emit.{Outcome, Unchanged, NothingPasses, Rebuilt, ofColumn, keptEqualities, droppedEquality}
 use Rattle.merge.specs.Emit.{anyUnsat, comparisons, propagated, resolved, rewrites, rebuilt, conclude, mergeFilterConstraints}
 use Rattle.merge.specs.Rebuild.{comparisonNodes}
 use Rattle.merge.specs.Write.{writeComparisons, outcomeBytes}
@@ -41,7 +41,7 @@ use Rattle.filter_constraint.proofs.Resolving.{comparisons-more, compar
 
 -- The outcome for the first n nodes of an array.
 abbrev pub outcomeTo : (ℕ → AExpr ℕ) → List ℕ → ℕ → Outcome ℕ
-outcomeTo R nodes n = mergeFilterConstraints payload (classifyAll R (firstOf nodes n))
+outcomeTo R nodes n = mergeFilterConstraints payload (map (classify R) (firstOf nodes n))
 
 -- What a function that merges them promises.
 abbrev pub Answered : List ℕ → List ℕ → List ℕ → ℕ → Outcome ℕ → RewriteAnswer → List ℕ → Type 0
@@ -53,9 +53,10 @@ pub answered-as : (t rs trees : List ℕ) (used : ℕ) (o o′ : Outcome ℕ) (r
 answered-as t rs trees used o o′ r out e h = subst (λ x. Answered t rs trees used x r out) (sym e) h
 
 outcome-by : (s : Collected ℕ) (x y : Bool) → (s .unsat || anyUnsat (s .order) (resolved payload s)) ≡ x
-    → rewrites payload s ≡ y → conclude payload s ≡ outcomeBy x y (rebuilt payload s)
+    → rewrites payload s ≡ y → conclude payload s ≡ cond x NothingPasses (cond y (rebuilt payload s) Unchanged)
 outcome-by s x y ex ey =
-    ap (λ b. outcomeBy b (rewrites payload s) (rebuilt payload s)) ex ∙ ap (λ b. outcomeBy x b (rebuilt payload s)) ey
+    ap (λ b. cond b NothingPasses (cond (rewrites payload s) (rebuilt payload s) Unchanged)) ex ∙
+    ap (λ b. cond x NothingPasses (cond b (rebuilt payload s) Unchanged)) ey
 
 pub conclude-stopped : (R : ℕ → AExpr ℕ) (nodes : List ℕ) (n : ℕ) (b : Bool) → b ≡ collectTo R nodes n .unsat → b ≡ true
     → outcomeTo R nodes n ≡ NothingPasses

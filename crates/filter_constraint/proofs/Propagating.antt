@@ -1,4 +1,7 @@
 -- Propagate: one edge more, one pass more, and the end. Then the kept equalities.
+use Rattle.merge.proofs.Sound.{keptBy}
+use Rattle.merge.proofs.Passes.{mergeEdgeIf, edgeAnyIf, edgeEmittedIf}
+use Rattle.merge.specs.Passes.{passTimes}
 use mathlib.Core.Path.{_≡_, refl, sym, _∙_, ap, subst}
 use mathlib.Core.Bool.{Bool, true, false, not, cond, _&&_, _||_, true≢false, or-false}
 use mathlib.Core.List.{List, [], _∷_, _++_, append-assoc, append-nil}
@@ -17,8 +20,8 @@ use Rattle.columns.specs.Abstraction.{Conjuncts, columnOf, Fine}
 use Rattle.columns.specs.declared.column.ColumnConstraints.{ColumnConstraints}
 use Rattle.merge.specs.Collect.{update}
 use Rattle.merge.specs.Propagate.{mergedRight, mergedLeft, mergeEdge, edgeAny, edgeEmitted, pass, passAny, passEmitted}
-use Rattle.merge.specs.Propagate.{passTimes, propagate, propagateEmitted}
-use Rattle.merge.specs.Emit.{keptBy, isFixed, keptEqualities, droppedEquality}
+use Rattle.merge.specs.Propagate.{propagate, propagateEmitted}
+use Rattle.merge.specs.Emit.{isFixed, keptEqualities, droppedEquality}
 use Rattle.rewrite.specs.Walk.{firstOf}
 use Rattle.filter_constraint.specs.State.{pastColumn, Table, Shows, Keeps, Edges, edgesOf, Merged, Passed, Kept}
 use Rattle.filter_constraint.proofs.Arrays.{shows-set, keeps-more, first-kept}
@@ -29,33 +32,33 @@ or-assoc false y z = refl
 
 -- ---- an edge behind the others
 pass-snoc : (es : List (ℕ × ℕ × ℕ)) (e : ℕ × ℕ × ℕ) (T : Table)
-    → pass payload (es ++ (e ∷ [])) T ≡ mergeEdge payload (eqb (e .0) (e .1)) (e .0) (e .1) (pass payload es T)
+    → pass payload (es ++ (e ∷ [])) T ≡ mergeEdge payload (e .0) (e .1) (pass payload es T)
 pass-snoc [] e T = refl
-pass-snoc (f ∷ es) e T = pass-snoc es e (mergeEdge payload (eqb (f .0) (f .1)) (f .0) (f .1) T)
+pass-snoc (f ∷ es) e T = pass-snoc es e (mergeEdge payload (f .0) (f .1) T)
 
 any-snoc : (es : List (ℕ × ℕ × ℕ)) (e : ℕ × ℕ × ℕ) (T : Table)
     → passAny payload (es ++ (e ∷ [])) T ≡
-    (passAny payload es T || edgeAny payload (eqb (e .0) (e .1)) (e .0) (e .1) (pass payload es T))
-any-snoc [] e T = or-false (edgeAny payload (eqb (e .0) (e .1)) (e .0) (e .1) T)
+    (passAny payload es T || edgeAny payload (e .0) (e .1) (pass payload es T))
+any-snoc [] e T = or-false (edgeAny payload (e .0) (e .1) T)
 any-snoc (f ∷ es) e T =
-    ap (λ b. edgeAny payload (eqb (f .0) (f .1)) (f .0) (f .1) T || b)
-    (any-snoc es e (mergeEdge payload (eqb (f .0) (f .1)) (f .0) (f .1) T))
-    ∙ or-assoc (edgeAny payload (eqb (f .0) (f .1)) (f .0) (f .1) T)
-    (passAny payload es (mergeEdge payload (eqb (f .0) (f .1)) (f .0) (f .1) T))
-    (edgeAny payload (eqb (e .0) (e .1)) (e .0) (e .1)
-    (pass payload es (mergeEdge payload (eqb (f .0) (f .1)) (f .0) (f .1) T)))
+    ap (λ b. edgeAny payload (f .0) (f .1) T || b)
+    (any-snoc es e (mergeEdge payload (f .0) (f .1) T))
+    ∙ or-assoc (edgeAny payload (f .0) (f .1) T)
+    (passAny payload es (mergeEdge payload (f .0) (f .1) T))
+    (edgeAny payload (e .0) (e .1)
+    (pass payload es (mergeEdge payload (f .0) (f .1) T)))
 
 emitted-snoc : (es : List (ℕ × ℕ × ℕ)) (e : ℕ × ℕ × ℕ) (T : Table)
     → passEmitted payload (es ++ (e ∷ [])) T ≡
-    (passEmitted payload es T || edgeEmitted payload (eqb (e .0) (e .1)) (e .0) (e .1) (pass payload es T))
-emitted-snoc [] e T = or-false (edgeEmitted payload (eqb (e .0) (e .1)) (e .0) (e .1) T)
+    (passEmitted payload es T || edgeEmitted payload (e .0) (e .1) (pass payload es T))
+emitted-snoc [] e T = or-false (edgeEmitted payload (e .0) (e .1) T)
 emitted-snoc (f ∷ es) e T =
-    ap (λ b. edgeEmitted payload (eqb (f .0) (f .1)) (f .0) (f .1) T || b)
-    (emitted-snoc es e (mergeEdge payload (eqb (f .0) (f .1)) (f .0) (f .1) T))
-    ∙ or-assoc (edgeEmitted payload (eqb (f .0) (f .1)) (f .0) (f .1) T)
-    (passEmitted payload es (mergeEdge payload (eqb (f .0) (f .1)) (f .0) (f .1) T))
-    (edgeEmitted payload (eqb (e .0) (e .1)) (e .0) (e .1)
-    (pass payload es (mergeEdge payload (eqb (f .0) (f .1)) (f .0) (f .1) T)))
+    ap (λ b. edgeEmitted payload (f .0) (f .1) T || b)
+    (emitted-snoc es e (mergeEdge payload (f .0) (f .1) T))
+    ∙ or-assoc (edgeEmitted payload (f .0) (f .1) T)
+    (passEmitted payload es (mergeEdge payload (f .0) (f .1) T))
+    (edgeEmitted payload (e .0) (e .1)
+    (pass payload es (mergeEdge payload (f .0) (f .1) T)))
 
 pub low-slot : (a x : ℕ) → a < 64 → x ≡ a % 64 → x ≡ a
 low-slot a x h e = omega (arith, h, e)
@@ -80,9 +83,9 @@ module _ (t : Conjuncts) (table : List ColumnConstraints) (lefts rights equals :
 
   -- what the edge gives, once it is known whether its columns are one
   next : (same : Bool) (table′ : List ColumnConstraints) (emitted′ any′ : Bool) → eqb a b ≡ same
-      → Shows t table′ (mergeEdge payload same a b here)
-      → emitted′ ≡ (emitted || edgeEmitted payload same a b here)
-      → any′ ≡ (any || edgeAny payload same a b here)
+      → Shows t table′ (mergeEdgeIf payload same a b here)
+      → emitted′ ≡ (emitted || edgeEmittedIf payload same a b here)
+      → any′ ≡ (any || edgeAnyIf payload same a b here)
       → Merged t table′ (edgesOf lefts rights equals (e + 1)) held emitted′ any′ T
   unfolding edgesOf
   next same table′ emitted′ any′ es S h k =
@@ -90,18 +93,18 @@ module _ (t : Conjuncts) (table : List ColumnConstraints) (lefts rights equals :
       (record {
         shows = subst (Shows t table′)
             (sym (pass-snoc (edgesOf lefts rights equals e) (a, b, getD equals e 0) T
-            ∙ ap (λ x. mergeEdge payload x a b here) es)) S;
+            ∙ ap (λ x. mergeEdgeIf payload x a b here) es)) S;
         emits = h
-            ∙ ap (λ x. x || edgeEmitted payload same a b here) (M .emits)
+            ∙ ap (λ x. x || edgeEmittedIf payload same a b here) (M .emits)
             ∙ sym (or-assoc held (passEmitted payload (edgesOf lefts rights equals e) T)
-            (edgeEmitted payload same a b here))
+            (edgeEmittedIf payload same a b here))
             ∙ ap (λ x. held || x)
             (sym (emitted-snoc (edgesOf lefts rights equals e) (a, b, getD equals e 0) T
-            ∙ ap (λ x. passEmitted payload (edgesOf lefts rights equals e) T || edgeEmitted payload x a b here) es));
+            ∙ ap (λ x. passEmitted payload (edgesOf lefts rights equals e) T || edgeEmittedIf payload x a b here) es));
         changes = k
-            ∙ ap (λ x. x || edgeAny payload same a b here) (M .changes)
+            ∙ ap (λ x. x || edgeAnyIf payload same a b here) (M .changes)
             ∙ sym (any-snoc (edgesOf lefts rights equals e) (a, b, getD equals e 0) T
-            ∙ ap (λ x. passAny payload (edgesOf lefts rights equals e) T || edgeAny payload x a b here) es);
+            ∙ ap (λ x. passAny payload (edgesOf lefts rights equals e) T || edgeAnyIf payload x a b here) es);
       })
 
   pub edge-self : (x y : ℕ) → a < 64 → b < 64 → x ≡ a % 64 → y ≡ b % 64 → x ≡ y
@@ -180,30 +183,13 @@ passed-none t table es n T S =
 -- a pass that is not the last
 propagate-by : (b : Bool) (m : ℕ) (es : List (ℕ × ℕ × ℕ)) (T : Table) → passAny payload es T ≡ b
     → propagate payload (suc m) es T ≡ cond b (propagate payload m es (pass payload es T)) (pass payload es T)
-propagate-by b m es T e =
-    ap (λ x. elim x as (λ y. Table) [ true ↦ propagate payload m es (pass payload es T) | false ↦ pass payload es T ]) e
-    ∙ go b
-  where
-    go : (x : Bool) → (elim x as (λ y. Table) [
-      | true ↦ propagate payload m es (pass payload es T)
-      | false ↦ pass payload es T
-    ]) ≡ cond x (propagate payload m es (pass payload es T)) (pass payload es T)
-    go true = refl
-    go false = refl
+propagate-by b m es T e = ap (λ x. cond x (propagate payload m es (pass payload es T)) (pass payload es T)) e
 
 emitted-by : (b : Bool) (m : ℕ) (es : List (ℕ × ℕ × ℕ)) (T : Table) → passAny payload es T ≡ b
     → propagateEmitted payload (suc m) es T ≡
     (passEmitted payload es T || cond b (propagateEmitted payload m es (pass payload es T)) false)
 emitted-by b m es T e =
-    ap (λ x. passEmitted payload es T || (elim x as (λ y. Bool)
-    [ true ↦ propagateEmitted payload m es (pass payload es T) | false ↦ false ])) e
-    ∙ go b
-  where
-    go : (x : Bool) → (passEmitted payload es T || (elim x as (λ y. Bool)
-        [ true ↦ propagateEmitted payload m es (pass payload es T) | false ↦ false ])) ≡
-        (passEmitted payload es T || cond x (propagateEmitted payload m es (pass payload es T)) false)
-    go true = refl
-    go false = refl
+    ap (λ x. passEmitted payload es T || cond x (propagateEmitted payload m es (pass payload es T)) false) e
 
 pub passed-more :
     (t : Conjuncts) (table table′ : List ColumnConstraints) (es : List (ℕ × ℕ × ℕ)) (n p : ℕ)

@@ -1,7 +1,8 @@
 -- Resolve, and the comparisons written out: one column more.
+use Rattle.constraints.specs.Bound.{ofBound}
 use mathlib.Core.Path.{_≡_, refl, sym, _∙_, ap, subst}
 use mathlib.Core.Bool.{Bool, true, false, cond, _||_, or-true, or-false}
-use mathlib.Core.List.{List, [], _∷_, _++_, append-nil}
+use mathlib.Core.List.{List, [], _∷_, _++_, append-nil, map}
 use mathlib.Core.Option.{Option, none, some}
 use Prim.Native.Nat.{ℕ, zero, suc, _+_, _*_, _<_, _≤_, _%_}
 use native.Mathlib.Omega.{arith}
@@ -12,7 +13,7 @@ use borrow.Author.Tests.{eqb-true, eqb-false, ne-eqb}
 use Rattle.records.proofs.Laws.{by-test}
 use Rattle.constraints.specs.Bound as b
 use Rattle.constraints.specs.Column as q
-use Rattle.constraints.specs.Comparisons.{ColumnComparison, lowerComparison, upperComparison, excludedComparisons}
+use Rattle.constraints.specs.Comparisons.{ColumnComparison, IsLower, IsUpper, IsNotEq}
 use Rattle.constraints.specs.Comparisons.{collectBy, collectColumnComparisons}
 use Rattle.constraints.specs.Payload.{payload}
 use Rattle.constraints.specs.Resolve.{fixedAt, resolveDeferred}
@@ -122,15 +123,15 @@ excluded-few kinds values a (suc n) = go (excluded-few kinds values a n) (ofKind
         let e = length-append (excludedBy kinds values a n) (getD values (getD a n 0) 0 ∷ []) in omega (arith, e, ih)
     go ih false = omega (arith, ih)
 
-excluded-length : (l : List ℕ) → length (excludedComparisons l) ≡ length l
+excluded-length : (l : List ℕ) → length (map IsNotEq l) ≡ length l
 excluded-length [] = refl
 excluded-length (v ∷ l) = ap suc (excluded-length l)
 
-lower-few : (x : b.Bound ℕ) → length (lowerComparison x) ≤ 1
+lower-few : (x : b.Bound ℕ) → length (ofBound IsLower x) ≤ 1
 lower-few b.absent = omega arith
 lower-few (b.at i v) = omega arith
 
-upper-few : (x : b.Bound ℕ) → length (upperComparison x) ≤ 1
+upper-few : (x : b.Bound ℕ) → length (ofBound IsUpper x) ≤ 1
 upper-few b.absent = omega arith
 upper-few (b.at i v) = omega arith
 
@@ -141,9 +142,9 @@ column-few t c f = go (fixedAt payload (columnOf t c .lower) (columnOf t c .uppe
     go : (o : Option ℕ) → length (collectBy o (columnOf t c)) ≤ 130
     go (some v) = omega arith
     go none =
-        let p = length-append (lowerComparison (columnOf t c .lower))
-        (upperComparison (columnOf t c .upper) ++ excludedComparisons (columnOf t c .excluded)) in
-        let r = length-append (upperComparison (columnOf t c .upper)) (excludedComparisons (columnOf t c .excluded)) in
+        let p = length-append (ofBound IsLower (columnOf t c .lower))
+        (ofBound IsUpper (columnOf t c .upper) ++ map IsNotEq (columnOf t c .excluded)) in
+        let r = length-append (ofBound IsUpper (columnOf t c .upper)) (map IsNotEq (columnOf t c .excluded)) in
         let e = excluded-length (columnOf t c .excluded) in
         let x = excluded-few (t .kinds) (t .values) (c .marks) (c .len) in
         let n = few (c .marks) (c .len) f in

@@ -1,7 +1,9 @@
 -- What the arrays of the merging hold: the tables and lists of `Collected`, Propagate and Emit.
+use Rattle.merge.specs.Classify.{classify}
+use Rattle.merge.specs.Passes.{passTimes}
 use mathlib.Core.Path.{_≡_}
 use mathlib.Core.Bool.{Bool, true, false, cond, _||_}
-use mathlib.Core.List.{List, [], _∷_, _++_}
+use mathlib.Core.List.{List, [], _∷_, _++_, map}
 use Prim.Native.Nat.{ℕ, zero, suc, _+_, _-_, _*_, _<_}
 use lib.ListN.{length, getD}
 use Rattle.truth.specs.AExpr.{AExpr}
@@ -13,9 +15,8 @@ use Rattle.constraints.specs.declared.column.Nullability.the-variants.{Unconstr
 use Rattle.columns.specs.Abstraction.{Conjuncts, columnOf, Fine}
 use Rattle.columns.specs.declared.bound.Bound.the-variants.{Absent}
 use Rattle.columns.specs.declared.column.ColumnConstraints.{ColumnConstraints}
-use Rattle.merge.specs.Classify.{classifyAll}
 use Rattle.merge.specs.Collect.{Collected, begin, collect, isIn}
-use Rattle.merge.specs.Propagate.{pass, passAny, passEmitted, passTimes, propagate, propagateEmitted}
+use Rattle.merge.specs.Propagate.{pass, passAny, passEmitted, propagate, propagateEmitted}
 use Rattle.merge.specs.Emit.{keptEqualities, droppedEquality, anyUnsat, comparisons}
 use Rattle.merge.specs.Write.{writeComparisons}
 use Rattle.rewrite.specs.Walk.{firstOf}
@@ -83,7 +84,7 @@ pub record Collects (t : Conjuncts) (table : List ColumnConstraints) (seen : Lis
 
 -- What the first i nodes of an array gave.
 unfoldable pub collectTo : (ℕ → AExpr ℕ) → List ℕ → ℕ → Collected ℕ
-collectTo R nodes i = collect payload (classifyAll R (firstOf nodes i)) begin
+collectTo R nodes i = collect payload (map (classify R) (firstOf nodes i)) begin
 
 -- ---- Propagate: a pass as far as its edges es, over the table that the array stood for when it began.
 pub record Merged (t : Conjuncts) (table : List ColumnConstraints) (es : List (ℕ × ℕ × ℕ)) (held emitted any : Bool)

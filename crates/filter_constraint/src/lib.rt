@@ -1,12 +1,13 @@
 // `merge_filter_constraints`: the function that owns the table of columns, with all its stages: collect, propagate,
 // the kept equalities, resolve, write. The table is a local of it, since a table handed on by value is copied twice.
 ghost use mathlib.Core.Path.{_≡_};
+ghost use mathlib.Core.List.{map};
 ghost use Prim.Native.Nat.{ℕ, _<_, _≤_, _*_};
 ghost use lib.ListN.{length, getD};
 ghost use Rattle.truth.specs.FromBytes.{aexprOf};
 ghost use Rattle.constraints.specs.Payload.{payload};
 ghost use Rattle.columns.specs.Abstraction.{conjuncts};
-ghost use Rattle.merge.specs.Classify.{classify, classifyAll};
+ghost use Rattle.merge.specs.Classify.{classify};
 ghost use Rattle.merge.specs.Emit.{mergeFilterConstraints};
 ghost use Rattle.merge.specs.Write.{outcomeBytes};
 ghost use Rattle.merge.specs.Rewrite.{writtenIf};
@@ -55,9 +56,9 @@ pub fn merge_filter_constraints(
         (classify (aexprOf (now rs) (now p)) (getD (now nodes) i 0))) ⌝ }
     requires { ⌜ ((i : ℕ) → i < n → ColumnsBelow 64 (classify (aexprOf (now rs) (now p)) (getD (now nodes) i 0))) ⌝ }
     ensures { λ r. ⌜ r ≡ reckonedAnswer (length (now (rs .entry))) (now (trees .entry)) used (mergeFilterConstraints payload
-        (classifyAll (aexprOf (now (rs .entry)) (now (p .entry))) (firstOf (now (nodes .entry)) n))) ⌝ }
+        (map (classify (aexprOf (now (rs .entry)) (now (p .entry)))) (firstOf (now (nodes .entry)) n))) ⌝ }
     ensures { λ r. ⌜ now (rs .exit) ≡ writtenIf r (now (rs .entry)) (outcomeBytes (now (t .entry)) (now (rs .entry)) used
-        (mergeFilterConstraints payload (classifyAll (aexprOf (now (rs .entry)) (now (p .entry)))
+        (mergeFilterConstraints payload (map (classify (aexprOf (now (rs .entry)) (now (p .entry))))
         (firstOf (now (nodes .entry)) n)))) ⌝ }
 {
     let blank = empty();

@@ -1,4 +1,5 @@
 -- A plain screen that is not answered by `nothing` lets a row pass.
+use Rattle.merge.specs.Passes.{passTimes}
 use mathlib.Core.Path.{_≡_, refl, sym, _∙_, ap, subst}
 use mathlib.Core.Bool.{Bool, true, false, not, _&&_, _||_, cond, true≢false, and-eq-true-iff, or-true}
 use mathlib.Core.List.{List, [], _∷_, _++_}
@@ -24,11 +25,11 @@ use Rattle.merge.proofs.Spread.{AllEndsAgree, EndsAgree, Linked, pass-e
 use Rattle.merge.proofs.Spread.{pass-recorded, passTimes-emitted, passTimes-live, passTimes-recorded}
 use Rattle.merge.proofs.Witness.{HalfPoints, rowValue, rowValue-admitted, valueBy, witness, witness-same}
 use Rattle.merge.specs.Classify.{Bounds, Conjunct, Equality, NonNullPair, Opaque, Recorded}
-use Rattle.merge.specs.Collect.{Collected, Table, addTo, begin, collect, collectIf, collectOne, enter, isIn}
+use Rattle.merge.specs.Collect.{Collected, Table, addTo, begin, collect, collectOne, enter, isIn}
 use Rattle.merge.specs.Collect.{requireNonNull}
 use Rattle.merge.specs.Emit.{NothingPasses, Outcome, Rebuilt, Unchanged, anyUnsat, comparisons, droppedEquality}
-use Rattle.merge.specs.Emit.{keptEqualities, mergeFilterConstraints, outcomeBy, propagated, resolved}
-use Rattle.merge.specs.Propagate.{mergeEdge, mergedRight, pass, passTimes, propagateEmitted}
+use Rattle.merge.specs.Emit.{keptEqualities, mergeFilterConstraints, propagated, resolved}
+use Rattle.merge.specs.Propagate.{mergeEdge, mergedRight, pass, propagateEmitted}
 
 module _ {K Val : Type 0} (S : Scalars K Val) (H : HalfPoints S) where
   -- ---- the bounds of a column that is not impossible do not cross
@@ -41,7 +42,7 @@ module _ {K Val : Type 0} (S : Scalars K Val) (H : HalfPoints S) where
 
   pass-consistent : (es : List (ℕ × ℕ × ℕ)) (t : Table Val) → AllConsistent t → AllConsistent (pass S es t)
   pass-consistent [] t h = h
-  pass-consistent (e ∷ es) t h = pass-consistent es (mergeEdge S (eqb (e .0) (e .1)) (e .0) (e .1) t)
+  pass-consistent (e ∷ es) t h = pass-consistent es (mergeEdge S (e .0) (e .1) t)
       (edge-ind S (λ c q. Consistent S q) (e .0) (e .1) t h (merge-consistent (t (e .1)) (t (e .0)) (h (e .1)))
       (merge-consistent (t (e .0)) (mergedRight S (e .0) (e .1) t) (h (e .0))) (eqb (e .0) (e .1)))
 
@@ -68,9 +69,9 @@ module _ {K Val : Type 0} (S : Scalars K Val) (H : HalfPoints S) where
   collect-consistent : (l : List (Conjunct Val)) (s : Collected Val) → AllConsistent (s .constraints) →
       AllConsistent (collect S l s .constraints)
   collect-consistent [] s h = h
-  collect-consistent (x ∷ l) s h = collect-consistent l (collectIf S (s .unsat) x s) (go (s .unsat))
+  collect-consistent (x ∷ l) s h = collect-consistent l (cond (s .unsat) s (collectOne S x s)) (go (s .unsat))
     where
-      go : (b : Bool) → AllConsistent (collectIf S b x s .constraints)
+      go : (b : Bool) → AllConsistent ((cond b s (collectOne S x s)) .constraints)
       go true = h
       go false = collectOne-consistent x s h
 
@@ -94,9 +95,9 @@ module _ {K Val : Type 0} (S : Scalars K Val) (H : HalfPoints S) where
   collect-alle : (P : (ℕ × ℕ × ℕ) → Type 0) (l : List (Conjunct Val)) (s : Collected Val) →
       AllE P (collect S l s .edges) → AllE P (s .edges)
   collect-alle P [] s h = h
-  collect-alle P (x ∷ l) s h = go (s .unsat) (collect-alle P l (collectIf S (s .unsat) x s) h)
+  collect-alle P (x ∷ l) s h = go (s .unsat) (collect-alle P l (cond (s .unsat) s (collectOne S x s)) h)
     where
-      go : (b : Bool) → AllE P (collectIf S b x s .edges) → AllE P (s .edges)
+      go : (b : Bool) → AllE P ((cond b s (collectOne S x s)) .edges) → AllE P (s .edges)
       go true h = h
       go false h = collectOne-alle P x s h
 
@@ -172,9 +173,9 @@ module _ {K Val : Type 0} (S : Scalars K Val) (H : HalfPoints S) where
         Full (collect S l s) → HoldsAll S ρ N l
     collect-full [] s e h k = tt
     collect-full (x ∷ l) s e h k = go (s .unsat) (collect-going S ρ N (x ∷ l) s h) k
-        (collect-full l (collectIf S (s .unsat) x s) (e .1) h k)
+        (collect-full l (cond (s .unsat) s (collectOne S x s)) (e .1) h k)
       where
-        go : (b : Bool) → b ≡ false → Full (collect S l (collectIf S b x s)) → HoldsAll S ρ N l →
+        go : (b : Bool) → b ≡ false → Full (collect S l (cond b s (collectOne S x s))) → HoldsAll S ρ N l →
             Holds S ρ N x × HoldsAll S ρ N l
         go true p k r = absurd (true≢false p)
         go false p k r = (
@@ -280,8 +281,9 @@ module _ {K Val : Type 0} (S : Scalars K Val) (H : HalfPoints S) where
       )
 
       go : (b : Bool) → (s .unsat || anyUnsat (s .order) (resolved S s)) ≡ b → (d : Bool) →
-          Complete N l (outcomeBy b d (Rebuilt (s .opaque ++ keptEqualities S (propagated S s) (s .edges))
-          (comparisons S (s .order) (resolved S s))))
+          Complete N l (cond b NothingPasses (cond d (Rebuilt
+          (s .opaque ++ keptEqualities S (propagated S s) (s .edges))
+          (comparisons S (s .order) (resolved S s))) Unchanged))
       go true h d = tt
       go false h true = there h
       go false h false = there h

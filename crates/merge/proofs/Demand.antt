@@ -1,4 +1,6 @@
 -- Demand 3, whole, of the definitions (specs/Demand.antt has the statements).
+use Rattle.records.proofs.Loops.{all-holds}
+use Rattle.merge.specs.Demand.{rootAfter, usedAfter}
 use mathlib.Core.Path.{_≡_, refl, sym, _∙_, ap, subst}
 use mathlib.Core.Bool.{Bool, true, false, not, _&&_, _||_, cond, true≢false, and-eq-true-iff}
 use mathlib.Core.List.{List, [], _∷_, _++_}
@@ -47,8 +49,7 @@ use Rattle.merge.specs.Plain.{readsColumn, isNumberColumn, readsOnlyNumb
 use Rattle.merge.specs.Rebuild.{comparisonNodes, comparisonsEnd, foldUsed}
 use Rattle.merge.specs.Write.{writeComparisons, outcomeBytes}
 use Rattle.merge.specs.Rewrite.{outcomeOf, chainNodes, chainRoot, chainUsed, hasRoom, chainFits, outcomeAnswer}
-use Rattle.merge.specs.Rewrite.{checkedAnswer, rewriteIf, rewriteAnswer, writtenIf, rewriteBytes, rootAfter}
-use Rattle.merge.specs.Rewrite.{usedAfter}
+use Rattle.merge.specs.Rewrite.{checkedAnswer, rewriteIf, rewriteAnswer, writtenIf, rewriteBytes}
 use Rattle.merge.specs.Demand as demand
 use Rattle.merge.proofs.Passes.{eqb-path, eqb-self}
 use Rattle.merge.proofs.Chains.{Below}
@@ -110,19 +111,6 @@ or-no false b e = (refl, e)
 
 pub and-yes : (a b : Bool) → (a && b) ≡ true → (a ≡ true) × (b ≡ true)
 and-yes a b h = and-eq-true-iff a b .0 h
-
-pub all-at : (f : ℕ → Bool) (n c : ℕ) → all f n ≡ true → c < n → f c ≡ true
-unfolding all
-all-at f zero c h l = absurd (omega arith)
-all-at f (suc n) c h l = go (eqb c n) refl (and-yes (all f n) (f n) h) (λ k m. all-at f n c k m)
-  where
-    go :
-        (b : Bool) → eqb c n ≡ b → (all f n ≡ true) × (f n ≡ true) → (all f n ≡ true → c < n → f c ≡ true) →
-        f c ≡ true
-    go true e q ih = subst (λ m. f m ≡ true) (sym (eqb-path c n e)) (q .1)
-    go false e q ih =
-        let d : (c ≡ n → ⊥) = λ r. true≢false (sym (subst (λ m. eqb c m ≡ true) r (eqb-self c)) ∙ e) in
-        ih (q .0) (omega (arith, d))
 
 -- ---- What is read of bytes fits the fields of a record.
 word-small : (rs : List ℕ) (j : ℕ) → demand.AreBytes rs → word rs j < 4294967296
@@ -395,7 +383,7 @@ module _ (t rs p : List ℕ) (used root : ℕ) (bytes : demand.AreBytes rs) (ok 
         go : (b : Bool) → ltb c (length t) ≡ b → (not b || isNumberColumn t c) ≡ true
         go true l =
             imp (readsColumn R root c) (isNumberColumn t c)
-            (all-at (λ i. not (readsColumn R root i) || isNumberColumn t i) (length t) c h (ltb-true c (length t) l))
+            (all-holds (λ i. not (readsColumn R root i) || isNumberColumn t i) c (length t) (ltb-true c (length t) l) h)
             e
         go false l = refl
 

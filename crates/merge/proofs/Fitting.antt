@@ -1,6 +1,6 @@
 -- What holds of every column and literal of a screen holds of those that the outcome writes.
-use mathlib.Core.Bool.{Bool, true, false}
-use mathlib.Core.List.{List, [], _∷_}
+use mathlib.Core.Bool.{Bool, true, false, cond, not, _&&_}
+use mathlib.Core.List.{List, [], _∷_, map}
 use Prim.Native.Nat.{ℕ}
 use lib.Dec.{leb}
 use lib.ListN.{length}
@@ -11,8 +11,8 @@ use Rattle.truth.specs.AExpr.{IsIn, Missing}
 use Rattle.constraints.specs.Scalars.{Scalars}
 use Rattle.constraints.specs.Column.{Constraint, Lower, Upper, Exclude, Allow, Disallow, Require}
 use Rattle.merge.specs.Minterms.{minterms}
-use Rattle.merge.specs.Classify.{Conjunct, Operand, AColumn, ALiteral, AList, Other, listOperand, operand}
-use Rattle.merge.specs.Classify.{comparisonConstraints, classifyAll, conjuncts}
+use Rattle.merge.specs.Classify.{Conjunct, Operand, AColumn, ALiteral, AList, Other, operand, classify}
+use Rattle.merge.specs.Classify.{comparisonConstraints, conjuncts}
 use Rattle.merge.specs.Emit.{mergeFilterConstraints}
 use Rattle.merge.proofs.Forms.{Forms, OnlyRecorded, classify-ind}
 use Rattle.merge.proofs.Literals.{ConjunctP, ConjunctsP, ConstraintsP, OutcomeP, merge-p}
@@ -53,7 +53,7 @@ module _ {K Val : Type 0} (S : Scalars K Val) (P : Val → Type 0) (opens : (w e
   operand-p (IsBetween c d x y z) h = tt
   operand-p (ListLiteral m l) h = go m (leb (length l) 100)
     where
-      go : (m b : Bool) → OperandP (listOperand m b l)
+      go : (m b : Bool) → OperandP (cond (not m && b) (AList l) Other)
       go true b = tt
       go false true = tt
       go false false = tt
@@ -92,7 +92,7 @@ module _ {K Val : Type 0} (S : Scalars K Val) (P : Val → Type 0) (opens : (w e
     seen-p : (x : ℕ) → OperandP (operand (R x))
     seen-p x = operand-p (R x) (all x)
 
-    lines-p : (l : List ℕ) → ConjunctsP S P opens Q (classifyAll R l)
+    lines-p : (l : List ℕ) → ConjunctsP S P opens Q (map (classify R) l)
     lines-p [] = tt
     lines-p (n ∷ l) = (classify-ind OperandP C forms R seen-p n, lines-p l)
 

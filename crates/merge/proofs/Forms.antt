@@ -1,23 +1,190 @@
 -- Every form that a conjunct is read as, once: what holds of each form, given what holds of the operands, holds of
 -- every conjunct.
-use mathlib.Core.Bool.{Bool, true, false, not}
+use mathlib.Core.Path.{_≡_, refl}
+use mathlib.Core.Option.{none, some}
+use mathlib.Core.Bool.{Bool, true, false, not, _&&_}
 use mathlib.Core.List.{List, [], _∷_}
 use Prim.Native.Nat.{ℕ}
 use Rattle.truth.specs.Comparison.{Comparison, Eq, NotEq, Lt, LtEq, Gt, GtEq}
 use Rattle.truth.specs.AExpr.{AExpr, Column, Literal, Null, BinaryExpr, Not, IsNull, IsNotNull, IsBetween}
-use Rattle.truth.specs.AExpr.{ListLiteral}
-use Rattle.truth.specs.AExpr.{IsIn, Missing}
-use Rattle.truth.specs.AExpr.{BinaryOp, Compare, EqValidity, NotEqValidity, And, Or, Xor, LogicalAnd, LogicalOr}
+use Rattle.truth.specs.AExpr.{ListLiteral, IsIn, Missing, BinaryOp, Compare, EqValidity, NotEqValidity, And, Or, Xor}
+use Rattle.truth.specs.AExpr.{LogicalAnd, LogicalOr}
 use Rattle.constraints.specs.declared.column.Nullability.{Nullability}
 use Rattle.constraints.specs.declared.column.Nullability.the-variants.{NonNull}
 use Rattle.constraints.specs.declared.column.Nullability.the-variants as required
 use Rattle.constraints.specs.Column.{Constraint, Lower, Upper, Exclude, Allow, Disallow, Require}
-use Rattle.merge.specs.Classify.{Conjunct, Bounds, Equality, Recorded, NonNullPair, Opaque}
-use Rattle.merge.specs.Classify.{Operand, AColumn, ALiteral, AList, Other, operand}
-use Rattle.merge.specs.Classify.{swapOperands, comparisonConstraints, classifyColumnLiteral, classifyColumns}
-use Rattle.merge.specs.Classify.{classifyColumnColumn, classifyComparison, classifyEnds, classifyIsBetween}
+use Rattle.merge.specs.Classify.{Conjunct, Bounds, Equality, Recorded, NonNullPair, Opaque, asComparison}
+use Rattle.merge.specs.Classify.{swapComparison, classifyColumnColumn, Operand, AColumn, ALiteral, AList, Other}
+use Rattle.merge.specs.Classify.{operand, comparisonConstraints, classifyComparison, classifyIsBetween}
 use Rattle.merge.specs.Classify.{classifyIsIn, classifyNull, classifyNegation, classifyRecord, classify}
+use Rattle.merge.proofs.PlainForms.{isColumn, isLiteral, isShortList, plainColumns, plainComparison}
+use Rattle.merge.proofs.PlainForms.{plainBinary, plainNegation, plainRecord, plainConjunct}
 
+-- What is to hold of each form that a conjunct is read as: C of the record of node n, of whether it is plain, and of
+-- what is read of it; given F of the nodes of the operands and of what they are seen as.
+pub record ReadForms {Val : Type 0} (R : ℕ → AExpr Val) (n : ℕ) (F : ℕ → Operand Val → Type 0)
+    (C : AExpr Val → Bool → Conjunct Val → Type 0) : Type 0 where
+  pub opaque : (r : AExpr Val) → C r false (Opaque n)
+  pub entered : (r : AExpr Val) (x c : ℕ) → F x (AColumn c) → C r false (Recorded false n c [])
+  pub compared :
+      (o : Comparison) (x y c : ℕ) (v : Val) → F x (AColumn c) → F y (ALiteral v) →
+      C (BinaryExpr (Compare o) x y) true (Bounds c (comparisonConstraints o v))
+  pub swapped :
+      (o : Comparison) (x y c : ℕ) (v : Val) → F x (ALiteral v) → F y (AColumn c) →
+      C (BinaryExpr (Compare o) x y) true (Bounds c (comparisonConstraints (swapComparison o) v))
+  pub equal :
+      (x y a b : ℕ) → F x (AColumn a) → F y (AColumn b) → C (BinaryExpr (Compare Eq) x y) true (Equality a b n)
+  pub paired :
+      (o : Comparison) (x y a b : ℕ) → F x (AColumn a) → F y (AColumn b) →
+      C (BinaryExpr (Compare o) x y) false (NonNullPair n a b)
+  pub between :
+      (i j : Bool) (x y z c : ℕ) (v w : Val) → F x (AColumn c) → F y (ALiteral v) → F z (ALiteral w) →
+      C (IsBetween i j x y z) true (Bounds c (Lower i v ∷ (Upper j w ∷ [])))
+  pub listed :
+      (e : Bool) (x y c : ℕ) (l : List Val) → F x (AColumn c) → F y (AList l) →
+      C (IsIn e x y) true (Recorded false n c (Allow l ∷ []))
+  pub unlisted :
+      (e : Bool) (a x y c : ℕ) (l : List Val) → R a ≡ IsIn e x y → F x (AColumn c) → F y (AList l) →
+      C (Not a) true (Recorded false n c (Disallow (not e) l ∷ []))
+  pub null : (x c : ℕ) → F x (AColumn c) → C (IsNull x) true (Recorded true n c (Require required.Null ∷ []))
+  pub nonNull : (x c : ℕ) → F x (AColumn c) → C (IsNotNull x) true (Recorded true n c (Require NonNull ∷ []))
+  pub notNull :
+      (a x c : ℕ) → R a ≡ IsNull x → F x (AColumn c) → C (Not a) true (Recorded true n c (Require NonNull ∷ []))
+  pub notNonNull :
+      (a x c : ℕ) → R a ≡ IsNotNull x → F x (AColumn c) →
+      C (Not a) true (Recorded true n c (Require required.Null ∷ []))
+
+module _ {Val : Type 0} (R : ℕ → AExpr Val) (n : ℕ) (F : ℕ → Operand Val → Type 0)
+    (C : AExpr Val → Bool → Conjunct Val → Type 0) (f : ReadForms R n F C) where
+  columns :
+      (o : Comparison) (x y a b : ℕ) → F x (AColumn a) → F y (AColumn b) →
+      C (BinaryExpr (Compare o) x y) (plainColumns o) (classifyColumnColumn n a b (some o))
+  columns Eq x y a b p q = f .equal x y a b p q
+  columns NotEq x y a b p q = f .paired NotEq x y a b p q
+  columns Lt x y a b p q = f .paired Lt x y a b p q
+  columns LtEq x y a b p q = f .paired LtEq x y a b p q
+  columns Gt x y a b p q = f .paired Gt x y a b p q
+  columns GtEq x y a b p q = f .paired GtEq x y a b p q
+
+  compares :
+      (o : Comparison) (x y : ℕ) (s t : Operand Val) → F x s → F y t →
+      C (BinaryExpr (Compare o) x y) (plainComparison o s t) (classifyComparison n (some o) s t)
+  compares o x y (AColumn c) (AColumn d) p q = columns o x y c d p q
+  compares o x y (AColumn c) (ALiteral v) p q = f .compared o x y c v p q
+  compares o x y (AColumn c) (AList l) p q = f .opaque (BinaryExpr (Compare o) x y)
+  compares o x y (AColumn c) Other p q = f .opaque (BinaryExpr (Compare o) x y)
+  compares o x y (ALiteral v) (AColumn c) p q = f .swapped o x y c v p q
+  compares o x y (ALiteral v) (ALiteral w) p q = f .opaque (BinaryExpr (Compare o) x y)
+  compares o x y (ALiteral v) (AList l) p q = f .opaque (BinaryExpr (Compare o) x y)
+  compares o x y (ALiteral v) Other p q = f .opaque (BinaryExpr (Compare o) x y)
+  compares o x y (AList l) t p q = f .opaque (BinaryExpr (Compare o) x y)
+  compares o x y Other t p q = f .opaque (BinaryExpr (Compare o) x y)
+
+  -- the other operators: a column beside a literal enters the table, and that is all
+  enters :
+      (r : AExpr Val) (x y : ℕ) (s t : Operand Val) → F x s → F y t → C r false (classifyComparison n none s t)
+  enters r x y (AColumn c) (AColumn d) p q = f .opaque r
+  enters r x y (AColumn c) (ALiteral v) p q = f .entered r x c p
+  enters r x y (AColumn c) (AList l) p q = f .opaque r
+  enters r x y (AColumn c) Other p q = f .opaque r
+  enters r x y (ALiteral v) (AColumn c) p q = f .entered r y c q
+  enters r x y (ALiteral v) (ALiteral w) p q = f .opaque r
+  enters r x y (ALiteral v) (AList l) p q = f .opaque r
+  enters r x y (ALiteral v) Other p q = f .opaque r
+  enters r x y (AList l) t p q = f .opaque r
+  enters r x y Other t p q = f .opaque r
+
+  binary :
+      (b : BinaryOp) (x y : ℕ) (s t : Operand Val) → F x s → F y t →
+      C (BinaryExpr b x y) (plainBinary b s t) (classifyComparison n (asComparison b) s t)
+  binary (Compare o) x y s t p q = compares o x y s t p q
+  binary EqValidity x y s t p q = enters (BinaryExpr EqValidity x y) x y s t p q
+  binary NotEqValidity x y s t p q = enters (BinaryExpr NotEqValidity x y) x y s t p q
+  binary And x y s t p q = enters (BinaryExpr And x y) x y s t p q
+  binary Or x y s t p q = enters (BinaryExpr Or x y) x y s t p q
+  binary Xor x y s t p q = enters (BinaryExpr Xor x y) x y s t p q
+  binary LogicalAnd x y s t p q = enters (BinaryExpr LogicalAnd x y) x y s t p q
+  binary LogicalOr x y s t p q = enters (BinaryExpr LogicalOr x y) x y s t p q
+
+  ends :
+      (i j : Bool) (x y z c : ℕ) (t u : Operand Val) → F x (AColumn c) → F y t → F z u →
+      C (IsBetween i j x y z) (isLiteral t && isLiteral u) (classifyIsBetween n i j (AColumn c) t u)
+  ends i j x y z c (ALiteral v) (ALiteral w) p q r = f .between i j x y z c v w p q r
+  ends i j x y z c (ALiteral v) (AColumn d) p q r = f .opaque (IsBetween i j x y z)
+  ends i j x y z c (ALiteral v) (AList l) p q r = f .opaque (IsBetween i j x y z)
+  ends i j x y z c (ALiteral v) Other p q r = f .opaque (IsBetween i j x y z)
+  ends i j x y z c (AColumn d) u p q r = f .opaque (IsBetween i j x y z)
+  ends i j x y z c (AList l) u p q r = f .opaque (IsBetween i j x y z)
+  ends i j x y z c Other u p q r = f .opaque (IsBetween i j x y z)
+
+  range :
+      (i j : Bool) (x y z : ℕ) (s t u : Operand Val) → F x s → F y t → F z u →
+      C (IsBetween i j x y z) (isColumn s && (isLiteral t && isLiteral u)) (classifyIsBetween n i j s t u)
+  range i j x y z (AColumn c) t u p q r = ends i j x y z c t u p q r
+  range i j x y z (ALiteral v) t u p q r = f .opaque (IsBetween i j x y z)
+  range i j x y z (AList l) t u p q r = f .opaque (IsBetween i j x y z)
+  range i j x y z Other t u p q r = f .opaque (IsBetween i j x y z)
+
+  -- is_in, or Not of it
+  member :
+      (r : AExpr Val) (says : List Val → Constraint Val) (x y : ℕ) (s t : Operand Val) →
+      ((c : ℕ) (l : List Val) → F x (AColumn c) → F y (AList l) → C r true (Recorded false n c (says l ∷ []))) →
+      F x s → F y t → C r (isColumn s && isShortList t) (classifyIsIn n says s t)
+  member r says x y (AColumn c) (AList l) g p q = g c l p q
+  member r says x y (AColumn c) (AColumn d) g p q = f .opaque r
+  member r says x y (AColumn c) (ALiteral v) g p q = f .opaque r
+  member r says x y (AColumn c) Other g p q = f .opaque r
+  member r says x y (ALiteral v) t g p q = f .opaque r
+  member r says x y (AList l) t g p q = f .opaque r
+  member r says x y Other t g p q = f .opaque r
+
+  -- a null test, or Not of it
+  nulls :
+      (r : AExpr Val) (m : Nullability) (x : ℕ) (s : Operand Val) →
+      ((c : ℕ) → F x (AColumn c) → C r true (Recorded true n c (Require m ∷ []))) → F x s →
+      C r (isColumn s) (classifyNull n m s)
+  nulls r m x (AColumn c) g p = g c p
+  nulls r m x (ALiteral v) g p = f .opaque r
+  nulls r m x (AList l) g p = f .opaque r
+  nulls r m x Other g p = f .opaque r
+
+  module _ (seen : (x : ℕ) → F x (operand (R x))) where
+    negations : (a : ℕ) (r : AExpr Val) → R a ≡ r → C (Not a) (plainNegation R r) (classifyNegation R n r)
+    negations a (Column c) e = f .opaque (Not a)
+    negations a (Literal v) e = f .opaque (Not a)
+    negations a Null e = f .opaque (Not a)
+    negations a (BinaryExpr b x y) e = f .opaque (Not a)
+    negations a (Not x) e = f .opaque (Not a)
+    negations a (IsNull x) e = nulls (Not a) NonNull x (operand (R x)) (λ c p. f .notNull a x c e p) (seen x)
+    negations a (IsNotNull x) e =
+        nulls (Not a) required.Null x (operand (R x)) (λ c p. f .notNonNull a x c e p) (seen x)
+    negations a (IsBetween c d x y z) e = f .opaque (Not a)
+    negations a (ListLiteral h l) e = f .opaque (Not a)
+    negations a (IsIn i x y) e =
+        member (Not a) (λ l. Disallow (not i) l) x y (operand (R x)) (operand (R y))
+        (λ c l p q. f .unlisted i a x y c l e p q) (seen x) (seen y)
+    negations a Missing e = f .opaque (Not a)
+
+    records : (r : AExpr Val) → C r (plainRecord R r) (classifyRecord R n r)
+    records (Column c) = f .opaque (Column c)
+    records (Literal v) = f .opaque (Literal v)
+    records Null = f .opaque Null
+    records (BinaryExpr b x y) = binary b x y (operand (R x)) (operand (R y)) (seen x) (seen y)
+    records (Not a) = negations a (R a) refl
+    records (IsNull x) = nulls (IsNull x) required.Null x (operand (R x)) (λ c p. f .null x c p) (seen x)
+    records (IsNotNull x) = nulls (IsNotNull x) NonNull x (operand (R x)) (λ c p. f .nonNull x c p) (seen x)
+    records (IsBetween i j x y z) =
+        range i j x y z (operand (R x)) (operand (R y)) (operand (R z)) (seen x) (seen y) (seen z)
+    records (ListLiteral h l) = f .opaque (ListLiteral h l)
+    records (IsIn e x y) =
+        member (IsIn e x y) (λ l. Allow l) x y (operand (R x)) (operand (R y)) (λ c l p q. f .listed e x y c l p q)
+        (seen x) (seen y)
+    records Missing = f .opaque Missing
+
+    pub read-ind : C (R n) (plainConjunct R n) (classify R n)
+    read-ind = records (R n)
+
+-- ---- The same where only what is read matters, and what the operands are.
 -- What a kept conjunct can say of its column: nothing that is written out.
 abbrev pub OnlyRecorded : {Val : Type 0} → Constraint Val → Type 0
 OnlyRecorded (Lower inclusive v) = ⊥
@@ -42,105 +209,23 @@ pub record Forms {Val : Type 0} (F : Operand Val → Type 0) (C : Conjunct Val �
       (z : Bool) (n c : ℕ) (x : Constraint Val) → OnlyRecorded x → F (AColumn c) → C (Recorded z n c (x ∷ []))
 
 module _ {Val : Type 0} (F : Operand Val → Type 0) (C : Conjunct Val → Type 0) (f : Forms F C) where
-  literal : (n c : ℕ) (v : Val) (b : BinaryOp) → F (AColumn c) → F (ALiteral v) → C (classifyColumnLiteral n c v b)
-  literal n c v (Compare o) p q = f .compared c o v p q
-  literal n c v EqValidity p q = f .entered n c p
-  literal n c v NotEqValidity p q = f .entered n c p
-  literal n c v And p q = f .entered n c p
-  literal n c v Or p q = f .entered n c p
-  literal n c v Xor p q = f .entered n c p
-  literal n c v LogicalAnd p q = f .entered n c p
-  literal n c v LogicalOr p q = f .entered n c p
+  read-forms : (R : ℕ → AExpr Val) (n : ℕ) → ReadForms R n (λ x s. F s) (λ r p c. C c)
+  read-forms R n =
+      record {
+        opaque = λ r. f .opaque n;
+        entered = λ r x c p. f .entered n c p;
+        compared = λ o x y c v p q. f .compared c o v p q;
+        swapped = λ o x y c v p q. f .compared c (swapComparison o) v q p;
+        equal = λ x y a b p q. f .equal a b n p q;
+        paired = λ o x y a b p q. f .paired n a b p q;
+        between = λ i j x y z c v w p q r. f .between c i j v w p q r;
+        listed = λ e x y c l p q. f .recorded false n c (Allow l) tt p;
+        unlisted = λ e a x y c l h p q. f .recorded false n c (Disallow (not e) l) tt p;
+        null = λ x c p. f .recorded true n c (Require required.Null) tt p;
+        nonNull = λ x c p. f .recorded true n c (Require NonNull) tt p;
+        notNull = λ a x c h p. f .recorded true n c (Require NonNull) tt p;
+        notNonNull = λ a x c h p. f .recorded true n c (Require required.Null) tt p;
+      }
 
-  columns : (n a b : ℕ) (o : Comparison) → F (AColumn a) → F (AColumn b) → C (classifyColumns n a b o)
-  columns n a b Eq p q = f .equal a b n p q
-  columns n a b NotEq p q = f .paired n a b p q
-  columns n a b Lt p q = f .paired n a b p q
-  columns n a b LtEq p q = f .paired n a b p q
-  columns n a b Gt p q = f .paired n a b p q
-  columns n a b GtEq p q = f .paired n a b p q
-
-  both : (n a b : ℕ) (o : BinaryOp) → F (AColumn a) → F (AColumn b) → C (classifyColumnColumn n a b o)
-  both n a b (Compare o) p q = columns n a b o p q
-  both n a b EqValidity p q = f .opaque n
-  both n a b NotEqValidity p q = f .opaque n
-  both n a b And p q = f .opaque n
-  both n a b Or p q = f .opaque n
-  both n a b Xor p q = f .opaque n
-  both n a b LogicalAnd p q = f .opaque n
-  both n a b LogicalOr p q = f .opaque n
-
-  binary : (n : ℕ) (b : BinaryOp) (s t : Operand Val) → F s → F t → C (classifyComparison n b s t)
-  binary n b (AColumn c) (AColumn d) p q = both n c d b p q
-  binary n b (AColumn c) (ALiteral v) p q = literal n c v b p q
-  binary n b (AColumn c) (AList l) p q = f .opaque n
-  binary n b (AColumn c) Other p q = f .opaque n
-  binary n b (ALiteral v) (AColumn c) p q = literal n c v (swapOperands b) q p
-  binary n b (ALiteral v) (ALiteral w) p q = f .opaque n
-  binary n b (ALiteral v) (AList l) p q = f .opaque n
-  binary n b (ALiteral v) Other p q = f .opaque n
-  binary n b (AList l) t p q = f .opaque n
-  binary n b Other t p q = f .opaque n
-
-  ends : (n c : ℕ) (i j : Bool) (t u : Operand Val) → F (AColumn c) → F t → F u → C (classifyEnds n i j c t u)
-  ends n c i j (ALiteral v) (ALiteral w) p q r = f .between c i j v w p q r
-  ends n c i j (ALiteral v) (AColumn d) p q r = f .opaque n
-  ends n c i j (ALiteral v) (AList l) p q r = f .opaque n
-  ends n c i j (ALiteral v) Other p q r = f .opaque n
-  ends n c i j (AColumn d) u p q r = f .opaque n
-  ends n c i j (AList l) u p q r = f .opaque n
-  ends n c i j Other u p q r = f .opaque n
-
-  range : (n : ℕ) (i j : Bool) (s t u : Operand Val) → F s → F t → F u → C (classifyIsBetween n i j s t u)
-  range n i j (AColumn c) t u p q r = ends n c i j t u p q r
-  range n i j (ALiteral v) t u p q r = f .opaque n
-  range n i j (AList l) t u p q r = f .opaque n
-  range n i j Other t u p q r = f .opaque n
-
-  member :
-      (n : ℕ) (a : List Val → Constraint Val) → ((l : List Val) → OnlyRecorded (a l)) → (s t : Operand Val) → F s →
-      C (classifyIsIn n a s t)
-  member n a o (AColumn c) (AList l) p = f .recorded false n c (a l) (o l) p
-  member n a o (AColumn c) (AColumn d) p = f .opaque n
-  member n a o (AColumn c) (ALiteral v) p = f .opaque n
-  member n a o (AColumn c) Other p = f .opaque n
-  member n a o (ALiteral v) t p = f .opaque n
-  member n a o (AList l) t p = f .opaque n
-  member n a o Other t p = f .opaque n
-
-  nulls : (n : ℕ) (m : Nullability) (s : Operand Val) → F s → C (classifyNull n m s)
-  nulls n m (AColumn c) p = f .recorded true n c (Require m) tt p
-  nulls n m (ALiteral v) p = f .opaque n
-  nulls n m (AList l) p = f .opaque n
-  nulls n m Other p = f .opaque n
-
-  module _ (R : ℕ → AExpr Val) (seen : (x : ℕ) → F (operand (R x))) where
-    negations : (n : ℕ) (r : AExpr Val) → C (classifyNegation R n r)
-    negations n (Column c) = f .opaque n
-    negations n (Literal v) = f .opaque n
-    negations n Null = f .opaque n
-    negations n (BinaryExpr b x y) = f .opaque n
-    negations n (Not x) = f .opaque n
-    negations n (IsNull x) = nulls n NonNull (operand (R x)) (seen x)
-    negations n (IsNotNull x) = nulls n required.Null (operand (R x)) (seen x)
-    negations n (IsBetween c d x y z) = f .opaque n
-    negations n (ListLiteral h l) = f .opaque n
-    negations n (IsIn e x y) = member n (λ l. Disallow (not e) l) (λ l. tt) (operand (R x)) (operand (R y)) (seen x)
-    negations n Missing = f .opaque n
-
-    records : (n : ℕ) (r : AExpr Val) → C (classifyRecord R n r)
-    records n (Column c) = f .opaque n
-    records n (Literal v) = f .opaque n
-    records n Null = f .opaque n
-    records n (BinaryExpr b x y) = binary n b (operand (R x)) (operand (R y)) (seen x) (seen y)
-    records n (Not x) = negations n (R x)
-    records n (IsNull x) = nulls n required.Null (operand (R x)) (seen x)
-    records n (IsNotNull x) = nulls n NonNull (operand (R x)) (seen x)
-    records n (IsBetween c d x y z) =
-        range n c d (operand (R x)) (operand (R y)) (operand (R z)) (seen x) (seen y) (seen z)
-    records n (ListLiteral h l) = f .opaque n
-    records n (IsIn e x y) = member n (λ l. Allow l) (λ l. tt) (operand (R x)) (operand (R y)) (seen x)
-    records n Missing = f .opaque n
-
-    pub classify-ind : (n : ℕ) → C (classify R n)
-    classify-ind n = records n (R n)
+  pub classify-ind : (R : ℕ → AExpr Val) → ((x : ℕ) → F (operand (R x))) → (n : ℕ) → C (classify R n)
+  classify-ind R seen n = read-ind R n (λ x s. F s) (λ r p c. C c) (read-forms R n) seen

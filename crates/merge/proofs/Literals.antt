@@ -1,32 +1,34 @@
 -- What holds of every column and literal of a screen holds of those of the answer.
+use Rattle.constraints.proofs.Resolves.{resolveIf, rangeOf}
+use Rattle.truth.specs.Order.{isEqual}
 use mathlib.Core.Bool.{Bool, true, false, _||_, cond}
-use mathlib.Core.List.{List, [], _∷_, _++_}
+use mathlib.Core.List.{List, [], _∷_, _++_, map}
 use mathlib.Core.Option.{Option, none, some}
 use Prim.Native.Nat.{ℕ, zero, suc}
 use lib.Dec.{eqb, ltb}
 use lib.ListN.{length}
 use Rattle.truth.specs.declared.scalar.Ordering.{Ordering}
 use Rattle.truth.specs.declared.scalar.Ordering.the-variants.{Equal, Greater, Less}
-use Rattle.constraints.specs.Bound.{Bound, absent, at, tighten, tightenBy}
+use Rattle.constraints.specs.Bound.{Bound, absent, at, tighten, tightenBy, ofBound}
 use Rattle.constraints.specs.Column.{Allow, ColumnConstraints, Constraint, Disallow, Exclude, Lower, Require, Upper}
-use Rattle.constraints.specs.Column.{add, addAll, addBy, allowedOf, emitted, excludedOf, lowerOf, mergeFrom, put}
-use Rattle.constraints.specs.Column.{recorded, upperOf}
-use Rattle.constraints.specs.Comparisons.{ColumnComparison, collectBy, collectColumnComparisons, excludedComparisons}
-use Rattle.constraints.specs.Comparisons.{lowerComparison, upperComparison}
-use Rattle.constraints.specs.Resolve.{Range, classifyAt, fixedAt, fixedBy, openAt, rangeOf, resolveDeferred}
-use Rattle.constraints.specs.Resolve.{resolveExcluded, resolveIf, resolveBy}
+use Rattle.constraints.specs.Column.{add, addAll, allowedOf, emitted, mergeFrom, put}
+use Rattle.constraints.specs.Column.{recorded}
+use Rattle.constraints.specs.Comparisons.{ColumnComparison, collectBy, collectColumnComparisons, IsLower, IsUpper}
+use Rattle.constraints.specs.Comparisons.{IsNotEq}
+use Rattle.constraints.specs.Resolve.{Range, classifyAt, fixedAt, openAt, resolveDeferred}
+use Rattle.constraints.specs.Resolve.{resolveExcluded, resolveBy}
 use Rattle.constraints.specs.Scalars.{Scalars, opposite}
-use Rattle.constraints.specs.Values.{contains, insert, insertBy}
+use Rattle.constraints.specs.Values.{contains, insert}
 use Rattle.constraints.specs.declared.column.ExcludedResolution.{ExcludedResolution}
 use Rattle.constraints.specs.declared.column.ExcludedResolution.the-variants.{Drop, Keep, TightenLower, TightenUpper}
 use Rattle.constraints.specs.declared.column.Nullability.the-variants.{NonNull}
 use Rattle.merge.proofs.Passes.{edge-ind}
 use Rattle.merge.proofs.Sound.{upd-ind}
 use Rattle.merge.specs.Classify.{Bounds, Conjunct, Equality, NonNullPair, Opaque, Recorded}
-use Rattle.merge.specs.Collect.{Collected, Table, addTo, begin, collect, collectIf, collectOne, enter, isIn}
+use Rattle.merge.specs.Collect.{Collected, Table, addTo, begin, collect, collectOne, enter, isIn}
 use Rattle.merge.specs.Collect.{requireNonNull}
 use Rattle.merge.specs.Emit.{NothingPasses, Outcome, Rebuilt, Unchanged, anyUnsat, comparisons, conclude}
-use Rattle.merge.specs.Emit.{droppedEquality, keptEqualities, mergeFilterConstraints, ofColumn, outcomeBy}
+use Rattle.merge.specs.Emit.{droppedEquality, keptEqualities, mergeFilterConstraints, ofColumn}
 use Rattle.merge.specs.Emit.{propagated, resolved}
 use Rattle.merge.specs.Propagate.{mergeEdge, mergedRight, pass, passAny, propagate, propagateEmitted}
 use Rattle.merge.specs.Rebuild.{valueOf}
@@ -78,7 +80,7 @@ module _ {K Val : Type 0} (S : Scalars K Val) (P : Val → Type 0) (opens : (w e
   ins-p : (v : Val) (l : List Val) → P v → ListP P l → ListP P (insert S v l)
   ins-p v l p h = go (contains S (S .key v) l)
     where
-      go : (b : Bool) → ListP P (insertBy b v l)
+      go : (b : Bool) → ListP P (cond b l (l ++ (v ∷ [])))
       go true = h
       go false = list-snoc P l v h p
 
@@ -95,19 +97,19 @@ module _ {K Val : Type 0} (S : Scalars K Val) (P : Val → Type 0) (opens : (w e
   addAll-p [] q p h = h
   addAll-p (a ∷ l) q p h = addAll-p l (add S a q) (p .1) (go (q .unsat))
     where
-      go : (b : Bool) → ColumnP P (addBy S b a q)
+      go : (b : Bool) → ColumnP P (cond b q (put S a q))
       go true = h
       go false = put-p a q (p .0) h
 
-  lows-p : (b : Bound Val) → BoundP P b → ConstraintsP P (lowerOf b)
+  lows-p : (b : Bound Val) → BoundP P b → ConstraintsP P (ofBound Lower b)
   lows-p absent h = tt
   lows-p (at c v) h = (h, tt)
 
-  ups-p : (b : Bound Val) → BoundP P b → ConstraintsP P (upperOf b)
+  ups-p : (b : Bound Val) → BoundP P b → ConstraintsP P (ofBound Upper b)
   ups-p absent h = tt
   ups-p (at c v) h = (h, tt)
 
-  excs-p : (l : List Val) → ListP P l → ConstraintsP P (excludedOf l)
+  excs-p : (l : List Val) → ListP P l → ConstraintsP P (map Exclude l)
   excs-p [] h = tt
   excs-p (v ∷ l) h = (h .0, excs-p l (h .1))
 
@@ -118,8 +120,10 @@ module _ {K Val : Type 0} (S : Scalars K Val) (P : Val → Type 0) (opens : (w e
   mergeFrom-p : (q r : ColumnConstraints Val) → ColumnP P q → ColumnP P r → ColumnP P (mergeFrom S q r)
   mergeFrom-p q r h k = addAll-p (recorded r) (addAll S (emitted r) q)
       (adds-app P (allowedOf (r .allowed)) (Disallow false (r .disallowed) ∷ []) (allows-p (r .allowed)) (tt, tt))
-      (addAll-p (emitted r) q (adds-app P (lowerOf (r .lower)) (upperOf (r .upper) ++ excludedOf (r .excluded))
-      (lows-p (r .lower) (k .0)) (adds-app P (upperOf (r .upper)) (excludedOf (r .excluded)) (ups-p (r .upper) (k .1))
+      (addAll-p (emitted r) q (adds-app P (ofBound Lower (r .lower))
+      (ofBound Upper (r .upper) ++ map Exclude (r .excluded))
+      (lows-p (r .lower) (k .0)) (adds-app P (ofBound Upper (r .upper)) (map Exclude (r .excluded))
+      (ups-p (r .upper) (k .1))
       (excs-p (r .excluded) (k .2)))) h)
 
   abbrev TabP : Table Val → Type 0
@@ -129,7 +133,7 @@ module _ {K Val : Type 0} (S : Scalars K Val) (P : Val → Type 0) (opens : (w e
   pass-p [] t h = h
   pass-p (e ∷ es) t h =
       let b : ColumnP P (mergedRight S (e .0) (e .1) t) = mergeFrom-p (t (e .1)) (t (e .0)) (h (e .1)) (h (e .0)) in
-      pass-p es (mergeEdge S (eqb (e .0) (e .1)) (e .0) (e .1) t)
+      pass-p es (mergeEdge S (e .0) (e .1) t)
       (edge-ind S (λ c q. ColumnP P q) (e .0) (e .1) t h b
       (mergeFrom-p (t (e .0)) (mergedRight S (e .0) (e .1) t) (h (e .0)) b) (eqb (e .0) (e .1)))
 
@@ -138,7 +142,7 @@ module _ {K Val : Type 0} (S : Scalars K Val) (P : Val → Type 0) (opens : (w e
   run-p (suc n) es t h = go (passAny S es t) (run-p n es (pass S es t) (pass-p es t h))
     where
       go : (b : Bool) → TabP (propagate S n es (pass S es t)) →
-          TabP (elim b as (λ x. Table Val) [ true ↦ propagate S n es (pass S es t) | false ↦ pass S es t ])
+          TabP (cond b (propagate S n es (pass S es t)) (pass S es t))
       go true k = k
       go false k = pass-p es t h
 
@@ -176,15 +180,15 @@ module _ {K Val : Type 0} (S : Scalars K Val) (P : Val → Type 0) (opens : (w e
   comps-app [] m h k = k
   comps-app (x ∷ l) m h k = (h .0, comps-app l m (h .1) k)
 
-  lo-p : (b : Bound Val) → BoundP P b → ComparisonsP (lowerComparison b)
+  lo-p : (b : Bound Val) → BoundP P b → ComparisonsP (ofBound IsLower b)
   lo-p absent h = tt
   lo-p (at c v) h = (h, tt)
 
-  hi-p : (b : Bound Val) → BoundP P b → ComparisonsP (upperComparison b)
+  hi-p : (b : Bound Val) → BoundP P b → ComparisonsP (ofBound IsUpper b)
   hi-p absent h = tt
   hi-p (at c v) h = (h, tt)
 
-  ne-p : (l : List Val) → ListP P l → ComparisonsP (excludedComparisons l)
+  ne-p : (l : List Val) → ListP P l → ComparisonsP (map IsNotEq l)
   ne-p [] h = tt
   ne-p (v ∷ l) h = (h .0, ne-p l (h .1))
 
@@ -199,7 +203,7 @@ module _ {K Val : Type 0} (S : Scalars K Val) (P : Val → Type 0) (opens : (w e
   pin-p (at true v) (at false w) h = tt
   pin-p (at true v) (at true w) h = go (S .order .cmp (S .key v) (S .key w))
     where
-      go : (o : Ordering) → PinP (fixedBy o v)
+      go : (o : Ordering) → PinP (cond (isEqual o) (some v) none)
       go Less = tt
       go Equal = h
       go Greater = tt
@@ -209,9 +213,9 @@ module _ {K Val : Type 0} (S : Scalars K Val) (P : Val → Type 0) (opens : (w e
     where
       go : (o : Option Val) → PinP o → ComparisonsP (collectBy o q)
       go (some v) p = (p, tt)
-      go none p = comps-app (lowerComparison (q .lower))
-          (upperComparison (q .upper) ++ excludedComparisons (q .excluded)) (lo-p (q .lower) (h .0))
-          (comps-app (upperComparison (q .upper)) (excludedComparisons (q .excluded)) (hi-p (q .upper) (h .1))
+      go none p = comps-app (ofBound IsLower (q .lower))
+          (ofBound IsUpper (q .upper) ++ map IsNotEq (q .excluded)) (lo-p (q .lower) (h .0))
+          (comps-app (ofBound IsUpper (q .upper)) (map IsNotEq (q .excluded)) (hi-p (q .upper) (h .1))
           (ne-p (q .excluded) (h .2)))
 
   abbrev pub WrittenP : List (ℕ × ColumnComparison Val) → Type 0
@@ -283,9 +287,9 @@ module _ {K Val : Type 0} (S : Scalars K Val) (P : Val → Type 0) (opens : (w e
 
   readAll-p : (l : List (Conjunct Val)) (s : Collected Val) → ConjunctsP l → StP s → StP (collect S l s)
   readAll-p [] s p h = h
-  readAll-p (x ∷ l) s p h = readAll-p l (collectIf S (s .unsat) x s) (p .1) (go (s .unsat))
+  readAll-p (x ∷ l) s p h = readAll-p l (cond (s .unsat) s (collectOne S x s)) (p .1) (go (s .unsat))
     where
-      go : (b : Bool) → StP (collectIf S b x s)
+      go : (b : Bool) → StP (cond b s (collectOne S x s))
       go true = h
       go false = read-p x s (p .0) h
 
@@ -300,8 +304,9 @@ module _ {K Val : Type 0} (S : Scalars K Val) (P : Val → Type 0) (opens : (w e
       (propagateEmitted S (length (s .order)) (s .edges) (s .constraints) || droppedEquality S (propagated S s)
       (s .edges)))
     where
-      go : (b d : Bool) → OutcomeP (outcomeBy b d (Rebuilt (s .opaque ++ keptEqualities S (propagated S s) (s .edges))
-          (comparisons S (s .order) (resolved S s))))
+      go : (b d : Bool) → OutcomeP (cond b NothingPasses (cond d
+          (Rebuilt (s .opaque ++ keptEqualities S (propagated S s) (s .edges))
+          (comparisons S (s .order) (resolved S s))) Unchanged))
       go true d = tt
       go false true = written-p (s .order) (resolved S s) (h .1)
           (λ c. resolve-p (propagated S s c) (run-p (length (s .order)) (s .edges) (s .constraints) (h .0) c))

@@ -2,7 +2,7 @@
 -- what is rebuilt cannot be empty.
 use mathlib.Core.Path.{_≡_, refl, sym, _∙_, ap}
 use mathlib.Core.Bool.{Bool, true, false, true≢false}
-use mathlib.Core.List.{List, [], _∷_, _++_}
+use mathlib.Core.List.{List, [], _∷_, _++_, map}
 use mathlib.Core.Option.{Option, none, some, Option·none-ne-some}
 use Prim.Native.Nat.{ℕ, zero, suc, _<_}
 use native.Mathlib.Omega.{arith}
@@ -14,7 +14,7 @@ use Rattle.truth.specs.declared.logic.Truth.the-variants.{False}
 use Rattle.constraints.specs.Scalars.{Scalars}
 use Rattle.constraints.specs.Values.{isEmpty}
 use Rattle.merge.specs.Minterms.{andSides, minterms, mintermsBy, sidesOf}
-use Rattle.merge.specs.Classify.{Conjunct, classify, classifyAll, conjuncts}
+use Rattle.merge.specs.Classify.{Conjunct, classify, conjuncts}
 use Rattle.merge.specs.Emit.{NothingPasses, Outcome, Rebuilt, Unchanged}
 use Rattle.merge.proofs.Chains.{minterms-law}
 use Rattle.merge.proofs.Comparisons.{comparison-null}
@@ -90,11 +90,11 @@ module _ {K Val : Type 0} (S : Scalars K Val) (H : HalfPoints S) (tk : TruthKeys
       })
       R (λ x. tt) n
 
-  bare-fair : (R : ℕ → AExpr Val) (l : List ℕ) → FairAll S ρ0 N0 (classifyAll R l)
+  bare-fair : (R : ℕ → AExpr Val) (l : List ℕ) → FairAll S ρ0 N0 (map (classify R) l)
   bare-fair R [] = tt
   bare-fair R (n ∷ l) = (bare R n .0, bare-fair R l)
 
-  bare-none : (R : ℕ → AExpr Val) (l : List ℕ) → isEmpty l ≡ false → HoldsAll S ρ0 N0 (classifyAll R l) → ⊥
+  bare-none : (R : ℕ → AExpr Val) (l : List ℕ) → isEmpty l ≡ false → HoldsAll S ρ0 N0 (map (classify R) l) → ⊥
   bare-none R [] e h = true≢false e
   bare-none R (n ∷ l) e h = bare R n .1 (h .0)
 

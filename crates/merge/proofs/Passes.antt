@@ -1,6 +1,7 @@
 -- Passes over the equalities, and why they end.
+use Rattle.merge.specs.Passes.{passTimes, passCount}
 use mathlib.Core.Path.{_≡_, refl, sym, _∙_, ap, subst}
-use mathlib.Core.Bool.{Bool, true, false, not, _||_, cond, true≢false, or-true}
+use mathlib.Core.Bool.{Bool, true, false, not, _||_, cond, true≢false, or-true, _&&_}
 use mathlib.Core.List.{List, [], _∷_}
 use mathlib.Core.Logic.{_⊎_, inl, inr}
 use Prim.Native.Nat.{ℕ, zero, suc, _+_, _≤_, _<_}
@@ -9,12 +10,13 @@ use native.Mathlib.Decide.{decLe}
 use lib.Dec.{T, eqb, eqb→eq, eqb-refl}
 use lib.ListN.{length}
 use Rattle.constraints.proofs.Facts.{Fact, Newly, has, merge-from, merge-has, merge-keeps, merge-new}
-use Rattle.constraints.specs.Column.{ColumnConstraints, Constraint, addAll, addBy, emitted, mergeAny, mergeFrom}
+use Rattle.constraints.specs.Column.{ColumnConstraints, Constraint, addAll, emitted, mergeAny, mergeFrom, put}
+use Rattle.constraints.specs.Column.{mergeEmitted}
 use Rattle.constraints.specs.Column.{recorded}
 use Rattle.constraints.specs.Scalars.{Scalars}
 use Rattle.merge.specs.Collect.{Table, update}
-use Rattle.merge.specs.Propagate.{edgeAny, mergeEdge, mergedLeft, mergedRight, pass, passAny, passCount}
-use Rattle.merge.specs.Propagate.{passTimes, propagate}
+use Rattle.merge.specs.Propagate.{edgeAny, mergeEdge, mergedLeft, mergedRight, pass, passAny}
+use Rattle.merge.specs.Propagate.{propagate}
 
 pub eqb-path : (a c : ℕ) → eqb a c ≡ true → a ≡ c
 eqb-path a c e = eqb→eq a c (subst T (sym e) tt)
@@ -27,17 +29,28 @@ eqb-self a = go (eqb a a) (eqb-refl a)
     go false h = absurd h
 
 module _ {K Val : Type 0} (S : Scalars K Val) where
+  -- An edge, by whether its columns are the same.
+  abbrev pub mergeEdgeIf : Bool → ℕ → ℕ → Table Val → Table Val
+  mergeEdgeIf o a b t = cond o t (update (update t b (mergedRight S a b t)) a (mergedLeft S a b t))
+
+  abbrev pub edgeAnyIf : Bool → ℕ → ℕ → Table Val → Bool
+  edgeAnyIf o a b t = not o && (mergeAny S (t b) (t a) || mergeAny S (t a) (mergedRight S a b t))
+
+  abbrev pub edgeEmittedIf : Bool → ℕ → ℕ → Table Val → Bool
+  edgeEmittedIf o a b t = not o && (mergeEmitted S (t b) (t a) || mergeEmitted S (t a) (mergedRight S a b t))
+
+module _ {K Val : Type 0} (S : Scalars K Val) where
   -- ---- an impossible column stays as it is
   addAll-unsat : (l : List (Constraint Val)) (q : ColumnConstraints Val) → q .unsat ≡ true → addAll S l q ≡ q
   addAll-unsat [] q h = refl
-  addAll-unsat (a ∷ l) q h = subst (λ b. addAll S l (addBy S b a q) ≡ q) (sym h) (addAll-unsat l q h)
+  addAll-unsat (a ∷ l) q h = subst (λ b. addAll S l (cond b q (put S a q)) ≡ q) (sym h) (addAll-unsat l q h)
 
   pub merge-unsat : (q r : ColumnConstraints Val) → q .unsat ≡ true → mergeFrom S q r ≡ q
   merge-unsat q r h = ap (addAll S (recorded r)) (addAll-unsat (emitted r) q h) ∙ addAll-unsat (recorded r) q h
 
   -- a property of the two merged columns holds of the table after the edge
   pub edge-ind : (P : ℕ → ColumnConstraints Val → Type 0) (a b : ℕ) (t : Table Val) → ((c : ℕ) → P c (t c)) →
-      P b (mergedRight S a b t) → P a (mergedLeft S a b t) → (o : Bool) (c : ℕ) → P c (mergeEdge S o a b t c)
+      P b (mergedRight S a b t) → P a (mergedLeft S a b t) → (o : Bool) (c : ℕ) → P c (mergeEdgeIf S o a b t c)
   edge-ind P a b t h hb ha true c = h c
   edge-ind P a b t h hb ha false c = goA (eqb a c) refl
     where
@@ -49,7 +62,7 @@ module _ {K Val : Type 0} (S : Scalars K Val) where
       goA true e = subst (λ d. P d (mergedLeft S a b t)) (eqb-path a c e) ha
       goA false e = goB (eqb b c) refl
 
-  pub edge-unsat : (a b : ℕ) (t : Table Val) (o : Bool) (c : ℕ) → t c .unsat ≡ true → mergeEdge S o a b t c .unsat ≡
+  pub edge-unsat : (a b : ℕ) (t : Table Val) (o : Bool) (c : ℕ) → t c .unsat ≡ true → mergeEdgeIf S o a b t c .unsat ≡
       true
   edge-unsat a b t = edge-ind (λ c q. t c .unsat ≡ true → q .unsat ≡ true) a b t (λ c h. h)
       (λ h. ap (λ q. q .unsat) (merge-unsat (t b) (t a) h) ∙ h)
@@ -57,7 +70,7 @@ module _ {K Val : Type 0} (S : Scalars K Val) where
 
   pub pass-unsat : (es : List (ℕ × ℕ × ℕ)) (t : Table Val) (c : ℕ) → t c .unsat ≡ true → pass S es t c .unsat ≡ true
   pass-unsat [] t c h = h
-  pass-unsat (e ∷ es) t c h = pass-unsat es (mergeEdge S (eqb (e .0) (e .1)) (e .0) (e .1) t) c
+  pass-unsat (e ∷ es) t c h = pass-unsat es (mergeEdge S (e .0) (e .1) t) c
       (edge-unsat (e .0) (e .1) t (eqb (e .0) (e .1)) c h)
 
   abbrev pub In : ℕ → List ℕ → Type 0
@@ -68,23 +81,23 @@ module _ {K Val : Type 0} (S : Scalars K Val) where
   EdgesIn cs [] = Unit {0}
   EdgesIn cs (e ∷ es) = (In (e .0) cs × In (e .1) cs) × EdgesIn cs es
 
-  pub at-a : (a b : ℕ) (t : Table Val) → mergeEdge S false a b t a ≡ mergedLeft S a b t
+  pub at-a : (a b : ℕ) (t : Table Val) → mergeEdgeIf S false a b t a ≡ mergedLeft S a b t
   at-a a b t = ap (λ x. cond x (mergedLeft S a b t) (update t b (mergedRight S a b t) a)) (eqb-self a)
 
-  pub at-b : (a b : ℕ) (t : Table Val) → eqb a b ≡ false → mergeEdge S false a b t b ≡ mergedRight S a b t
+  pub at-b : (a b : ℕ) (t : Table Val) → eqb a b ≡ false → mergeEdgeIf S false a b t b ≡ mergedRight S a b t
   at-b a b t e = ap (λ x. cond x (mergedLeft S a b t) (update t b (mergedRight S a b t) b)) e ∙
       ap (λ x. cond x (mergedRight S a b t) (t b)) (eqb-self b)
 
   module _ (f : Fact K Val) where
     step-keeps : (a b : ℕ) (t : Table Val) (o : Bool) (c : ℕ) → has S f (t c) ≡ true →
-        has S f (mergeEdge S o a b t c) ≡ true
+        has S f (mergeEdgeIf S o a b t c) ≡ true
     step-keeps a b t = edge-ind (λ c q. has S f (t c) ≡ true → has S f q ≡ true) a b t (λ c h. h)
         (λ h. merge-keeps S f (t b) (t a) h) (λ h. merge-keeps S f (t a) (mergedRight S a b t) h)
 
     pass-keeps : (es : List (ℕ × ℕ × ℕ)) (t : Table Val) (c : ℕ) → has S f (t c) ≡ true → has S f (pass S es t c) ≡
         true
     pass-keeps [] t c h = h
-    pass-keeps (e ∷ es) t c h = pass-keeps es (mergeEdge S (eqb (e .0) (e .1)) (e .0) (e .1) t) c
+    pass-keeps (e ∷ es) t c h = pass-keeps es (mergeEdge S (e .0) (e .1) t) c
         (step-keeps (e .0) (e .1) t (eqb (e .0) (e .1)) c h)
 
     -- ---- an edge whose ends agree on the fact, or whose end that lacks it is impossible
@@ -110,7 +123,7 @@ module _ {K Val : Type 0} (S : Scalars K Val) where
         go false e true g = dead (h g) e
         go false e false g = merge-from S f q r e g
 
-    settled-still : (a b : ℕ) (t : Table Val) → Settled a b t → (o : Bool) (c : ℕ) → has S f (mergeEdge S o a b t c) ≡
+    settled-still : (a b : ℕ) (t : Table Val) → Settled a b t → (o : Bool) (c : ℕ) → has S f (mergeEdgeIf S o a b t c) ≡
         has S f (t c)
     settled-still a b t s = edge-ind (λ c q. has S f q ≡ has S f (t c)) a b t (λ c. refl) hb
         (merge-same (t a) (mergedRight S a b t) (λ h. s .1 (sym hb ∙ h)))
@@ -136,7 +149,7 @@ module _ {K Val : Type 0} (S : Scalars K Val) where
         has S f (t c)
     settled-pass [] t s c = refl
     settled-pass (e ∷ es) t s c =
-        let u : Table Val = mergeEdge S (eqb (e .0) (e .1)) (e .0) (e .1) t in
+        let u : Table Val = mergeEdge S (e .0) (e .1) t in
         let h : (c : ℕ) → has S f (u c) ≡ has S f (t c) = settled-still (e .0) (e .1) t (s .0) (eqb (e .0) (e .1)) in
         settled-pass es u (persist-all es t u h (edge-unsat (e .0) (e .1) t (eqb (e .0) (e .1))) (s .1)) c ∙ h c
 
@@ -206,7 +219,7 @@ module _ {K Val : Type 0} (S : Scalars K Val) where
         go true e = inr e
         go false e = inl (merge-has S f q r e ∙ ap (λ x. has S f q || x) h ∙ or-true (has S f q))
 
-    step-settles : (a b : ℕ) (t : Table Val) (o : Bool) → eqb a b ≡ o → Settled a b (mergeEdge S o a b t)
+    step-settles : (a b : ℕ) (t : Table Val) (o : Bool) → eqb a b ≡ o → Settled a b (mergeEdgeIf S o a b t)
     step-settles a b t true e = (
       λ h. inl (subst (λ x. has S f (t x) ≡ true) (eqb-path a b e) h),
       λ h. inl (subst (λ x. has S f (t x) ≡ true) (sym (eqb-path a b e)) h),
@@ -217,21 +230,21 @@ module _ {K Val : Type 0} (S : Scalars K Val) where
     )
       where
         wrapB : (has S f (mergedRight S a b t) ≡ true) ⊎ (mergedRight S a b t .unsat ≡ true) →
-            (has S f (mergeEdge S false a b t b) ≡ true) ⊎ (mergeEdge S false a b t b .unsat ≡ true)
+            (has S f (mergeEdgeIf S false a b t b) ≡ true) ⊎ (mergeEdgeIf S false a b t b .unsat ≡ true)
         wrapB x = subst (λ q. (has S f q ≡ true) ⊎ (q .unsat ≡ true)) (sym (at-b a b t e)) x
 
-        to-b : has S f (mergedLeft S a b t) ≡ true → (has S f (mergeEdge S false a b t b) ≡ true) ⊎
-            (mergeEdge S false a b t b .unsat ≡ true)
+        to-b : has S f (mergedLeft S a b t) ≡ true → (has S f (mergeEdgeIf S false a b t b) ≡ true) ⊎
+            (mergeEdgeIf S false a b t b .unsat ≡ true)
         to-b h = go (has S f (mergedRight S a b t)) refl (has S f (t a)) refl
           where
             go : (x : Bool) → has S f (mergedRight S a b t) ≡ x → (y : Bool) → has S f (t a) ≡ y →
-                (has S f (mergeEdge S false a b t b) ≡ true) ⊎ (mergeEdge S false a b t b .unsat ≡ true)
+                (has S f (mergeEdgeIf S false a b t b) ≡ true) ⊎ (mergeEdgeIf S false a b t b .unsat ≡ true)
             go true p y q = wrapB (inl p)
             go false p true q = wrapB (takes (t b) (t a) q)
             go false p false q = absurd (true≢false (sym h ∙ merge-from S f (t a) (mergedRight S a b t) q p))
 
-        to-a : has S f (mergedRight S a b t) ≡ true → (has S f (mergeEdge S false a b t a) ≡ true) ⊎
-            (mergeEdge S false a b t a .unsat ≡ true)
+        to-a : has S f (mergedRight S a b t) ≡ true → (has S f (mergeEdgeIf S false a b t a) ≡ true) ⊎
+            (mergeEdgeIf S false a b t a .unsat ≡ true)
         to-a h = subst (λ q. (has S f q ≡ true) ⊎ (q .unsat ≡ true)) (sym (at-a a b t))
             (takes (t a) (mergedRight S a b t) h)
 
@@ -254,7 +267,7 @@ module _ {K Val : Type 0} (S : Scalars K Val) where
         ((c : ℕ) → In c cs → has S f (pass S es t c) ≡ has S f (t c)) → AllSettled es (pass S es t)
     pass-settles cs [] t i h = tt
     pass-settles cs (e ∷ es) t i h =
-        let u : Table Val = mergeEdge S (eqb (e .0) (e .1)) (e .0) (e .1) t in
+        let u : Table Val = mergeEdge S (e .0) (e .1) t in
         let g : (c : ℕ) → In c cs → has S f (pass S es u c) ≡ has S f (u c) =
         λ c j. between (has S f (t c)) (has S f (u c)) (has S f (pass S es u c))
         (step-keeps (e .0) (e .1) t (eqb (e .0) (e .1)) c) (pass-keeps es u c) (h c j) in (
@@ -267,7 +280,7 @@ module _ {K Val : Type 0} (S : Scalars K Val) where
     none-pass : (cs : List ℕ) (es : List (ℕ × ℕ × ℕ)) (t : Table Val) → EdgesIn cs es →
         ((c : ℕ) → In c cs → has S f (t c) ≡ false) → (c : ℕ) → In c cs → has S f (pass S es t c) ≡ false
     none-pass cs [] t i h = h
-    none-pass cs (e ∷ es) t i h = none-pass cs es (mergeEdge S (eqb (e .0) (e .1)) (e .0) (e .1) t) (i .1)
+    none-pass cs (e ∷ es) t i h = none-pass cs es (mergeEdge S (e .0) (e .1) t) (i .1)
         (edge-ind (λ c q. In c cs → has S f q ≡ false) (e .0) (e .1) t h (λ j. b)
         (λ j. merge-from S f (t (e .0)) (mergedRight S (e .0) (e .1) t) (h (e .0) (i .0 .0)) b) (eqb (e .0) (e .1)))
       where
@@ -321,7 +334,7 @@ module _ {K Val : Type 0} (S : Scalars K Val) where
   pass-new : (cs : List ℕ) (es : List (ℕ × ℕ × ℕ)) (t : Table Val) → EdgesIn cs es → passAny S es t ≡ true →
       (f : Fact K Val) × (c : ℕ) × In c cs × (has S f (t c) ≡ false) × (has S f (pass S es t c) ≡ true)
   pass-new cs [] t i h = absurd (true≢false (sym h))
-  pass-new cs (e ∷ es) t i h = go (eqb a b) refl (edgeAny S (eqb a b) a b t) refl h (pass-new cs es u (i .1))
+  pass-new cs (e ∷ es) t i h = go (eqb a b) refl (edgeAny S a b t) refl h (pass-new cs es u (i .1))
     where
       a : ℕ
       a = e .0
@@ -330,7 +343,7 @@ module _ {K Val : Type 0} (S : Scalars K Val) where
       b = e .1
 
       u : Table Val
-      u = mergeEdge S (eqb a b) a b t
+      u = mergeEdge S a b t
 
       Out : Type 0
       Out = (f : Fact K Val) × (c : ℕ) × In c cs × (has S f (t c) ≡ false) × (has S f (pass S es u c) ≡ true)
@@ -348,12 +361,12 @@ module _ {K Val : Type 0} (S : Scalars K Val) where
 
       merged : eqb a b ≡ false → (x : Bool) → mergeAny S (t b) (t a) ≡ x →
           (x || mergeAny S (t a) (mergedRight S a b t)) ≡ true → Out
-      merged p true m h = now b (mergedRight S a b t) (i .0 .1) (ap (λ o. mergeEdge S o a b t b) p ∙ at-b a b t p)
+      merged p true m h = now b (mergedRight S a b t) (i .0 .1) (ap (λ o. mergeEdgeIf S o a b t b) p ∙ at-b a b t p)
           (merge-new S (t b) (t a) m)
-      merged p false m h = now a (mergedLeft S a b t) (i .0 .0) (ap (λ o. mergeEdge S o a b t a) p ∙ at-a a b t)
+      merged p false m h = now a (mergedLeft S a b t) (i .0 .0) (ap (λ o. mergeEdgeIf S o a b t a) p ∙ at-a a b t)
           (merge-new S (t a) (mergedRight S a b t) h)
 
-      go : (o : Bool) → eqb a b ≡ o → (m : Bool) → edgeAny S o a b t ≡ m → (m || passAny S es u) ≡ true →
+      go : (o : Bool) → eqb a b ≡ o → (m : Bool) → edgeAnyIf S o a b t ≡ m → (m || passAny S es u) ≡ true →
           (passAny S es u ≡ true → (f : Fact K Val) × (c : ℕ) × In c cs × (has S f (u c) ≡ false) ×
           (has S f (pass S es u c) ≡ true)) → Out
       go o p false m h ih = later (ih h)
@@ -377,7 +390,7 @@ module _ {K Val : Type 0} (S : Scalars K Val) where
   propagate-ends (suc n) es t j l q = go (passAny S es t) refl (λ i. propagate-ends n es (pass S es t) i) j l q
     where
       Out : Bool → Type 0
-      Out b = (k : ℕ) × ((elim b as (λ x. Table Val) [ true ↦ propagate S n es (pass S es t) | false ↦ pass S es t ])
+      Out b = (k : ℕ) × (cond b (propagate S n es (pass S es t)) (pass S es t)
           ≡ pass S es (passTimes S k es t)) × (passAny S es (passTimes S k es t) ≡ false)
 
       go : (b : Bool) → passAny S es t ≡ b → ((i : ℕ) → i < n → passAny S es (passTimes S i es (pass S es t)) ≡
@@ -406,7 +419,7 @@ module _ {K Val : Type 0} (S : Scalars K Val) where
     where
       go : (b : Bool) → passAny S es t ≡ b → (j : ℕ) → passAny S es (passTimes S j es t) ≡ false →
           ((i : ℕ) → passAny S es (passTimes S i es (pass S es t)) ≡ false → passCount S n es (pass S es t) ≤ suc i) →
-          suc (elim b as (λ x. ℕ) [ true ↦ passCount S n es (pass S es t) | false ↦ 0 ]) ≤ suc j
+          suc (cond b (passCount S n es (pass S es t)) 0) ≤ suc j
       go false e j q ih = omega arith
       go true e zero q ih = absurd (true≢false (sym e ∙ q))
       go true e (suc j) q ih = omega (arith, ih j q)

@@ -1,7 +1,7 @@
 -- Plain conjuncts by the forms of their operands, as the readers see them; the same as the definition of plain
 -- screens.
 use mathlib.Core.Path.{_≡_, refl, sym, _∙_, ap}
-use mathlib.Core.Bool.{Bool, true, false, not, _&&_, _||_, and-true, and-false}
+use mathlib.Core.Bool.{Bool, true, false, not, _&&_, _||_, and-true, and-false, cond}
 use mathlib.Core.List.{List, [], _∷_}
 use Prim.Native.Nat.{ℕ}
 use lib.Dec.{leb}
@@ -11,7 +11,7 @@ use Rattle.truth.specs.AExpr.{AExpr, Column, Literal, Null, BinaryExpr, Not, Is
 use Rattle.truth.specs.AExpr.{ListLiteral}
 use Rattle.truth.specs.AExpr.{IsIn, Missing}
 use Rattle.truth.specs.AExpr.{BinaryOp, Compare, EqValidity, NotEqValidity, And, Or, Xor, LogicalAnd, LogicalOr}
-use Rattle.merge.specs.Classify.{Operand, AColumn, ALiteral, AList, Other, listOperand, operand}
+use Rattle.merge.specs.Classify.{Operand, AColumn, ALiteral, AList, Other, operand}
 use Rattle.merge.specs.Plain as plain
 
 abbrev pub isColumn : {Val : Type 0} → Operand Val → Bool
@@ -109,7 +109,7 @@ column-same (IsNotNull a) = refl
 column-same (IsBetween i j a low high) = refl
 column-same (ListLiteral h l) = go h (leb (length l) 100)
   where
-    go : (h b : Bool) → false ≡ isColumn (listOperand h b l)
+    go : (h b : Bool) → false ≡ isColumn (cond (not h && b) (AList l) Other)
     go true b = refl
     go false true = refl
     go false false = refl
@@ -127,7 +127,7 @@ literal-same (IsNotNull a) = refl
 literal-same (IsBetween i j a low high) = refl
 literal-same (ListLiteral h l) = go h (leb (length l) 100)
   where
-    go : (h b : Bool) → false ≡ isLiteral (listOperand h b l)
+    go : (h b : Bool) → false ≡ isLiteral (cond (not h && b) (AList l) Other)
     go true b = refl
     go false true = refl
     go false false = refl
@@ -145,7 +145,7 @@ list-same (IsNotNull a) = refl
 list-same (IsBetween i j a low high) = refl
 list-same (ListLiteral h l) = go h (leb (length l) 100)
   where
-    go : (h b : Bool) → (not h && b) ≡ isShortList (listOperand h b l)
+    go : (h b : Bool) → (not h && b) ≡ isShortList (cond (not h && b) (AList l) Other)
     go true b = refl
     go false true = refl
     go false false = refl

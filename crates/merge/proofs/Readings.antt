@@ -1,6 +1,6 @@
 -- What is read of a conjunct says what the conjunct means.
 use mathlib.Core.Path.{_≡_, refl, sym, _∙_, ap}
-use mathlib.Core.Bool.{Bool, true, false, not, _&&_, true≢false, and-true}
+use mathlib.Core.Bool.{Bool, true, false, not, _&&_, true≢false, and-true, cond}
 use mathlib.Core.List.{List, [], _∷_}
 use mathlib.Core.Option.{Option, none, some, Option·none-ne-some, Option·some-injective}
 use mathlib.Core.Logic.{_↔_}
@@ -9,10 +9,9 @@ use lib.Dec.{leb}
 use lib.ListN.{length}
 use Rattle.truth.proofs.Cells.{and-is-true, cell-law}
 use Rattle.truth.proofs.Orders.{cmp-eq, cmp-gt, cmp-lt}
-use Rattle.truth.specs.AExpr.{AExpr, And, BinaryExpr, BinaryOp, Column, Compare, EqValidity, Inputs, IsBetween, IsIn}
-use Rattle.truth.specs.AExpr.{IsNotNull, IsNull, ListLiteral, Literal, LogicalAnd, LogicalOr, Missing, Not}
-use Rattle.truth.specs.AExpr.{NotEqValidity, Null, Or, Xor}
-use Rattle.truth.specs.Cell.{Cell, TruthKeys, binary3, cellAt, compare3, highComparison, isNull, lowComparison, step}
+use Rattle.truth.specs.AExpr.{AExpr, BinaryExpr, Column, Inputs, IsBetween, IsIn, IsNotNull, IsNull, ListLiteral}
+use Rattle.truth.specs.AExpr.{Literal, Missing, Not, Null}
+use Rattle.truth.specs.Cell.{Cell, TruthKeys, cellAt, compare3, highComparison, isNull, lowComparison, step}
 use Rattle.truth.specs.Comparison.{Comparison, Eq, Gt, GtEq, Lt, LtEq, NotEq, comparisonHolds}
 use Rattle.truth.specs.Logic.{and3, isTrue, not3, ofBool}
 use Rattle.truth.specs.Membership.{in3}
@@ -32,14 +31,10 @@ use Rattle.merge.proofs.Complete.{Exact}
 use Rattle.merge.proofs.Sound.{Fair, Holds}
 use Rattle.merge.proofs.Witness.{HalfPoints}
 use Rattle.merge.specs.Classify.{AColumn, AList, ALiteral, Bounds, Conjunct, Equality, NonNullPair, Opaque}
-use Rattle.merge.specs.Classify.{Operand, Other, Recorded, classify, classifyColumnColumn}
-use Rattle.merge.specs.Classify.{classifyColumnLiteral, classifyColumns, classifyComparison, classifyEnds}
-use Rattle.merge.specs.Classify.{classifyIsBetween, classifyIsIn, classifyNegation, classifyNull}
-use Rattle.merge.specs.Classify.{classifyRecord, comparisonConstraints, listOperand, operand, swapComparison}
-use Rattle.merge.specs.Classify.{swapOperands}
-use Rattle.merge.proofs.PlainForms.{isColumn, isLiteral, isShortList, plainBinary, plainColumns}
-use Rattle.merge.proofs.PlainForms.{plainComparison}
-use Rattle.merge.proofs.PlainForms.{plainConjunct, plainNegation, plainRecord}
+use Rattle.merge.specs.Classify.{Operand, Other, Recorded, classify, comparisonConstraints, operand}
+use Rattle.merge.specs.Classify.{swapComparison}
+use Rattle.merge.proofs.Forms.{ReadForms, read-ind}
+use Rattle.merge.proofs.PlainForms.{plainConjunct}
 use Rattle.constraints.specs.declared.column.Nullability.the-variants as required
 
 pub true-of : (b : Bool) → isTrue (ofBool b) ≡ b
@@ -265,7 +260,7 @@ module _ {K Val : Type 0} (S : Scalars K Val) (H : HalfPoints S) (tk : TruthKeys
   shaped (IsBetween c d x y z) p e = tt
   shaped (ListLiteral h l) p e = go h (leb (length l) 100) (ap (λ q. q .holdsNull) e)
     where
-      go : (h b : Bool) → p .holdsNull ≡ h → Shaped (listOperand h b l) p
+      go : (h b : Bool) → p .holdsNull ≡ h → Shaped (cond (not h && b) (AList l) Other) p
       go true b m = tt
       go false true m = (m, ap (λ q. q .values) e)
       go false false m = tt
@@ -294,183 +289,88 @@ module _ {K Val : Type 0} (S : Scalars K Val) (H : HalfPoints S) (tk : TruthKeys
   abbrev is : ℕ → Truth → Type 0
   is n t = N n ≡ isTrue t
 
-  reads-columns : (n a b : ℕ) (o : Comparison) → is n (compare3 (S .key) (S .order) tk o (ρ a) (ρ b)) →
-      ReadsAs n (plainColumns o) (classifyColumns n a b o)
-  reads-columns n a b Eq e = (
-    (λ h. h, λ h. h),
-    (
-      λ h. eq-mean S tk (ρ a) (ρ b) .0 (sym e ∙ h),
-      λ l. e ∙
-          eq-mean S tk (ρ a) (ρ b) .1 l,
-    ),
-    (λ p l. e ∙ eq-mean S tk (ρ a) (ρ b) .1 l),
-    refl,
-  )
-  reads-columns n a b NotEq e = (
-    (λ h. h, λ h. h),
-    (λ h. pair-mean S tk NotEq (ρ a) (ρ b) (sym e ∙ h)),
-    (λ h. absurd (true≢false (sym h))),
-    refl,
-  )
-  reads-columns n a b Lt e = (
-    (λ h. h, λ h. h),
-    (λ h. pair-mean S tk Lt (ρ a) (ρ b) (sym e ∙ h)),
-    (λ h. absurd (true≢false (sym h))),
-    refl,
-  )
-  reads-columns n a b LtEq e = (
-    (λ h. h, λ h. h),
-    (λ h. pair-mean S tk LtEq (ρ a) (ρ b) (sym e ∙ h)),
-    (λ h. absurd (true≢false (sym h))),
-    refl,
-  )
-  reads-columns n a b Gt e = (
-    (λ h. h, λ h. h),
-    (λ h. pair-mean S tk Gt (ρ a) (ρ b) (sym e ∙ h)),
-    (λ h. absurd (true≢false (sym h))),
-    refl,
-  )
-  reads-columns n a b GtEq e = (
-    (λ h. h, λ h. h),
-    (λ h. pair-mean S tk GtEq (ρ a) (ρ b) (sym e ∙ h)),
-    (λ h. absurd (true≢false (sym h))),
-    refl,
-  )
-
-  reads-op : (n : ℕ) (o : Comparison) (s t : Operand Val) (p q : Cell K Val) → Shaped s p → Shaped t q →
-      is n (compare3 (S .key) (S .order) tk o (p .value) (q .value)) →
-      ReadsAs n (plainComparison o s t) (classifyComparison n (Compare o) s t)
-  reads-op n o (AColumn c) (AColumn d) p q a b e = reads-columns n c d o (e ∙ rw (a, b))
-  reads-op n o (AColumn c) (ALiteral v) p q a b e = bounds n c (comparisonConstraints o v) true
+  -- ---- each form, over the operands' cells p, q, r
+  reads-compared : (n : ℕ) (o : Comparison) (c : ℕ) (v : Val) (p q : Cell K Val) → p .value ≡ ρ c →
+      q .value ≡ some (S .key v) → is n (compare3 (S .key) (S .order) tk o (p .value) (q .value)) →
+      ReadsAs n true (Bounds c (comparisonConstraints o v))
+  reads-compared n o c v p q a b e = bounds n c (comparisonConstraints o v) true
       (comparison-mean S tk o v (ρ c) ∙ sym (e ∙ rw (a, b))) (comparison-recorded S tk o v)
-  reads-op n o (AColumn c) (AList l) p q a b e = apart n
-  reads-op n o (AColumn c) Other p q a b e = apart n
-  reads-op n o (ALiteral v) (AColumn c) p q a b e = bounds n c (comparisonConstraints (swapComparison o) v) true
+
+  reads-swapped : (n : ℕ) (o : Comparison) (c : ℕ) (v : Val) (p q : Cell K Val) → p .value ≡ some (S .key v) →
+      q .value ≡ ρ c → is n (compare3 (S .key) (S .order) tk o (p .value) (q .value)) →
+      ReadsAs n true (Bounds c (comparisonConstraints (swapComparison o) v))
+  reads-swapped n o c v p q a b e = bounds n c (comparisonConstraints (swapComparison o) v) true
       (comparison-mean S tk (swapComparison o) v (ρ c) ∙
       sym (e ∙ rw (a, b) (ap isTrue (compare-swap S tk o (some (S .key v)) (ρ c)))))
       (comparison-recorded S tk (swapComparison o) v)
-  reads-op n o (ALiteral v) (ALiteral w) p q a b e = apart n
-  reads-op n o (ALiteral v) (AList l) p q a b e = apart n
-  reads-op n o (ALiteral v) Other p q a b e = apart n
-  reads-op n o (AList l) t p q a b e = apart n
-  reads-op n o Other t p q a b e = apart n
 
-  -- the other operators: a column beside a literal enters the table, and that is all
-  reads-else : (n : ℕ) (b : BinaryOp) (s t : Operand Val) →
-      ((c : ℕ) (v : Val) → ReadsAs n false (classifyColumnLiteral n c v b) × ReadsAs n false
-      (classifyColumnLiteral n c v (swapOperands b))) → ((c d : ℕ) → ReadsAs n false (classifyColumnColumn n c d b)) →
-      ReadsAs n false (classifyComparison n b s t)
-  reads-else n b (AColumn c) (AColumn d) f g = g c d
-  reads-else n b (AColumn c) (ALiteral v) f g = f c v .0
-  reads-else n b (AColumn c) (AList l) f g = apart n
-  reads-else n b (AColumn c) Other f g = apart n
-  reads-else n b (ALiteral v) (AColumn c) f g = f c v .1
-  reads-else n b (ALiteral v) (ALiteral w) f g = apart n
-  reads-else n b (ALiteral v) (AList l) f g = apart n
-  reads-else n b (ALiteral v) Other f g = apart n
-  reads-else n b (AList l) t f g = apart n
-  reads-else n b Other t f g = apart n
+  reads-equal : (n a b : ℕ) (p q : Cell K Val) → p .value ≡ ρ a → q .value ≡ ρ b →
+      is n (compare3 (S .key) (S .order) tk Eq (p .value) (q .value)) → ReadsAs n true (Equality a b n)
+  reads-equal n a b p q i j h =
+      let e : is n (compare3 (S .key) (S .order) tk Eq (ρ a) (ρ b)) = h ∙ rw (i, j) in
+      let m = eq-mean S tk (ρ a) (ρ b) in
+      ((λ h. h, λ h. h), (λ h. m .0 (sym e ∙ h), λ l. e ∙ m .1 l), (λ p l. e ∙ m .1 l), refl)
 
-  reads-bin : (n x y : ℕ) (b : BinaryOp) → is n (binary3 (S .key) (S .order) tk b (E x) (E y)) →
-      ReadsAs n (plainBinary b (operand (R x)) (operand (R y)))
-      (classifyComparison n b (operand (R x)) (operand (R y)))
-  reads-bin n x y (Compare o) e = reads-op n o (operand (R x)) (operand (R y)) (E x) (E y) (seen x) (seen y) e
-  reads-bin n x y EqValidity e = reads-else n EqValidity (operand (R x)) (operand (R y))
-      (λ c v. (enters n c, enters n c)) (λ c d. apart n)
-  reads-bin n x y NotEqValidity e = reads-else n NotEqValidity (operand (R x)) (operand (R y))
-      (λ c v. (enters n c, enters n c)) (λ c d. apart n)
-  reads-bin n x y And e = reads-else n And (operand (R x)) (operand (R y)) (λ c v. (enters n c, enters n c))
-      (λ c d. apart n)
-  reads-bin n x y Or e = reads-else n Or (operand (R x)) (operand (R y)) (λ c v. (enters n c, enters n c))
-      (λ c d. apart n)
-  reads-bin n x y Xor e = reads-else n Xor (operand (R x)) (operand (R y)) (λ c v. (enters n c, enters n c))
-      (λ c d. apart n)
-  reads-bin n x y LogicalAnd e = reads-else n LogicalAnd (operand (R x)) (operand (R y))
-      (λ c v. (enters n c, enters n c)) (λ c d. apart n)
-  reads-bin n x y LogicalOr e = reads-else n LogicalOr (operand (R x)) (operand (R y))
-      (λ c v. (enters n c, enters n c)) (λ c d. apart n)
+  reads-paired : (n : ℕ) (o : Comparison) (a b : ℕ) (p q : Cell K Val) → p .value ≡ ρ a → q .value ≡ ρ b →
+      is n (compare3 (S .key) (S .order) tk o (p .value) (q .value)) → ReadsAs n false (NonNullPair n a b)
+  reads-paired n o a b p q i j h =
+      let e : is n (compare3 (S .key) (S .order) tk o (ρ a) (ρ b)) = h ∙ rw (i, j) in
+      ((λ h. h, λ h. h), (λ h. pair-mean S tk o (ρ a) (ρ b) (sym e ∙ h)), (λ h. absurd (true≢false (sym h))), refl)
 
-  reads-ends : (n c : ℕ) (i j : Bool) (t u : Operand Val) (p q r : Cell K Val) → p .value ≡ ρ c → Shaped t q →
-      Shaped u r → is n (and3 (compare3 (S .key) (S .order) tk (lowComparison i) (p .value) (q .value))
+  reads-between : (n : ℕ) (i j : Bool) (c : ℕ) (v w : Val) (p q r : Cell K Val) → p .value ≡ ρ c →
+      q .value ≡ some (S .key v) → r .value ≡ some (S .key w) →
+      is n (and3 (compare3 (S .key) (S .order) tk (lowComparison i) (p .value) (q .value))
       (compare3 (S .key) (S .order) tk (highComparison j) (p .value) (r .value))) →
-      ReadsAs n (isLiteral t && isLiteral u) (classifyEnds n i j c t u)
-  reads-ends n c i j (ALiteral v) (ALiteral w) p q r a b d e = bounds n c (Lower i v ∷ (Upper j w ∷ [])) true
+      ReadsAs n true (Bounds c (Lower i v ∷ (Upper j w ∷ [])))
+  reads-between n i j c v w p q r a b d e = bounds n c (Lower i v ∷ (Upper j w ∷ [])) true
       (between-mean S tk i j v w (ρ c) ∙ sym (e ∙ rw (a, b, d))) (λ x. refl)
-  reads-ends n c i j (ALiteral v) (AColumn k) p q r a b d e = apart n
-  reads-ends n c i j (ALiteral v) (AList l) p q r a b d e = apart n
-  reads-ends n c i j (ALiteral v) Other p q r a b d e = apart n
-  reads-ends n c i j (AColumn k) u p q r a b d e = apart n
-  reads-ends n c i j (AList l) u p q r a b d e = apart n
-  reads-ends n c i j Other u p q r a b d e = apart n
 
-  reads-between : (n : ℕ) (i j : Bool) (s t u : Operand Val) (p q r : Cell K Val) → Shaped s p → Shaped t q →
-      Shaped u r → is n (and3 (compare3 (S .key) (S .order) tk (lowComparison i) (p .value) (q .value))
-      (compare3 (S .key) (S .order) tk (highComparison j) (p .value) (r .value))) →
-      ReadsAs n (isColumn s && (isLiteral t && isLiteral u)) (classifyIsBetween n i j s t u)
-  reads-between n i j (AColumn c) t u p q r a b d e = reads-ends n c i j t u p q r a b d e
-  reads-between n i j (ALiteral v) t u p q r a b d e = apart n
-  reads-between n i j (AList l) t u p q r a b d e = apart n
-  reads-between n i j Other t u p q r a b d e = apart n
+  -- is_in and Not of it: f is what the list makes of the value, a is what it says of the column
+  reads-in : (n c : ℕ) (a : Constraint Val) (l : List Val) (f : Bool → List Val → Option K → Truth) →
+      ((x : Option K) → obeysAll S (a ∷ []) x ≡ isTrue (f false l x)) → (p q : Cell K Val) → p .value ≡ ρ c →
+      Shaped (AList l) q → is n (f (q .holdsNull) (q .values) (p .value)) →
+      ReadsAs n true (Recorded false n c (a ∷ []))
+  reads-in n c a l f m p q i j e = keeps false n c a true (m (ρ c) ∙ sym (e ∙ rw (i, j .0, j .1)))
 
-  -- is_in and Not of it: f is what the list makes of the value
-  reads-in : (n : ℕ) (a : List Val → Constraint Val) (f : Bool → List Val → Option K → Truth) →
-      ((l : List Val) (x : Option K) → obeysAll S (a l ∷ []) x ≡ isTrue (f false l x)) →
-      (s t : Operand Val) (p q : Cell K Val) → Shaped s p → Shaped t q →
-      is n (f (q .holdsNull) (q .values) (p .value)) → ReadsAs n (isColumn s && isShortList t) (classifyIsIn n a s t)
-  reads-in n a f m (AColumn c) (AList l) p q i j e =
-      keeps false n c (a l) true (m l (ρ c) ∙ sym (e ∙ rw (i, j .0, j .1)))
-  reads-in n a f m (AColumn c) (AColumn d) p q i j e = apart n
-  reads-in n a f m (AColumn c) (ALiteral v) p q i j e = apart n
-  reads-in n a f m (AColumn c) Other p q i j e = apart n
-  reads-in n a f m (ALiteral v) t p q i j e = apart n
-  reads-in n a f m (AList l) t p q i j e = apart n
-  reads-in n a f m Other t p q i j e = apart n
+  reads-null : (n c : ℕ) (w : Nullability) (f : Option K → Truth) →
+      ((x : Option K) → obeysAll S (Require w ∷ []) x ≡ isTrue (f x)) → (p : Cell K Val) → p .value ≡ ρ c →
+      is n (f (p .value)) → ReadsAs n true (Recorded true n c (Require w ∷ []))
+  reads-null n c w f m p i e = keeps true n c (Require w) true (m (ρ c) ∙ sym (e ∙ rw i))
 
-  reads-null : (n : ℕ) (w : Nullability) (f : Option K → Truth) →
-      ((x : Option K) → obeysAll S (Require w ∷ []) x ≡ isTrue (f x)) → (s : Operand Val) (p : Cell K Val) →
-      Shaped s p → is n (f (p .value)) → ReadsAs n (isColumn s) (classifyNull n w s)
-  reads-null n w f m (AColumn c) p i e = keeps true n c (Require w) true (m (ρ c) ∙ sym (e ∙ rw i))
-  reads-null n w f m (ALiteral v) p i e = apart n
-  reads-null n w f m (AList l) p i e = apart n
-  reads-null n w f m Other p i e = apart n
+  -- Not of node a, whose record is r
+  negated : (n a : ℕ) (r : AExpr Val) → R a ≡ r → is n (not3 (E a .truth)) →
+      is n (not3 (step (S .key) (S .order) tk ρ E r .truth))
+  negated n a r h e = e ∙ ap (λ c. isTrue (not3 (c .truth))) (cell-law (S .key) (S .order) tk R ρ a (wf a)) ∙
+      ap (λ s. isTrue (not3 (step (S .key) (S .order) tk ρ E s .truth))) h
 
-  reads-not : (n : ℕ) (r : AExpr Val) → is n (not3 (step (S .key) (S .order) tk ρ E r .truth)) →
-      ReadsAs n (plainNegation R r) (classifyNegation R n r)
-  reads-not n (Column c) e = apart n
-  reads-not n (Literal v) e = apart n
-  reads-not n Null e = apart n
-  reads-not n (BinaryExpr b x y) e = apart n
-  reads-not n (Not x) e = apart n
-  reads-not n (IsNull x) e = reads-null n NonNull (λ z. not3 (ofBool (isNull z))) (not-null-mean S tk) (operand (R x))
-      (E x) (seen x) e
-  reads-not n (IsNotNull x) e = reads-null n required.Null (λ z. not3 (ofBool (not (isNull z))))
-      (not-nonNull-mean S tk) (operand (R x)) (E x) (seen x) e
-  reads-not n (IsBetween c d x y z) e = apart n
-  reads-not n (ListLiteral h l) e = apart n
-  reads-not n (IsIn i x y) e = reads-in n (λ l. Disallow (not i) l) (λ h l z. not3 (in3 (S .key) (S .order) i h l z))
-      (not-in-mean S tk i) (operand (R x)) (operand (R y)) (E x) (E y) (seen x) (seen y) e
-  reads-not n Missing e = apart n
+  -- a conjunct that is read of the record of node n
+  abbrev Reads : ℕ → AExpr Val → Bool → Conjunct Val → Type 0
+  Reads n r p c = is n (step (S .key) (S .order) tk ρ E r .truth) → ReadsAs n p c
 
-  reads-rec : (n : ℕ) (r : AExpr Val) → is n (step (S .key) (S .order) tk ρ E r .truth) →
-      ReadsAs n (plainRecord R r) (classifyRecord R n r)
-  reads-rec n (Column c) e = apart n
-  reads-rec n (Literal v) e = apart n
-  reads-rec n Null e = apart n
-  reads-rec n (BinaryExpr b x y) e = reads-bin n x y b e
-  reads-rec n (Not x) e = reads-not n (R x)
-      (e ∙ ap (λ c. isTrue (not3 (c .truth))) (cell-law (S .key) (S .order) tk R ρ x (wf x)))
-  reads-rec n (IsNull x) e = reads-null n required.Null (λ z. ofBool (isNull z)) (null-mean S tk) (operand (R x))
-      (E x) (seen x) e
-  reads-rec n (IsNotNull x) e = reads-null n NonNull (λ z. ofBool (not (isNull z))) (nonNull-mean S tk)
-      (operand (R x)) (E x) (seen x) e
-  reads-rec n (IsBetween c d x y z) e = reads-between n c d (operand (R x)) (operand (R y)) (operand (R z)) (E x)
-      (E y) (E z) (seen x) (seen y) (seen z) e
-  reads-rec n (ListLiteral h l) e = apart n
-  reads-rec n (IsIn i x y) e = reads-in n (λ l. Allow l) (λ h l z. in3 (S .key) (S .order) i h l z) (in-mean S tk i)
-      (operand (R x)) (operand (R y)) (E x) (E y) (seen x) (seen y) e
-  reads-rec n Missing e = apart n
+  forms : (n : ℕ) → ReadForms R n (λ x s. Shaped s (E x)) (Reads n)
+  forms n =
+      record {
+        opaque = λ r e. apart n;
+        entered = λ r x c h e. enters n c;
+        compared = λ o x y c v h k e. reads-compared n o c v (E x) (E y) h k e;
+        swapped = λ o x y c v h k e. reads-swapped n o c v (E x) (E y) h k e;
+        equal = λ x y a b h k e. reads-equal n a b (E x) (E y) h k e;
+        paired = λ o x y a b h k e. reads-paired n o a b (E x) (E y) h k e;
+        between = λ i j x y z c v w h k l e. reads-between n i j c v w (E x) (E y) (E z) h k l e;
+        listed = λ i x y c l h k e. reads-in n c (Allow l) l (λ h l z. in3 (S .key) (S .order) i h l z)
+            (in-mean S tk i l) (E x) (E y) h k e;
+        unlisted = λ i a x y c l g h k e. reads-in n c (Disallow (not i) l) l
+            (λ h l z. not3 (in3 (S .key) (S .order) i h l z)) (not-in-mean S tk i l) (E x) (E y) h k
+            (negated n a (IsIn i x y) g e);
+        null = λ x c h e. reads-null n c required.Null (λ z. ofBool (isNull z)) (null-mean S tk) (E x) h e;
+        nonNull = λ x c h e. reads-null n c NonNull (λ z. ofBool (not (isNull z))) (nonNull-mean S tk) (E x) h e;
+        notNull = λ a x c g h e. reads-null n c NonNull (λ z. not3 (ofBool (isNull z))) (not-null-mean S tk) (E x) h
+            (negated n a (IsNull x) g e);
+        notNonNull = λ a x c g h e. reads-null n c required.Null (λ z. not3 (ofBool (not (isNull z))))
+            (not-nonNull-mean S tk) (E x) h (negated n a (IsNotNull x) g e);
+      }
 
   -- what is read of node n says when it is true, and is exact where n is plain
   pub classified-rightly : (n : ℕ) → ReadsAs n (plainConjunct R n) (classify R n)
-  classified-rightly n = reads-rec n (R n)
+  classified-rightly n = read-ind R n (λ x s. Shaped s (E x)) (Reads n) (forms n) seen
       (ap (λ c. isTrue (c .truth)) (cell-law (S .key) (S .order) tk R ρ n (wf n)))

@@ -1,7 +1,7 @@
 -- The screen returned lets the same rows pass as the screen sent.
 use mathlib.Core.Path.{_≡_, sym, _∙_, ap, subst}
-use mathlib.Core.Bool.{Bool, true, false, _||_, true≢false, and-eq-true-iff}
-use mathlib.Core.List.{List, [], _∷_, _++_}
+use mathlib.Core.Bool.{Bool, true, false, _||_, true≢false, and-eq-true-iff, cond}
+use mathlib.Core.List.{List, [], _∷_, _++_, map}
 use mathlib.Core.Option.{Option, none, some}
 use mathlib.Core.Logic.{_↔_}
 use Prim.Native.Nat.{ℕ, suc, _<_}
@@ -19,14 +19,14 @@ use Rattle.merge.proofs.Chains.{Below, allTrue, below-app, below-more, 
 use Rattle.merge.proofs.Readings.{Names, classified-rightly}
 use Rattle.merge.proofs.Rebuilding.{Built, holds, nodes-iff, put-new, putRecord, rebuild, rebuild-true}
 use Rattle.merge.proofs.Rebuilding.{written-iff, writtenHolds}
-use Rattle.merge.proofs.Sound.{and-both}
+use Rattle.merge.proofs.Sound.{and-both, keptBy}
 use Rattle.merge.proofs.Whole.{Keeps, is-true, outcome, outcome-keeps}
 use Rattle.merge.proofs.Witness.{HalfPoints}
 use Rattle.merge.specs.Classify.{Bounds, Conjunct, Equality, NonNullPair, Opaque, Recorded, classify}
-use Rattle.merge.specs.Classify.{classifyAll, conjuncts}
-use Rattle.merge.specs.Collect.{Collected, Table, begin, collect, collectIf, collectOne}
+use Rattle.merge.specs.Classify.{conjuncts}
+use Rattle.merge.specs.Collect.{Collected, Table, begin, collect, collectOne}
 use Rattle.merge.specs.Emit.{NothingPasses, Outcome, Rebuilt, Unchanged, anyUnsat, comparisons, conclude}
-use Rattle.merge.specs.Emit.{droppedEquality, keptBy, keptEqualities, mergeFilterConstraints, outcomeBy}
+use Rattle.merge.specs.Emit.{droppedEquality, keptEqualities, mergeFilterConstraints}
 use Rattle.merge.specs.Emit.{propagated, resolved}
 use Rattle.merge.specs.Minterms.{minterms}
 use Rattle.merge.specs.Propagate.{propagateEmitted}
@@ -64,9 +64,9 @@ module _ {K Val : Type 0} (S : Scalars K Val) (u : ℕ) where
 
   readAll-lt : (l : List (Conjunct Val)) (s : Collected Val) → NodesLt l → StLt s → StLt (collect S l s)
   readAll-lt [] s h k = k
-  readAll-lt (c ∷ l) s h k = readAll-lt l (collectIf S (s .unsat) c s) (h .1) (go (s .unsat))
+  readAll-lt (c ∷ l) s h k = readAll-lt l (cond (s .unsat) s (collectOne S c s)) (h .1) (go (s .unsat))
     where
-      go : (b : Bool) → StLt (collectIf S b c s)
+      go : (b : Bool) → StLt (cond b s (collectOne S c s))
       go true = k
       go false = read-lt c s (h .0) k
 
@@ -89,8 +89,9 @@ module _ {K Val : Type 0} (S : Scalars K Val) (u : ℕ) where
       (propagateEmitted S (length (s .order)) (s .edges) (s .constraints) || droppedEquality S (propagated S s)
       (s .edges)))
     where
-      go : (b d : Bool) → AnswerLt (outcomeBy b d (Rebuilt (s .opaque ++ keptEqualities S (propagated S s) (s .edges))
-          (comparisons S (s .order) (resolved S s))))
+      go : (b d : Bool) → AnswerLt (cond b NothingPasses (cond d
+          (Rebuilt (s .opaque ++ keptEqualities S (propagated S s) (s .edges))
+          (comparisons S (s .order) (resolved S s))) Unchanged))
       go true d = tt
       go false true = below-app u (s .opaque) (keptEqualities S (propagated S s) (s .edges)) (k .0)
           (kept-lt (propagated S s) (s .edges) (k .1))
@@ -107,7 +108,7 @@ module _ {K Val : Type 0} (S : Scalars K Val) (u : ℕ) where
   names-lt n (Opaque m) h e = subst (λ i. i < u) (sym e) h
 
   lines-lt : (H : HalfPoints S) (tk : TruthKeys K) (R : ℕ → AExpr Val) (wf : WF R) (l : List ℕ) → Below u l →
-      NodesLt (classifyAll R l)
+      NodesLt (map (classify R) l)
   lines-lt H tk R wf [] b = tt
   lines-lt H tk R wf (n ∷ l) b = (
     names-lt n (classify R n) (b .0) (classified-rightly S H tk R wf (λ c. none) n .3),

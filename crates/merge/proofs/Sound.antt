@@ -1,4 +1,5 @@
 -- A screen as a list of conjuncts, its rewriting, and that rewriting keeps which rows pass.
+use Rattle.merge.specs.Passes.{passTimes}
 use mathlib.Core.Path.{_≡_, refl, sym, _∙_, ap, subst}
 use mathlib.Core.Bool.{Bool, true, false, not, _&&_, _||_, cond, true≢false, and-eq-true-iff}
 use mathlib.Core.List.{List, [], _∷_, _++_}
@@ -27,12 +28,17 @@ use Rattle.merge.proofs.Passes.{EdgesIn, In, eqb-path, eqb-self, propag
 use Rattle.merge.proofs.Spread.{AdmitsAll, AllEndsAgree, EndsAgree, Linked, Links, pass-admits, pass-emitted}
 use Rattle.merge.proofs.Spread.{pass-fix, pass-live, passTimes-admits, passTimes-emitted, passTimes-live}
 use Rattle.merge.specs.Classify.{Bounds, Conjunct, Equality, NonNullPair, Opaque, Recorded}
-use Rattle.merge.specs.Collect.{Collected, Table, addTo, begin, collect, collectIf, collectOne, enter, isIn}
+use Rattle.merge.specs.Collect.{Collected, Table, addTo, begin, collect, collectOne, enter, isIn}
 use Rattle.merge.specs.Collect.{requireNonNull, update}
 use Rattle.merge.specs.Emit.{NothingPasses, Outcome, Rebuilt, Unchanged, anyUnsat, comparisons, droppedEquality}
-use Rattle.merge.specs.Emit.{keptBy, keptEqualities, mergeFilterConstraints, ofColumn, outcomeBy, propagated}
+use Rattle.merge.specs.Emit.{isFixed}
+use Rattle.merge.specs.Emit.{keptEqualities, mergeFilterConstraints, ofColumn, propagated}
 use Rattle.merge.specs.Emit.{resolved}
-use Rattle.merge.specs.Propagate.{pass, passAny, passTimes, propagate, propagateEmitted}
+use Rattle.merge.specs.Propagate.{pass, passAny, propagate, propagateEmitted}
+
+-- The nodes kept, with that of an equality whose left column's fixed value is o.
+abbrev pub keptBy : {Val : Type 0} → Option Val → ℕ → List ℕ → List ℕ
+keptBy o n l = cond (isFixed o) l (n ∷ l)
 
 module _ {K Val : Type 0} (S : Scalars K Val) where
   module _ (ρ : ℕ → Option K) (N : ℕ → Bool) where
@@ -153,9 +159,9 @@ module _ {K Val : Type 0} (S : Scalars K Val) where
   pub collect-in : (l : List (Conjunct Val)) (s : Collected Val) → EdgesIn S (s .order) (s .edges) →
       EdgesIn S (collect S l s .order) (collect S l s .edges)
   collect-in [] s i = i
-  collect-in (x ∷ l) s i = collect-in l (collectIf S (s .unsat) x s) (go (s .unsat))
+  collect-in (x ∷ l) s i = collect-in l (cond (s .unsat) s (collectOne S x s)) (go (s .unsat))
     where
-      go : (b : Bool) → EdgesIn S (collectIf S b x s .order) (collectIf S b x s .edges)
+      go : (b : Bool) → EdgesIn S ((cond b s (collectOne S x s)) .order) ((cond b s (collectOne S x s)) .edges)
       go true = i
       go false = collectOne-in x s i
 
@@ -177,9 +183,9 @@ module _ {K Val : Type 0} (S : Scalars K Val) where
 
   pub collect-halts : (l : List (Conjunct Val)) (s : Collected Val) → Halts s → Halts (collect S l s)
   collect-halts [] s h = h
-  collect-halts (x ∷ l) s h = collect-halts l (collectIf S (s .unsat) x s) (go (s .unsat))
+  collect-halts (x ∷ l) s h = collect-halts l (cond (s .unsat) s (collectOne S x s)) (go (s .unsat))
     where
-      go : (b : Bool) → Halts (collectIf S b x s)
+      go : (b : Bool) → Halts (cond b s (collectOne S x s))
       go true = h
       go false = collectOne-halts x s
 
@@ -219,9 +225,10 @@ module _ {K Val : Type 0} (S : Scalars K Val) where
     collect-admits : (l : List (Conjunct Val)) (s : Collected Val) → FairAll S ρ N l → HoldsAll S ρ N l →
         AdmitsAll S ρ (s .constraints) → AdmitsAll S ρ (collect S l s .constraints)
     collect-admits [] s f h g = g
-    collect-admits (x ∷ l) s f h g = collect-admits l (collectIf S (s .unsat) x s) (f .1) (h .1) (go (s .unsat))
+    collect-admits (x ∷ l) s f h g = collect-admits l (cond (s .unsat) s (collectOne S x s)) (f .1) (h .1)
+        (go (s .unsat))
       where
-        go : (b : Bool) → AdmitsAll S ρ (collectIf S b x s .constraints)
+        go : (b : Bool) → AdmitsAll S ρ ((cond b s (collectOne S x s)) .constraints)
         go true = g
         go false = collectOne-admits x s (f .0) (h .0) g
 
@@ -267,9 +274,9 @@ module _ {K Val : Type 0} (S : Scalars K Val) where
     collect-fair : (l : List (Conjunct Val)) (s : Collected Val) → FairAll S ρ N l → EdgesFair (s .edges) →
         EdgesFair (collect S l s .edges)
     collect-fair [] s f h = h
-    collect-fair (x ∷ l) s f h = collect-fair l (collectIf S (s .unsat) x s) (f .1) (go (s .unsat))
+    collect-fair (x ∷ l) s f h = collect-fair l (cond (s .unsat) s (collectOne S x s)) (f .1) (go (s .unsat))
       where
-        go : (b : Bool) → EdgesFair (collectIf S b x s .edges)
+        go : (b : Bool) → EdgesFair ((cond b s (collectOne S x s)) .edges)
         go true = h
         go false = collectOne-fair x s (f .0) h
 
@@ -285,9 +292,9 @@ module _ {K Val : Type 0} (S : Scalars K Val) where
 
     collect-kept : (l : List (Conjunct Val)) (s : Collected Val) → HoldsAll S ρ N l → Kept s → Kept (collect S l s)
     collect-kept [] s h k = k
-    collect-kept (x ∷ l) s h k = collect-kept l (collectIf S (s .unsat) x s) (h .1) (go (s .unsat))
+    collect-kept (x ∷ l) s h k = collect-kept l (cond (s .unsat) s (collectOne S x s)) (h .1) (go (s .unsat))
       where
-        go : (b : Bool) → Kept (collectIf S b x s)
+        go : (b : Bool) → Kept (cond b s (collectOne S x s))
         go true = k
         go false = collectOne-kept x s (h .0) k
 
@@ -466,19 +473,20 @@ module _ {K Val : Type 0} (S : Scalars K Val) where
 
     pub collect-grows : (l : List (Conjunct Val)) (s : Collected Val) → Grows s (collect S l s)
     collect-grows [] s = grows-refl s
-    collect-grows (x ∷ l) s = grows-trans s (collectIf S (s .unsat) x s) (collect S l (collectIf S (s .unsat) x s))
-        (go (s .unsat)) (collect-grows l (collectIf S (s .unsat) x s))
+    collect-grows (x ∷ l) s = grows-trans s (cond (s .unsat) s (collectOne S x s))
+        (collect S l (cond (s .unsat) s (collectOne S x s)))
+        (go (s .unsat)) (collect-grows l (cond (s .unsat) s (collectOne S x s)))
       where
-        go : (b : Bool) → Grows s (collectIf S b x s)
+        go : (b : Bool) → Grows s (cond b s (collectOne S x s))
         go true = grows-refl s
         go false = collectOne-grows x s
 
     pub collect-going : (l : List (Conjunct Val)) (s : Collected Val) → collect S l s .unsat ≡ false → s .unsat ≡
         false
     collect-going [] s h = h
-    collect-going (x ∷ l) s h = go (s .unsat) refl (collect-going l (collectIf S (s .unsat) x s) h)
+    collect-going (x ∷ l) s h = go (s .unsat) refl (collect-going l (cond (s .unsat) s (collectOne S x s)) h)
       where
-        go : (b : Bool) → s .unsat ≡ b → collectIf S b x s .unsat ≡ false → b ≡ false
+        go : (b : Bool) → s .unsat ≡ b → (cond b s (collectOne S x s)) .unsat ≡ false → b ≡ false
         go true e g = sym e ∙ g
         go false e g = refl
 
@@ -508,10 +516,10 @@ module _ {K Val : Type 0} (S : Scalars K Val) where
         Left (collect S l s) → HoldsAll S ρ N l
     collect-back [] s f h k = tt
     collect-back (x ∷ l) s f h k = go (s .unsat) (collect-going (x ∷ l) s h) h k
-        (collect-back l (collectIf S (s .unsat) x s) (f .1) h k)
+        (collect-back l (cond (s .unsat) s (collectOne S x s)) (f .1) h k)
       where
-        go : (b : Bool) → b ≡ false → collect S l (collectIf S b x s) .unsat ≡ false →
-            Left (collect S l (collectIf S b x s)) → HoldsAll S ρ N l → Holds S ρ N x × HoldsAll S ρ N l
+        go : (b : Bool) → b ≡ false → collect S l (cond b s (collectOne S x s)) .unsat ≡ false →
+            Left (collect S l (cond b s (collectOne S x s))) → HoldsAll S ρ N l → Holds S ρ N x × HoldsAll S ρ N l
         go true e h k r = absurd (true≢false e)
         go false e h k r = (
           collectOne-back x s (collect S l (collectOne S x s)) (f .0)
@@ -682,7 +690,7 @@ module _ {K Val : Type 0} (S : Scalars K Val) where
             collect-back l (begin) f (d .0) (conclude-left s i ef (d .1) (h .0) (h .1))
 
         go : (b : Bool) → (s .unsat || anyUnsat (s .order) (resolved S s)) ≡ b → (d : Bool) →
-            Sound S ρ N l (outcomeBy b d (Rebuilt ns ws))
+            Sound S ρ N l (cond b NothingPasses (cond d (Rebuilt ns ws) Unchanged))
         go true e d = λ h. true≢false (sym e ∙ alive h)
         go false e true = (to, back e)
         go false e false = tt

@@ -1,4 +1,5 @@
 -- What the passes over the equalities do to a row's values, and the table that they end in.
+use Rattle.merge.specs.Passes.{passTimes}
 use mathlib.Core.Path.{_≡_, refl, sym, _∙_, ap, subst, fun-ext}
 use mathlib.Core.Bool.{Bool, true, false, not, _&&_, true≢false}
 use mathlib.Core.List.{List, [], _∷_}
@@ -13,9 +14,9 @@ use Rattle.constraints.specs.Column.{ColumnConstraints, mergeAny, mergeFrom}
 use Rattle.constraints.specs.Resolve.{isAllowed}
 use Rattle.constraints.specs.Scalars.{Scalars}
 use Rattle.constraints.specs.Values.{contains}
-use Rattle.merge.proofs.Passes.{EdgesIn, In, at-a, at-b, edge-ind, eqb-path, pass-unsat}
+use Rattle.merge.proofs.Passes.{EdgesIn, In, at-a, at-b, edge-ind, eqb-path, pass-unsat, mergeEdgeIf, edgeAnyIf}
 use Rattle.merge.specs.Collect.{Table}
-use Rattle.merge.specs.Propagate.{edgeAny, mergeEdge, mergedLeft, mergedRight, pass, passAny, passTimes}
+use Rattle.merge.specs.Propagate.{edgeAny, mergeEdge, mergedLeft, mergedRight, pass, passAny}
 
 module _ {K Val : Type 0} (S : Scalars K Val) where
   -- both ends of each edge hold one value
@@ -47,7 +48,7 @@ module _ {K Val : Type 0} (S : Scalars K Val) where
   pub pass-admits : (ρ : ℕ → Option K) (es : List (ℕ × ℕ × ℕ)) (t : Table Val) → Links ρ es → AdmitsAll ρ t →
       AdmitsAll ρ (pass S es t)
   pass-admits ρ [] t l h = h
-  pass-admits ρ (e ∷ es) t l h = pass-admits ρ es (mergeEdge S (eqb (e .0) (e .1)) (e .0) (e .1) t) (l .1)
+  pass-admits ρ (e ∷ es) t l h = pass-admits ρ es (mergeEdge S (e .0) (e .1) t) (l .1)
       (edge-ind S (λ c q. admits S q (ρ c) ≡ true) (e .0) (e .1) t h hb ha (eqb (e .0) (e .1)))
     where
       k : K
@@ -92,7 +93,7 @@ module _ {K Val : Type 0} (S : Scalars K Val) where
       (pass-live es u c f) (pass-emitted es u c x f h)
     where
       u : Table Val
-      u = mergeEdge S (eqb (e .0) (e .1)) (e .0) (e .1) t
+      u = mergeEdge S (e .0) (e .1) t
 
   pub pass-recorded : (es : List (ℕ × ℕ × ℕ)) (t : Table Val) (c : ℕ) (x : Option K) → pass S es t c .unsat ≡ false →
       admitsRecorded S (pass S es t c) x ≡ true → admitsRecorded S (t c) x ≡ true
@@ -104,7 +105,7 @@ module _ {K Val : Type 0} (S : Scalars K Val) where
       (pass-live es u c f) (pass-recorded es u c x f h)
     where
       u : Table Val
-      u = mergeEdge S (eqb (e .0) (e .1)) (e .0) (e .1) t
+      u = mergeEdge S (e .0) (e .1) t
 
   pub passTimes-live : (n : ℕ) (es : List (ℕ × ℕ × ℕ)) (t : Table Val) (c : ℕ) → passTimes S n es t c .unsat ≡ false →
       t c .unsat ≡ false
@@ -133,9 +134,9 @@ module _ {K Val : Type 0} (S : Scalars K Val) where
   AllEndsAgree [] t = Unit {0}
   AllEndsAgree (e ∷ es) t = EndsAgree (e .0) (e .1) t × AllEndsAgree es t
 
-  step-fix : (a b : ℕ) (t : Table Val) (o : Bool) → eqb a b ≡ o → edgeAny S o a b t ≡ false →
-      mergeEdge S o a b t a .unsat ≡ false → mergeEdge S o a b t b .unsat ≡ false →
-      (mergeEdge S o a b t ≡ t) × EndsAgree a b t
+  step-fix : (a b : ℕ) (t : Table Val) (o : Bool) → eqb a b ≡ o → edgeAnyIf S o a b t ≡ false →
+      mergeEdgeIf S o a b t a .unsat ≡ false → mergeEdgeIf S o a b t b .unsat ≡ false →
+      (mergeEdgeIf S o a b t ≡ t) × EndsAgree a b t
   step-fix a b t true e m fa fb = (refl, inl (eqb-path a b e))
   step-fix a b t false e m fa fb =
       let n = or-no (mergeAny S (t b) (t a)) (mergeAny S (t a) (mergedRight S a b t)) m in
@@ -151,8 +152,8 @@ module _ {K Val : Type 0} (S : Scalars K Val) where
       ((c : ℕ) → In S c cs → pass S es t c .unsat ≡ false) → (pass S es t ≡ t) × AllEndsAgree es t
   pass-fix cs [] t i m f = (refl, tt)
   pass-fix cs (e ∷ es) t i m f =
-      let u : Table Val = mergeEdge S (eqb (e .0) (e .1)) (e .0) (e .1) t in
-      let n = or-no (edgeAny S (eqb (e .0) (e .1)) (e .0) (e .1) t) (passAny S es u) m in
+      let u : Table Val = mergeEdge S (e .0) (e .1) t in
+      let n = or-no (edgeAny S (e .0) (e .1) t) (passAny S es u) m in
       let s = step-fix (e .0) (e .1) t (eqb (e .0) (e .1)) refl (n .0) (pass-live es u (e .0) (f (e .0) (i .0 .0)))
       (pass-live es u (e .1) (f (e .1) (i .0 .1))) in
       let r = pass-fix cs es u (i .1) (n .1) f in

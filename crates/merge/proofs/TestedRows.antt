@@ -17,7 +17,8 @@ use Rattle.truth.specs.FromBytes.{nullMarked, rowOf}
 use Rattle.truth.specs.RowTest.{columnOk, columnsOk, marksOk, rowFault}
 use Rattle.merge.specs.Plain.{isNumberColumn}
 use Rattle.merge.specs.Demand.{IsRow, NullOrTruth}
-use Rattle.merge.proofs.Demand.{all-at, and-yes, or-no}
+use Rattle.records.proofs.Loops.{all-holds}
+use Rattle.merge.proofs.Demand.{and-yes, or-no}
 
 truth-key : (v : ℕ) → v ≤ 1 → NullOrTruth (some (key v))
 truth-key zero h = inl refl
@@ -43,8 +44,8 @@ pub tested-rows : (t row : List ℕ) (nulls : ℕ) → rowFault t row nulls ≡ 
 unfolding rowFault columnsOk rowOf
 tested-rows t row nulls h c l n =
     one-column (getD t c 0) (valueAt row c) (nullMarked nulls c) n
-    (all-at fits (length t) c (ok (eqb (length row) (8 * length t)) (marksOk (length t) nulls) (all fits (length t))
-    h) l)
+    (all-holds fits c (length t) l (ok (eqb (length row) (8 * length t)) (marksOk (length t) nulls) (all fits (length t))
+    h))
   where
     fits : ℕ → Bool
     fits i = columnOk (getD t i 0) (nullMarked nulls i) (valueAt row i)

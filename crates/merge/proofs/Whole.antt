@@ -1,7 +1,7 @@
 -- Rewriting a screen keeps which rows pass; of a plain one it finds out whether any does.
 use mathlib.Core.Path.{_≡_, refl, sym, _∙_, ap}
 use mathlib.Core.Bool.{Bool, true, true≢false, and-eq-true-iff}
-use mathlib.Core.List.{List, [], _∷_}
+use mathlib.Core.List.{List, [], _∷_, map}
 use mathlib.Core.Option.{Option}
 use mathlib.Core.Logic.{_↔_}
 use Prim.Native.Nat.{ℕ}
@@ -16,7 +16,7 @@ use Rattle.merge.proofs.Complete.{ExactAll, isNothingPasses, nothing-ex
 use Rattle.merge.proofs.Readings.{classified-rightly}
 use Rattle.merge.proofs.Sound.{FairAll, HoldsAll, NodesTrue, Sound, WrittenTrue, and-both, merge-is-sound}
 use Rattle.merge.proofs.Witness.{HalfPoints}
-use Rattle.merge.specs.Classify.{classifyAll, conjuncts}
+use Rattle.merge.specs.Classify.{conjuncts, classify}
 use Rattle.merge.specs.Emit.{NothingPasses, Outcome, Rebuilt, Unchanged, mergeFilterConstraints}
 use Rattle.merge.specs.Minterms.{minterms}
 use Rattle.merge.proofs.PlainForms.{plainConjunct, plainConjuncts}
@@ -37,7 +37,7 @@ module _ {K Val : Type 0} (S : Scalars K Val) (H : HalfPoints S) (tk : TruthKeys
   outcome root = mergeFilterConstraints S (conjuncts R root)
 
   module _ (ρ : ℕ → Option K) where
-    conjuncts-hold : (l : List ℕ) → HoldsAll S ρ (M ρ) (classifyAll R l) ↔ (allTrue (M ρ) l ≡ true)
+    conjuncts-hold : (l : List ℕ) → HoldsAll S ρ (M ρ) (map (classify R) l) ↔ (allTrue (M ρ) l ≡ true)
     conjuncts-hold [] = (λ h. refl, λ h. tt)
     conjuncts-hold (n ∷ l) = (
       λ h. and-both (M ρ n) (allTrue (M ρ) l)
@@ -47,11 +47,11 @@ module _ {K Val : Type 0} (S : Scalars K Val) (H : HalfPoints S) (tk : TruthKeys
           (classified-rightly S H tk R wf ρ n .0 .1 (b .0), conjuncts-hold l .1 (b .1)),
     )
 
-    conjuncts-fair : (l : List ℕ) → FairAll S ρ (M ρ) (classifyAll R l)
+    conjuncts-fair : (l : List ℕ) → FairAll S ρ (M ρ) (map (classify R) l)
     conjuncts-fair [] = tt
     conjuncts-fair (n ∷ l) = (classified-rightly S H tk R wf ρ n .1, conjuncts-fair l)
 
-    conjuncts-exact : (l : List ℕ) → plainConjuncts R l ≡ true → ExactAll S H ρ (M ρ) (classifyAll R l)
+    conjuncts-exact : (l : List ℕ) → plainConjuncts R l ≡ true → ExactAll S H ρ (M ρ) (map (classify R) l)
     conjuncts-exact [] h = tt
     conjuncts-exact (n ∷ l) h = let b = and-eq-true-iff (plainConjunct R n) (plainConjuncts R l) .0 h in
         (classified-rightly S H tk R wf ρ n .2 (b .0), conjuncts-exact l (b .1))

@@ -1,6 +1,6 @@
 -- A value for each column that is not impossible: half way between the values that screens can name.
 use mathlib.Core.Path.{_≡_, refl, sym, _∙_, ap, subst, fun-ext}
-use mathlib.Core.Bool.{Bool, true, false, not, _&&_, _||_, true≢false, or-true}
+use mathlib.Core.Bool.{Bool, true, false, not, _&&_, _||_, true≢false, or-true, cond}
 use mathlib.Core.List.{List, [], _∷_}
 use mathlib.Core.Option.{Option, none, some}
 use mathlib.Core.Logic.{_⊎_, inl, inr}
@@ -12,14 +12,14 @@ use Rattle.constraints.proofs.Bounds.{SameBound, same-clears, same-of-still}
 use Rattle.constraints.proofs.Columns.{admits, admitsEmitted, admitsRecorded, nullFits, valueFits}
 use Rattle.constraints.proofs.Merges.{Implies, Quiet, not-no, or-no}
 use Rattle.constraints.proofs.Resolved.{Consistent, fixed-excludes-nothing, resolve-consistent, resolve-emitted}
-use Rattle.constraints.proofs.Resolves.{admits-feasible}
+use Rattle.constraints.proofs.Resolves.{admits-feasible, resolveIf, rangeOf}
 use Rattle.constraints.proofs.Sets.{subset-contains}
 use Rattle.constraints.specs.Bound.{Bound, absent, at, clears, crosses, crossesBy}
-use Rattle.constraints.specs.Column.{ColumnConstraints, allowedChanges, allowedOf, isNone}
+use Rattle.constraints.specs.Column.{ColumnConstraints, allowedChanges, allowedOf, isNone, isNullRequired}
 use Rattle.constraints.specs.Resolve.{Range, allowedFeasible, anyFeasible, classifyAt, classifyBy, classifyUpper}
-use Rattle.constraints.specs.Resolve.{fixedAt, fixedBy, fixedDisallowed, isAllowed, isFeasible, isNullRequired}
-use Rattle.constraints.specs.Resolve.{nullConflict, openAt, rangeOf, resolveBy, resolveDeferred, resolveExcluded}
-use Rattle.constraints.specs.Resolve.{resolveIf, withExcluded, withLists}
+use Rattle.constraints.specs.Resolve.{fixedAt, fixedDisallowed, isAllowed, isFeasible}
+use Rattle.constraints.specs.Resolve.{nullConflict, openAt, resolveBy, resolveDeferred, resolveExcluded}
+use Rattle.constraints.specs.Resolve.{withExcluded, withLists}
 use Rattle.constraints.specs.Scalars.{Scalars, opposite}
 use Rattle.constraints.specs.Values.{contains, subset}
 use Rattle.constraints.specs.declared.column.ExcludedResolution.{ExcludedResolution}
@@ -124,7 +124,7 @@ module _ {K Val : Type 0} (S : Scalars K Val) (H : HalfPoints S) where
           ((y : Val) → pointBy o (S .key v) ≡ S .key y → ⊥)
       go c d (is-less p) e = inr (H .hi-off v)
       go c d (is-greater p) e = absurd (true≢false e)
-      go true true (is-equal p) e = inl (v, ap (λ o. fixedBy o v) (cmp-eq (S .order) p), refl)
+      go true true (is-equal p) e = inl (v, ap (λ o. cond (isEqual o) (some v) none) (cmp-eq (S .order) p), refl)
       go true false (is-equal p) e = absurd (true≢false e)
       go false d (is-equal p) e = absurd (true≢false e)
 

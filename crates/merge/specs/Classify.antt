@@ -1,8 +1,9 @@
 -- `classify_into_constraints` and those below it: what is read of one conjunct. Each reader looks at its operands
 -- only by their form (`as_column`, `as_scalar_lit`, `as_value_set`). Everything not named here is opaque and stays as
 -- it is.
-use mathlib.Core.Bool.{Bool, true, false, not}
-use mathlib.Core.List.{List, [], _∷_}
+use mathlib.Core.Option.{Option, none, some}
+use mathlib.Core.Bool.{Bool, true, false, not, _&&_, cond}
+use mathlib.Core.List.{List, [], _∷_, map}
 use Prim.Native.Nat.{ℕ}
 use lib.Dec.{leb}
 use lib.ListN.{length}
@@ -31,19 +32,13 @@ pub data Conjunct (Val : Type 0) : Type 0 where
   -- node
   Opaque : ℕ → Conjunct Val
 
--- ---- An operand: a column, a literal that is not null, a list that holds no null and at most 100 values, anything
--- else.
+-- ---- An operand: a column, a literal that is not null, a list that holds no null and at most 100 values (duplicates
+-- count), anything else.
 pub data Operand (Val : Type 0) : Type 0 where
   AColumn : ℕ → Operand Val
   ALiteral : Val → Operand Val
   AList : List Val → Operand Val
   Other : Operand Val
-
--- Duplicates count.
-abbrev pub listOperand : {Val : Type 0} → Bool → Bool → List Val → Operand Val
-listOperand true short values = Other
-listOperand false true values = AList values
-listOperand false false values = Other
 
 abbrev pub operand : {Val : Type 0} → AExpr Val → Operand Val
 operand (Column c) = AColumn c
@@ -54,7 +49,7 @@ operand (Not a) = Other
 operand (IsNull a) = Other
 operand (IsNotNull a) = Other
 operand (IsBetween lowClosed highClosed a low high) = Other
-operand (ListLiteral holdsNull values) = listOperand holdsNull (leb (length values) 100) values
+operand (ListLiteral holdsNull values) = cond (not holdsNull && leb (length values) 100) (AList values) Other
 operand (IsIn nullsEqual a list) = Other
 operand Missing = Other
 
@@ -67,16 +62,21 @@ swapComparison LtEq = GtEq
 swapComparison Gt = Lt
 swapComparison GtEq = LtEq
 
+-- The comparison that an operator is, if it is one of the six.
+abbrev pub asComparison : BinaryOp → Option Comparison
+asComparison (Compare o) = some o
+asComparison EqValidity = none
+asComparison NotEqValidity = none
+asComparison And = none
+asComparison Or = none
+asComparison Xor = none
+asComparison LogicalAnd = none
+asComparison LogicalOr = none
+
 -- `swap_operands`: `lit op col` is read as `col op' lit`.
-abbrev pub swapOperands : BinaryOp → BinaryOp
-swapOperands (Compare c) = Compare (swapComparison c)
-swapOperands EqValidity = EqValidity
-swapOperands NotEqValidity = NotEqValidity
-swapOperands And = And
-swapOperands Or = Or
-swapOperands Xor = Xor
-swapOperands LogicalAnd = LogicalAnd
-swapOperands LogicalOr = LogicalOr
+abbrev pub swapOperands : Option Comparison → Option Comparison
+swapOperands none = none
+swapOperands (some o) = some (swapComparison o)
 
 -- `col op lit` as bounds and excluded values; `==` is a lower and an upper bound, both inclusive.
 abbrev pub comparisonConstraints : {Val : Type 0} → Comparison → Val → List (Constraint Val)
@@ -88,36 +88,21 @@ comparisonConstraints Gt v = Lower false v ∷ []
 comparisonConstraints GtEq v = Lower true v ∷ []
 
 -- A column and a literal: the column enters the table whatever the operator; all but the six comparisons stay opaque.
-abbrev pub classifyColumnLiteral : {Val : Type 0} → ℕ → ℕ → Val → BinaryOp → Conjunct Val
-classifyColumnLiteral n c v (Compare o) = Bounds c (comparisonConstraints o v)
-classifyColumnLiteral n c v EqValidity = Recorded false n c []
-classifyColumnLiteral n c v NotEqValidity = Recorded false n c []
-classifyColumnLiteral n c v And = Recorded false n c []
-classifyColumnLiteral n c v Or = Recorded false n c []
-classifyColumnLiteral n c v Xor = Recorded false n c []
-classifyColumnLiteral n c v LogicalAnd = Recorded false n c []
-classifyColumnLiteral n c v LogicalOr = Recorded false n c []
-
-abbrev pub classifyColumns : {Val : Type 0} → ℕ → ℕ → ℕ → Comparison → Conjunct Val
-classifyColumns n a b Eq = Equality a b n
-classifyColumns n a b NotEq = NonNullPair n a b
-classifyColumns n a b Lt = NonNullPair n a b
-classifyColumns n a b LtEq = NonNullPair n a b
-classifyColumns n a b Gt = NonNullPair n a b
-classifyColumns n a b GtEq = NonNullPair n a b
+abbrev pub classifyColumnLiteral : {Val : Type 0} → ℕ → ℕ → Val → Option Comparison → Conjunct Val
+classifyColumnLiteral n c v (some o) = Bounds c (comparisonConstraints o v)
+classifyColumnLiteral n c v none = Recorded false n c []
 
 -- Two columns: only the comparisons that propagate nulls say something, and enter the columns.
-abbrev pub classifyColumnColumn : {Val : Type 0} → ℕ → ℕ → ℕ → BinaryOp → Conjunct Val
-classifyColumnColumn n a b (Compare o) = classifyColumns n a b o
-classifyColumnColumn n a b EqValidity = Opaque n
-classifyColumnColumn n a b NotEqValidity = Opaque n
-classifyColumnColumn n a b And = Opaque n
-classifyColumnColumn n a b Or = Opaque n
-classifyColumnColumn n a b Xor = Opaque n
-classifyColumnColumn n a b LogicalAnd = Opaque n
-classifyColumnColumn n a b LogicalOr = Opaque n
+abbrev pub classifyColumnColumn : {Val : Type 0} → ℕ → ℕ → ℕ → Option Comparison → Conjunct Val
+classifyColumnColumn n a b (some Eq) = Equality a b n
+classifyColumnColumn n a b (some NotEq) = NonNullPair n a b
+classifyColumnColumn n a b (some Lt) = NonNullPair n a b
+classifyColumnColumn n a b (some LtEq) = NonNullPair n a b
+classifyColumnColumn n a b (some Gt) = NonNullPair n a b
+classifyColumnColumn n a b (some GtEq) = NonNullPair n a b
+classifyColumnColumn n a b none = Opaque n
 
-abbrev pub classifyComparison : {Val : Type 0} → ℕ → BinaryOp → Operand Val → Operand Val → Conjunct Val
+abbrev pub classifyComparison : {Val : Type 0} → ℕ → Option Comparison → Operand Val → Operand Val → Conjunct Val
 classifyComparison n op (AColumn a) (AColumn b) = classifyColumnColumn n a b op
 classifyComparison n op (AColumn c) (ALiteral v) = classifyColumnLiteral n c v op
 classifyComparison n op (AColumn c) (AList values) = Opaque n
@@ -129,23 +114,19 @@ classifyComparison n op (ALiteral v) Other = Opaque n
 classifyComparison n op (AList values) right = Opaque n
 classifyComparison n op Other right = Opaque n
 
--- ---- `classify_is_between`: a lower and an upper bound.
-abbrev pub classifyEnds : {Val : Type 0} → ℕ → Bool → Bool → ℕ → Operand Val → Operand Val → Conjunct Val
-classifyEnds n lowClosed highClosed c (ALiteral v) (ALiteral w) =
-    Bounds c (Lower lowClosed v ∷ (Upper highClosed w ∷ []))
-classifyEnds n lowClosed highClosed c (ALiteral v) (AColumn d) = Opaque n
-classifyEnds n lowClosed highClosed c (ALiteral v) (AList values) = Opaque n
-classifyEnds n lowClosed highClosed c (ALiteral v) Other = Opaque n
-classifyEnds n lowClosed highClosed c (AColumn d) high = Opaque n
-classifyEnds n lowClosed highClosed c (AList values) high = Opaque n
-classifyEnds n lowClosed highClosed c Other high = Opaque n
-
+-- ---- `classify_is_between`: a lower and an upper bound, inclusive or not.
 abbrev pub classifyIsBetween : {Val : Type 0} → ℕ → Bool → Bool → Operand Val → Operand Val → Operand Val →
     Conjunct Val
-classifyIsBetween n lowClosed highClosed (AColumn c) low high = classifyEnds n lowClosed highClosed c low high
-classifyIsBetween n lowClosed highClosed (ALiteral v) low high = Opaque n
-classifyIsBetween n lowClosed highClosed (AList values) low high = Opaque n
-classifyIsBetween n lowClosed highClosed Other low high = Opaque n
+classifyIsBetween n lo hi (AColumn c) (ALiteral v) (ALiteral w) = Bounds c (Lower lo v ∷ Upper hi w ∷ [])
+classifyIsBetween n lo hi (AColumn c) (ALiteral v) (AColumn d) = Opaque n
+classifyIsBetween n lo hi (AColumn c) (ALiteral v) (AList values) = Opaque n
+classifyIsBetween n lo hi (AColumn c) (ALiteral v) Other = Opaque n
+classifyIsBetween n lo hi (AColumn c) (AColumn d) high = Opaque n
+classifyIsBetween n lo hi (AColumn c) (AList values) high = Opaque n
+classifyIsBetween n lo hi (AColumn c) Other high = Opaque n
+classifyIsBetween n lo hi (ALiteral v) low high = Opaque n
+classifyIsBetween n lo hi (AList values) low high = Opaque n
+classifyIsBetween n lo hi Other low high = Opaque n
 
 -- ---- is_in, or Not of it; `says` is what the list says of the column. The node stays.
 abbrev pub classifyIsIn : {Val : Type 0} → ℕ → (List Val → Constraint Val) → Operand Val → Operand Val → Conjunct Val
@@ -184,25 +165,21 @@ module _ {Val : Type 0} (R : ℕ → AExpr Val) where
   classifyRecord n (Column c) = Opaque n
   classifyRecord n (Literal v) = Opaque n
   classifyRecord n Null = Opaque n
-  classifyRecord n (BinaryExpr op left right) = classifyComparison n op (operand (R left)) (operand (R right))
+  classifyRecord n (BinaryExpr op left right) =
+      classifyComparison n (asComparison op) (operand (R left)) (operand (R right))
   classifyRecord n (Not a) = classifyNegation n (R a)
   classifyRecord n (IsNull a) = classifyNull n required.Null (operand (R a))
   classifyRecord n (IsNotNull a) = classifyNull n NonNull (operand (R a))
   classifyRecord n (IsBetween lowClosed highClosed a low high) =
       classifyIsBetween n lowClosed highClosed (operand (R a)) (operand (R low)) (operand (R high))
   classifyRecord n (ListLiteral holdsNull values) = Opaque n
-  classifyRecord n (IsIn nullsEqual a list) =
-      classifyIsIn n (λ values. Allow values) (operand (R a)) (operand (R list))
+  classifyRecord n (IsIn nullsEqual a list) = classifyIsIn n Allow (operand (R a)) (operand (R list))
   classifyRecord n Missing = Opaque n
 
   -- `classify_into_constraints`, of node n.
   abbrev pub classify : ℕ → Conjunct Val
   classify n = classifyRecord n (R n)
 
-  abbrev pub classifyAll : List ℕ → List (Conjunct Val)
-  classifyAll [] = []
-  classifyAll (n ∷ nodes) = classify n ∷ classifyAll nodes
-
   -- What is read of the screen's conjuncts, in their order.
   abbrev pub conjuncts : ℕ → List (Conjunct Val)
-  conjuncts root = classifyAll (minterms R root)
+  conjuncts root = map classify (minterms R root)

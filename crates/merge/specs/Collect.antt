@@ -1,6 +1,6 @@
 -- Stage 1, collect: each conjunct is taken into the table of columns, which enter it in the order the Rust enters
 -- them.
-use mathlib.Core.Bool.{Bool, true, false, _&&_, _||_, cond}
+use mathlib.Core.Bool.{Bool, false, _&&_, _||_, cond}
 use mathlib.Core.List.{List, [], _∷_, _++_}
 use Prim.Native.Nat.{ℕ, suc}
 use lib.Dec.{eqb}
@@ -16,12 +16,9 @@ Table Val = ℕ → ColumnConstraints Val
 abbrev pub update : {Val : Type 0} → Table Val → ℕ → ColumnConstraints Val → Table Val
 update t c cc d = cond (eqb c d) cc (t d)
 
--- An edge is left column, right column, node.
-abbrev pub Edge : Type 0
-Edge = ℕ × ℕ × ℕ
-
--- What the walk has collected: the constraints, the columns in the order they entered, the kept nodes, the edges, how
--- many conjuncts became bounds, and whether a conjunct made its column impossible.
+-- What the walk has collected: the constraints, the columns in the order they entered, the kept nodes, the edges
+-- (left column, right column, node), how many conjuncts became bounds, and whether a conjunct made its column
+-- impossible.
 pub record Collected (Val : Type 0) : Type 0 where
   pub constraints : ℕ → ColumnConstraints Val
   pub order : List ℕ
@@ -38,21 +35,13 @@ isIn c (d ∷ l) = eqb c d || isIn c l
 abbrev pub enter : ℕ → List ℕ → List ℕ
 enter c l = cond (isIn c l) l (l ++ (c ∷ []))
 
+-- Of these parts, in the record's order.
+abbrev pub collected : {Val : Type 0} → Table Val → List ℕ → List ℕ → List (ℕ × ℕ × ℕ) → ℕ → Bool → Collected Val
+collected t o n e b u = record { constraints = t; order = o; opaque = n; edges = e; boundConjuncts = b; unsat = u }
+
 -- Before the first conjunct.
 abbrev pub begin : {Val : Type 0} → Collected Val
-begin = record { constraints = λ c. empty; order = []; opaque = []; edges = []; boundConjuncts = 0; unsat = false }
-
-abbrev pub collected :
-    {Val : Type 0} → Table Val → List ℕ → List ℕ → List (ℕ × ℕ × ℕ) → ℕ → Bool → Collected Val
-collected constraints order opaque edges boundConjuncts unsat =
-    record {
-      constraints = constraints;
-      order = order;
-      opaque = opaque;
-      edges = edges;
-      boundConjuncts = boundConjuncts;
-      unsat = unsat;
-    }
+begin = collected (λ c. empty) [] [] [] 0 false
 
 module _ {K Val : Type 0} (S : Scalars K Val) where
   abbrev pub requireNonNull : ℕ → Table Val → Table Val
@@ -65,26 +54,20 @@ module _ {K Val : Type 0} (S : Scalars K Val) where
   -- columns does not stop the reading, nor does is_in.
   abbrev pub collectOne : Conjunct Val → Collected Val → Collected Val
   collectOne (Bounds c l) s =
-      collected (addTo c l (s .constraints)) (enter c (s .order)) (s .opaque) (s .edges) (suc (s .boundConjuncts))
+      collected (addTo c l s.constraints) (enter c s.order) s.opaque s.edges (suc s.boundConjuncts)
       (addAll S l (s .constraints c) .unsat)
   collectOne (Equality a b n) s =
-      collected (requireNonNull b (requireNonNull a (s .constraints))) (enter b (enter a (s .order))) (s .opaque)
-      (s .edges ++ ((a, b, n) ∷ [])) (s .boundConjuncts) false
+      collected (requireNonNull b (requireNonNull a s.constraints)) (enter b (enter a s.order)) s.opaque
+      (s.edges ++ ((a, b, n) ∷ [])) s.boundConjuncts false
   collectOne (Recorded stops n c l) s =
-      collected (addTo c l (s .constraints)) (enter c (s .order)) (s .opaque ++ (n ∷ [])) (s .edges)
-      (s .boundConjuncts)
+      collected (addTo c l s.constraints) (enter c s.order) (s.opaque ++ (n ∷ [])) s.edges s.boundConjuncts
       (stops && addAll S l (s .constraints c) .unsat)
   collectOne (NonNullPair n a b) s =
-      collected (requireNonNull b (requireNonNull a (s .constraints))) (enter b (enter a (s .order)))
-      (s .opaque ++ (n ∷ [])) (s .edges) (s .boundConjuncts) false
-  collectOne (Opaque n) s =
-      collected (s .constraints) (s .order) (s .opaque ++ (n ∷ [])) (s .edges) (s .boundConjuncts) false
-
-  abbrev pub collectIf : Bool → Conjunct Val → Collected Val → Collected Val
-  collectIf true c s = s
-  collectIf false c s = collectOne c s
+      collected (requireNonNull b (requireNonNull a s.constraints)) (enter b (enter a s.order)) (s.opaque ++ (n ∷ []))
+      s.edges s.boundConjuncts false
+  collectOne (Opaque n) s = collected s.constraints s.order (s.opaque ++ (n ∷ [])) s.edges s.boundConjuncts false
 
   -- Reading stops at the first conjunct that makes its column impossible.
   abbrev pub collect : List (Conjunct Val) → Collected Val → Collected Val
   collect [] s = s
-  collect (c ∷ l) s = collect l (collectIf (s .unsat) c s)
+  collect (c ∷ l) s = collect l (cond (s .unsat) s (collectOne c s))

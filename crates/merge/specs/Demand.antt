@@ -15,7 +15,7 @@ use Rattle.truth.specs.FromBytes.{aexprAt, truthIn}
 use Rattle.merge.specs.declared.rewrite.RewriteAnswer.{RewriteAnswer}
 use Rattle.merge.specs.declared.rewrite.RewriteAnswer.the-variants as answer
 use Rattle.merge.specs.Plain.{isNumberColumn, plainScreen}
-use Rattle.merge.specs.Rewrite.{rewriteAnswer, rewriteBytes, rootAfter, usedAfter}
+use Rattle.merge.specs.Rewrite.{rewriteAnswer, rewriteBytes}
 
 -- A row gives each column null or a key. Keys count halves, so in an Int or Day column every key is a whole number or
 -- one half way between two neighbouring whole ones, of any size.
@@ -44,6 +44,19 @@ abbrev pub rowsPassing : List ℕ → List ℕ → ℕ → ℕ → List Row → 
 rowsPassing rs p used root [] = 0
 rowsPassing rs p used root (row ∷ chain) =
     cond (passes rs p used root row) (suc (rowsPassing rs p used root chain)) (rowsPassing rs p used root chain)
+
+-- The root and the used count at exit: those answered, or those sent.
+abbrev pub rootAfter : RewriteAnswer → ℕ → ℕ
+rootAfter (answer.Refused k) root = root
+rootAfter answer.Unchanged root = root
+rootAfter (answer.NothingPasses root′ used′) root = root′
+rootAfter (answer.Rewritten root′ used′) root = root′
+
+abbrev pub usedAfter : RewriteAnswer → ℕ → ℕ
+usedAfter (answer.Refused k) used = used
+usedAfter answer.Unchanged used = used
+usedAfter (answer.NothingPasses root′ used′) used = used′
+usedAfter (answer.Rewritten root′ used′) used = used′
 
 abbrev pub isRefused : RewriteAnswer → Bool
 isRefused (answer.Refused k) = true

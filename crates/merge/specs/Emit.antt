@@ -1,6 +1,6 @@
 -- Stages 3 and 4, resolve and emit: `collect_column_comparisons`, the kept equalities, and
 -- `merge_filter_constraints`.
-use mathlib.Core.Bool.{Bool, true, false, _||_}
+use mathlib.Core.Bool.{Bool, true, false, _||_, cond}
 use mathlib.Core.List.{List, [], _∷_, _++_}
 use mathlib.Core.Option.{Option, none, some}
 use Prim.Native.Nat.{ℕ}
@@ -8,7 +8,7 @@ use lib.Dec.{ltb}
 use lib.ListN.{length}
 use Rattle.constraints.specs.Scalars.{Scalars}
 use Rattle.constraints.specs.Column.{ColumnConstraints}
-use Rattle.constraints.specs.Resolve.{fixedAt, resolveDeferred}
+use Rattle.constraints.specs.Resolve.{fixedValue, resolveDeferred}
 use Rattle.constraints.specs.Comparisons.{ColumnComparison, collectColumnComparisons}
 use Rattle.merge.specs.Classify.{Conjunct}
 use Rattle.merge.specs.Collect.{Table, Collected, begin, collect}
@@ -26,10 +26,6 @@ ofColumn c [] = []
 ofColumn c (x ∷ l) = (c, x) ∷ ofColumn c l
 
 -- ---- An equality whose left column has a fixed value is dropped; by then its right column has it too.
-abbrev pub keptBy : {Val : Type 0} → Option Val → ℕ → List ℕ → List ℕ
-keptBy none n l = n ∷ l
-keptBy (some v) n l = l
-
 abbrev pub isFixed : {Val : Type 0} → Option Val → Bool
 isFixed none = false
 isFixed (some v) = true
@@ -39,11 +35,6 @@ abbrev pub anyUnsat : {Val : Type 0} → List ℕ → Table Val → Bool
 anyUnsat [] t = false
 anyUnsat (c ∷ cs) t = t c .unsat || anyUnsat cs t
 
-abbrev pub outcomeBy : {Val : Type 0} → Bool → Bool → Outcome Val → Outcome Val
-outcomeBy true rewrites rebuilt = NothingPasses
-outcomeBy false true rebuilt = rebuilt
-outcomeBy false false rebuilt = Unchanged
-
 module _ {K Val : Type 0} (S : Scalars K Val) where
   -- The comparisons of all columns, in the order in which the columns entered.
   abbrev pub comparisons : List ℕ → Table Val → List (ℕ × ColumnComparison Val)
@@ -52,11 +43,12 @@ module _ {K Val : Type 0} (S : Scalars K Val) where
 
   abbrev pub keptEqualities : Table Val → List (ℕ × ℕ × ℕ) → List ℕ
   keptEqualities t [] = []
-  keptEqualities t (e ∷ es) = keptBy (fixedAt S (t (e .0) .lower) (t (e .0) .upper)) (e .2) (keptEqualities t es)
+  keptEqualities t (e ∷ es) =
+      cond (isFixed (fixedValue S (t (e .0)))) (keptEqualities t es) (e .2 ∷ keptEqualities t es)
 
   abbrev pub droppedEquality : Table Val → List (ℕ × ℕ × ℕ) → Bool
   droppedEquality t [] = false
-  droppedEquality t (e ∷ es) = isFixed (fixedAt S (t (e .0) .lower) (t (e .0) .upper)) || droppedEquality t es
+  droppedEquality t (e ∷ es) = isFixed (fixedValue S (t (e .0))) || droppedEquality t es
 
   -- The table after the passes, and with every column resolved.
   abbrev pub propagated : Collected Val → Table Val
@@ -69,15 +61,15 @@ module _ {K Val : Type 0} (S : Scalars K Val) where
   abbrev pub rewrites : Collected Val → Bool
   rewrites s =
       ltb (length (comparisons (s .order) (resolved s))) (s .boundConjuncts)
-      || (propagateEmitted S (length (s .order)) (s .edges) (s .constraints) || droppedEquality (propagated s)
-      (s .edges))
+      || (propagateEmitted S (length (s .order)) s.edges s.constraints || droppedEquality (propagated s) s.edges)
 
   -- Opaque conjuncts, kept equalities, comparisons by column.
   abbrev pub rebuilt : Collected Val → Outcome Val
   rebuilt s = Rebuilt (s .opaque ++ keptEqualities (propagated s) (s .edges)) (comparisons (s .order) (resolved s))
 
   abbrev pub conclude : Collected Val → Outcome Val
-  conclude s = outcomeBy (s .unsat || anyUnsat (s .order) (resolved s)) (rewrites s) (rebuilt s)
+  conclude s =
+      cond (s .unsat || anyUnsat (s .order) (resolved s)) NothingPasses (cond (rewrites s) (rebuilt s) Unchanged)
 
   -- `merge_filter_constraints`, of what was read of the conjuncts.
   abbrev pub mergeFilterConstraints : List (Conjunct Val) → Outcome Val

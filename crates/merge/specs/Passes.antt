@@ -1,14 +1,14 @@
 -- The passes over the equalities end (as statements; they are proved in proofs/PassesEnd.antt).
 use mathlib.Core.Path.{_≡_}
-use mathlib.Core.Bool.{Bool, false}
+use mathlib.Core.Bool.{Bool, false, cond}
 use mathlib.Core.List.{List, [], _∷_}
-use Prim.Native.Nat.{ℕ, _≤_}
+use Prim.Native.Nat.{ℕ, zero, suc, _≤_}
 use lib.ListN.{length}
 use Rattle.constraints.specs.Scalars.{Scalars}
 use Rattle.constraints.specs.Values.{isEmpty}
 use Rattle.merge.specs.Classify.{Conjunct}
 use Rattle.merge.specs.Collect.{Table, Collected, enter, begin, collect}
-use Rattle.merge.specs.Propagate.{pass, passAny, passTimes, passCount}
+use Rattle.merge.specs.Propagate.{pass, passAny}
 use Rattle.merge.specs.Emit.{propagated}
 
 -- The different columns in the equalities, each once.
@@ -17,11 +17,21 @@ edgeColumns [] = []
 edgeColumns (e ∷ es) = enter (e .1) (enter (e .0) (edgeColumns es))
 
 module _ {K Val : Type 0} (S : Scalars K Val) where
+  -- So many passes, quiet or not.
+  abbrev pub passTimes : ℕ → List (ℕ × ℕ × ℕ) → Table Val → Table Val
+  passTimes zero es t = t
+  passTimes (suc n) es t = passTimes n es (pass S es t)
+
+  -- How many passes are made with at most n, the quiet one counted.
+  abbrev pub passCount : ℕ → List (ℕ × ℕ × ℕ) → Table Val → ℕ
+  passCount zero es t = 0
+  passCount (suc n) es t = suc (cond (passAny S es t) (passCount n es (pass S es t)) 0)
+
   -- The last pass that the definition makes changed nothing.
   abbrev pub LastPassQuiet : Collected Val → Type 0
   LastPassQuiet s =
-      (k : ℕ) × (propagated S s ≡ pass S (s .edges) (passTimes S k (s .edges) (s .constraints)))
-      × (passAny S (s .edges) (passTimes S k (s .edges) (s .constraints)) ≡ false)
+      (k : ℕ) × (propagated S s ≡ pass S (s .edges) (passTimes k (s .edges) (s .constraints)))
+      × (passAny S (s .edges) (passTimes k (s .edges) (s .constraints)) ≡ false)
 
   -- Whatever is read of a screen's conjuncts.
   abbrev pub PassesEnd : Type 0
@@ -31,4 +41,4 @@ module _ {K Val : Type 0} (S : Scalars K Val) where
   abbrev pub PassesAtMostColumns : Type 0
   PassesAtMostColumns =
       (n : ℕ) (es : List (ℕ × ℕ × ℕ)) (t : Table Val) → isEmpty es ≡ false →
-      passCount S n es t ≤ length (edgeColumns es)
+      passCount n es t ≤ length (edgeColumns es)

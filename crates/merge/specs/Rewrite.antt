@@ -81,16 +81,3 @@ writtenIf (answer.Rewritten root used) rs written = written
 unfoldable pub rewriteBytes : List ℕ → List ℕ → List ℕ → ℕ → ℕ → List ℕ
 rewriteBytes t rs p used root =
     writtenIf (rewriteAnswer t rs p used root) rs (outcomeBytes t rs used (outcomeOf rs p used root))
-
--- The root and the used count at exit: those answered, or those sent.
-abbrev pub rootAfter : RewriteAnswer → ℕ → ℕ
-rootAfter (answer.Refused k) root = root
-rootAfter answer.Unchanged root = root
-rootAfter (answer.NothingPasses root′ used′) root = root′
-rootAfter (answer.Rewritten root′ used′) root = root′
-
-abbrev pub usedAfter : RewriteAnswer → ℕ → ℕ
-usedAfter (answer.Refused k) used = used
-usedAfter answer.Unchanged used = used
-usedAfter (answer.NothingPasses root′ used′) used = used′
-usedAfter (answer.Rewritten root′ used′) used = used′

@@ -1,6 +1,6 @@
 -- Reading a conjunct in code: what its matches leave of the definitions.
 use mathlib.Core.Path.{_≡_, refl, sym, _∙_, ap}
-use mathlib.Core.Bool.{Bool, true, false}
+use mathlib.Core.Bool.{Bool, true, cond}
 use mathlib.Core.List.{List, [], _∷_}
 use Prim.Native.Nat.{ℕ, zero, suc, _≤_, _<_}
 use lib.Dec.{leb}
@@ -16,7 +16,7 @@ use Rattle.truth.specs.Comparison as truth
 use Rattle.truth.specs.AExpr.{AExpr}
 use Rattle.truth.specs.AExpr.{BinaryOp, Compare, EqValidity, NotEqValidity, And, Or, Xor, LogicalAnd, LogicalOr}
 use Rattle.truth.specs.FromBytes.{valuesFrom, binaryExpr, toAExpr, aexprOf}
-use Rattle.merge.specs.Classify.{Operand, AColumn, ALiteral, AList, Other, listOperand, operand, Conjunct, Opaque}
+use Rattle.merge.specs.Classify.{Operand, AColumn, ALiteral, AList, Other, operand, Conjunct, Opaque, asComparison}
 use Rattle.merge.specs.Classify.{classifyColumnLiteral, classifyColumnColumn, classifyComparison}
 use Rattle.merge.specs.Classify.{classifyNegation, swapOperands, classifyRecord, classify}
 use Rattle.rewrite.specs.Read.{operationOf, columnLiteral, columnColumn, swappedOperation, compared}
@@ -31,12 +31,12 @@ values-length p start zero = refl
 values-length p start (suc count) = ap suc (values-length p (suc start) count)
 
 pub list-short : (p : List ℕ) (start count : ℕ) → count ≤ 100
-    → AList (valuesFrom p start count) ≡ listOperand false (leb (length (valuesFrom p start count)) 100)
-    (valuesFrom p start count)
+    → AList (valuesFrom p start count) ≡
+    cond (leb (length (valuesFrom p start count)) 100) (AList (valuesFrom p start count)) Other
 list-short p start count h = rw (values-length p start count, le-leb count 100 h)
 
 pub list-long : (p : List ℕ) (start count : ℕ) → 100 < count
-    → Other ≡ listOperand false (leb (length (valuesFrom p start count)) 100) (valuesFrom p start count)
+    → Other ≡ cond (leb (length (valuesFrom p start count)) 100) (AList (valuesFrom p start count)) Other
 list-long p start count h = rw (values-length p start count, lt-leb count 100 h)
 
 no-operand : (o : Operator) (x y : ℕ) → Other ≡ operand (binaryExpr o x y)
@@ -125,7 +125,8 @@ operationIn Xor = operation.Other
 operationIn LogicalAnd = operation.Other
 operationIn LogicalOr = operation.Other
 
-literal-same : (n a v : ℕ) (b : BinaryOp) → columnLiteral n a v (operationIn b) ≡ classifyColumnLiteral n a v b
+literal-same : (n a v : ℕ) (b : BinaryOp) → columnLiteral n a v (operationIn b) ≡
+    classifyColumnLiteral n a v (asComparison b)
 literal-same n a v (Compare truth.Eq) = refl
 literal-same n a v (Compare truth.NotEq) = refl
 literal-same n a v (Compare truth.Lt) = refl
@@ -141,7 +142,8 @@ literal-same n a v LogicalAnd = refl
 literal-same n a v LogicalOr = refl
 
 swap-same : (n a v : ℕ) (b : BinaryOp)
-    → columnLiteral n a v (swappedOperation (operationIn b)) ≡ classifyColumnLiteral n a v (swapOperands b)
+    → columnLiteral n a v (swappedOperation (operationIn b)) ≡
+    classifyColumnLiteral n a v (swapOperands (asComparison b))
 swap-same n a v (Compare truth.Eq) = refl
 swap-same n a v (Compare truth.NotEq) = refl
 swap-same n a v (Compare truth.Lt) = refl
@@ -156,7 +158,8 @@ swap-same n a v Xor = refl
 swap-same n a v LogicalAnd = refl
 swap-same n a v LogicalOr = refl
 
-column-same : (n a b : ℕ) (o : BinaryOp) → columnColumn n a b (operationIn o) ≡ classifyColumnColumn n a b o
+column-same : (n a b : ℕ) (o : BinaryOp) → columnColumn n a b (operationIn o) ≡
+    classifyColumnColumn n a b (asComparison o)
 column-same n a b (Compare truth.Eq) = refl
 column-same n a b (Compare truth.NotEq) = refl
 column-same n a b (Compare truth.Lt) = refl
@@ -171,7 +174,8 @@ column-same n a b Xor = refl
 column-same n a b LogicalAnd = refl
 column-same n a b LogicalOr = refl
 
-compared-same : (n : ℕ) (o : BinaryOp) (l r : Operand ℕ) → compared n (operationIn o) l r ≡ classifyComparison n o l r
+compared-same : (n : ℕ) (o : BinaryOp) (l r : Operand ℕ) → compared n (operationIn o) l r ≡
+    classifyComparison n (asComparison o) l r
 compared-same n o (AColumn a) (AColumn b) = column-same n a b o
 compared-same n o (AColumn a) (ALiteral v) = literal-same n a v o
 compared-same n o (AColumn a) (AList l) = refl

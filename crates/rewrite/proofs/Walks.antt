@@ -6,7 +6,7 @@ use mathlib.Core.Option.{Option, none, some, Option·none-ne-some}
 use Prim.Native.Nat.{ℕ, zero, suc, _+_, _-_, _≤_, _<_, min}
 use native.Mathlib.Omega.{arith}
 use native.Mathlib.Numerals.{add-one}
-use lib.ListN.{length, getD, set, length-append, length-set}
+use lib.ListN.{length, getD, set, length-append}
 use lib.Seq.{getD-set-same, getD-set-other}
 use lib.Dec.{ltb, eqb}
 use borrow.Author.Tests.{ltb-true, ltb-false, lt-ltb}
@@ -22,8 +22,8 @@ use Rattle.truth.specs.AExpr.{ListLiteral, IsIn, Missing}
 use Rattle.truth.specs.AExpr.{Compare, EqValidity, NotEqValidity, And, Or, Xor, LogicalAnd, LogicalOr}
 use Rattle.truth.specs.FromBytes.{toAExpr, aexprOf, aexprAt}
 use Rattle.merge.specs.Minterms.{andSides, minterms, mintermsBy, pending}
-use Rattle.rewrite.specs.Walk.{recordSides, walked, firstOf, stackOf, countBy, countBelow}
-use Rattle.merge.proofs.Chains.{pending-and, pending-one, Below}
+use Rattle.rewrite.specs.Walk.{recordSides, walked, firstOf, stackOf, InputsBelow, countBy, countBelow}
+use Rattle.merge.proofs.Chains.{pending-and, pending-one}
 
 -- ---- The count of conjuncts, by course of values.
 abbrev countRule : (ℕ → AExpr ℕ) → (ℕ → ℕ) → ℕ → ℕ
@@ -146,23 +146,9 @@ unfolding stackOf
 stack-top a zero h = absurd (omega arith)
 stack-top a (suc n) h = let e : suc n - 1 ≡ n = omega arith in rw e
 
-stack-two : (a : List ℕ) (n x y : ℕ) → 0 < n → n < length a
-    → stackOf (set (set a (n - 1) y) n x) (n + 1) ≡ (x ∷ (y ∷ stackOf a (n - 1)))
+stack-push : (a : List ℕ) (n y : ℕ) → n < length a → stackOf (set a n y) (n + 1) ≡ (y ∷ stackOf a n)
 unfolding stackOf
-stack-two a zero x y h k = absurd (omega arith)
-stack-two a (suc n) x y h k =
-    let e : suc n - 1 ≡ n = omega arith in
-    let l : suc n < length (set a n y) = simp length-set k in
-    let m : n < length a = omega arith in
-    rw (
-      e,
-      add-one,
-      getD-set-same (set a n y) (suc n) x 0 l,
-      above-set (set a n y) (suc n) n x (omega arith),
-      getD-set-same a n y 0 m,
-      stack-kept (set a n y) (suc n) x n (omega arith),
-      stack-kept a n y n (omega arith),
-    )
+stack-push a n y h = rw (add-one, getD-set-same a n y 0 h, stack-kept a n y n (omega arith))
 
 stack-length : (a : List ℕ) (n : ℕ) → length (stackOf a n) ≡ n
 unfolding stackOf
@@ -201,37 +187,9 @@ pending-long R (n ∷ l) =
     let b = pending-long R l in
     omega (arith, e, a, b)
 
--- Conjuncts found and nodes on the stack are together at most the conjuncts.
-pub walk-room : (R : ℕ → AExpr ℕ) (root : ℕ) (st nd : List ℕ) (depth len : ℕ)
-    → (firstOf nd len ++ pending R (stackOf st depth)) ≡ minterms R root → length (minterms R root) ≤ 128
-    → len + depth ≤ 128
-walk-room R root st nd depth len e h =
-    let a = length-append (firstOf nd len) (pending R (stackOf st depth)) in
-    let b : length (firstOf nd len ++ pending R (stackOf st depth)) ≡ length (minterms R root) = ap length e in
-    let c = pending-long R (stackOf st depth) in
-    let d = stack-length st depth in
-    let f = first-length nd len in
-    omega (arith, a, b, c, d, f, h)
-
-append-nil : (l : List ℕ) → (l ++ []) ≡ l
+pub append-nil : (l : List ℕ) → (l ++ []) ≡ l
 append-nil [] = refl
 append-nil (x ∷ l) = ap (λ m. x ∷ m) (append-nil l)
-
-pub walk-begin : (R : ℕ → AExpr ℕ) (st nd : List ℕ) → (firstOf nd 0 ++ pending R (stackOf st 1)) ≡
-    minterms R (getD st 0 0)
-unfolding firstOf stackOf
-walk-begin R st nd = append-nil (minterms R (getD st 0 0))
-
-pub low-begin : (st : List ℕ) → Below (suc (getD st 0 0)) (stackOf st 1)
-unfolding stackOf
-low-begin st = (omega arith, tt)
-
-pub walk-end : (R : ℕ → AExpr ℕ) (root : ℕ) (st nd : List ℕ) (depth len : ℕ) → depth ≡ 0
-    → (firstOf nd len ++ pending R (stackOf st depth)) ≡ minterms R root → firstOf nd len ≡ minterms R root
-unfolding stackOf
-walk-end R root st nd depth len z e =
-    sym (append-nil (firstOf nd len))
-    ∙ ap (λ d. firstOf nd len ++ pending R (stackOf st d)) (sym z) ∙ e
 
 -- The sides of a record are below it.
 abbrev sidesOr : Option (ℕ × ℕ) → ℕ × ℕ
@@ -262,68 +220,97 @@ sides-low n x y (ListLiteral k l) i e = absurd (Option·none-ne-some _ e)
 sides-low n x y (IsIn k a l) i e = absurd (Option·none-ne-some _ e)
 sides-low n x y Missing i e = absurd (Option·none-ne-some _ e)
 
-module _ (rs : List ℕ) (root : ℕ) (st nd : List ℕ) (depth len : ℕ) (live : 0 < depth)
-    (so : (firstOf nd len ++ pending (walked rs) (stackOf st depth)) ≡ minterms (walked rs) root) where
-  pub one-turn : Inputs (getD st (depth - 1) 0) (walked rs (getD st (depth - 1) 0))
-      → none ≡ recordSides (recordAt rs (node (getD st (depth - 1) 0))) → len < length nd
-      → (firstOf (set nd len (getD st (depth - 1) 0)) (len + 1) ++ pending (walked rs) (stackOf st (depth - 1)))
-      ≡ minterms (walked rs) root
-  one-turn i e h =
-      rw (first-more nd len (getD st (depth - 1) 0) h)
-      (append-assoc (firstOf nd len) (getD st (depth - 1) 0 ∷ []) (pending (walked rs) (stackOf st (depth - 1)))
-      ∙ ap (λ l. firstOf nd len ++ l)
-      (sym (pending-one (walked rs) (getD st (depth - 1) 0) (stackOf st (depth - 1)) i
-      (walked-sides rs (getD st (depth - 1) 0) ∙ sym e))
-      ∙ ap (pending (walked rs)) (sym (stack-top st depth live)))
-      ∙ so)
+-- ---- One turn of `next_minterm`: an And at the top.
+module _ (rs : List ℕ) (top x y : ℕ) (st : List ℕ) (left : ℕ)
+    (below : InputsBelow (walked rs) (top ∷ stackOf st left))
+    (both : some (x, y) ≡ recordSides (recordAt rs (node top))) where
+  sides-here : andSides (walked rs top) ≡ some (x, y)
+  sides-here = walked-sides rs top ∙ sym both
 
-  pub both-turn : (x y : ℕ) → Inputs (getD st (depth - 1) 0) (walked rs (getD st (depth - 1) 0))
-      → some (x, y) ≡ recordSides (recordAt rs (node (getD st (depth - 1) 0))) → depth < length st
-      → (firstOf nd len ++ pending (walked rs) (stackOf (set (set st (depth - 1) y) depth x) (depth + 1)))
-      ≡ minterms (walked rs) root
-  both-turn x y i e h =
-      ap (λ l. firstOf nd len ++ pending (walked rs) l) (stack-two st depth x y live h)
-      ∙ ap (λ l. firstOf nd len ++ l)
-      (sym (pending-and (walked rs) (getD st (depth - 1) 0) x y (stackOf st (depth - 1)) i
-      (walked-sides rs (getD st (depth - 1) 0) ∙ sym e))
-      ∙ ap (pending (walked rs)) (sym (stack-top st depth live)))
-      ∙ so
+  inputs-here : Inputs top (walked rs top)
+  inputs-here = below .0 top (omega arith)
 
-  -- so there is room for one more on the stack
-  pub both-room : (x y : ℕ) → Inputs (getD st (depth - 1) 0) (walked rs (getD st (depth - 1) 0))
-      → some (x, y) ≡ recordSides (recordAt rs (node (getD st (depth - 1) 0)))
-      → length (minterms (walked rs) root) ≤ 128 → len + depth < 128
-  both-room x y i e h =
-      let p : (firstOf nd len ++ pending (walked rs) (x ∷ (y ∷ stackOf st (depth - 1)))) ≡ minterms (walked rs) root =
-      ap (λ l. firstOf nd len ++ l)
-      (sym (pending-and (walked rs) (getD st (depth - 1) 0) x y (stackOf st (depth - 1)) i
-      (walked-sides rs (getD st (depth - 1) 0) ∙ sym e))
-      ∙ ap (pending (walked rs)) (sym (stack-top st depth live)))
-      ∙ so in
-      let a = length-append (firstOf nd len) (pending (walked rs) (x ∷ (y ∷ stackOf st (depth - 1)))) in
-      let b : length (firstOf nd len ++ pending (walked rs) (x ∷ (y ∷ stackOf st (depth - 1)))) ≡
-      length (minterms (walked rs) root) = ap length p in
-      let c : suc (suc (length (stackOf st (depth - 1)))) ≤
-      length (pending (walked rs) (x ∷ (y ∷ stackOf st (depth - 1)))) =
-      pending-long (walked rs) (x ∷ (y ∷ stackOf st (depth - 1))) in
-      let d = stack-length st (depth - 1) in
-      let f = first-length nd len in
-      omega (arith, a, b, c, d, f, h, live)
+  pub left-below : (x < top) × (y < top)
+  left-below = sides-low top x y (walked rs top) inputs-here sides-here
 
-  pub low-top : Below (suc root) (stackOf st depth) → getD st (depth - 1) 0 ≤ root
-  low-top b =
-      let k : getD st (depth - 1) 0 < suc root = subst (Below (suc root)) (stack-top st depth live) b .0 in omega arith
+  turn-two : pending (walked rs) (top ∷ stackOf st left) ≡ pending (walked rs) (x ∷ (y ∷ stackOf st left))
+  turn-two = pending-and (walked rs) top x y (stackOf st left) inputs-here sides-here
 
-  pub low-rest : Below (suc root) (stackOf st depth) → Below (suc root) (stackOf st (depth - 1))
-  low-rest b = subst (Below (suc root)) (stack-top st depth live) b .1
+  -- both sides have a conjunct, so there is room for one node more
+  pub turn-room : (room : ℕ) → length (pending (walked rs) (top ∷ stackOf st left)) ≤ room → left + 1 < room
+  turn-room room few =
+      let e : length (pending (walked rs) (top ∷ stackOf st left)) ≡
+      length (pending (walked rs) (x ∷ (y ∷ stackOf st left))) = ap length turn-two in
+      let c : suc (suc (length (stackOf st left))) ≤ length (pending (walked rs) (x ∷ (y ∷ stackOf st left))) =
+      pending-long (walked rs) (x ∷ (y ∷ stackOf st left)) in
+      let d = stack-length st left in
+      omega (arith, e, c, d, few)
 
-  pub low-two : (x y : ℕ) → depth < length st → Inputs (getD st (depth - 1) 0) (walked rs (getD st (depth - 1) 0))
-      → some (x, y) ≡ recordSides (recordAt rs (node (getD st (depth - 1) 0))) → Below (suc root) (stackOf st depth)
-      → Below (suc root) (stackOf (set (set st (depth - 1) y) depth x) (depth + 1))
-  low-two x y h i e b =
-      let s = sides-low (getD st (depth - 1) 0) x y (walked rs (getD st (depth - 1) 0)) i
-      (walked-sides rs (getD st (depth - 1) 0) ∙ sym e) in
-      let p : x < getD st (depth - 1) 0 = s .0 in
-      let q : y < getD st (depth - 1) 0 = s .1 in
-      let k : getD st (depth - 1) 0 ≤ root = low-top b in
-      subst (Below (suc root)) (sym (stack-two st depth x y live h)) (omega arith, (omega arith, low-rest b))
+  pub turn-pending : left < length st
+      → pending (walked rs) (x ∷ stackOf (set st left y) (left + 1)) ≡ pending (walked rs) (top ∷ stackOf st left)
+  turn-pending room = ap (λ l. pending (walked rs) (x ∷ l)) (stack-push st left y room) ∙ sym turn-two
+
+  pub turn-below : left < length st → InputsBelow (walked rs) (x ∷ stackOf (set st left y) (left + 1))
+  turn-below room =
+      let p : x < top = left-below .0 in
+      let q : y < top = left-below .1 in (
+        (λ n h. below .0 n (omega arith)),
+        subst (InputsBelow (walked rs)) (sym (stack-push st left y room)) ((λ n h. below .0 n (omega arith)), below .1),
+      )
+
+-- No And at the top: the conjunct.
+pub turn-one : (rs : List ℕ) (top : ℕ) (s : List ℕ) → InputsBelow (walked rs) (top ∷ s)
+    → none ≡ recordSides (recordAt rs (node top))
+    → pending (walked rs) (top ∷ s) ≡ (top ∷ pending (walked rs) s)
+turn-one rs top s below one =
+    pending-one (walked rs) top s (below .0 top (omega arith)) (walked-sides rs top ∙ sym one)
+
+-- The stack as it is taken: its top, and the rest.
+pub top-pending : (R : ℕ → AExpr ℕ) (st : List ℕ) (depth : ℕ) → 0 < depth
+    → pending R (getD st (depth - 1) 0 ∷ stackOf st (depth - 1)) ≡ pending R (stackOf st depth)
+top-pending R st depth live = ap (pending R) (sym (stack-top st depth live))
+
+pub top-below : (R : ℕ → AExpr ℕ) (st : List ℕ) (depth : ℕ) → 0 < depth → InputsBelow R (stackOf st depth)
+    → InputsBelow R (getD st (depth - 1) 0 ∷ stackOf st (depth - 1))
+top-below R st depth live b = subst (InputsBelow R) (stack-top st depth live) b
+
+pub depth-low : (R : ℕ → AExpr ℕ) (st : List ℕ) (depth room : ℕ) → length (pending R (stackOf st depth)) ≤ room
+    → depth ≤ room
+depth-low R st depth room few =
+    let c = pending-long R (stackOf st depth) in
+    let d = stack-length st depth in
+    omega (arith, c, d, few)
+
+-- ---- `minterms`: those found, and what the stack still gives, are the root's.
+pub walk-begin : (R : ℕ → AExpr ℕ) (st nd : List ℕ) → (firstOf nd 0 ++ pending R (stackOf st 1)) ≡
+    minterms R (getD st 0 0)
+unfolding firstOf stackOf
+walk-begin R st nd = append-nil (minterms R (getD st 0 0))
+
+pub below-begin : (R : ℕ → AExpr ℕ) (st : List ℕ) → ((n : ℕ) → n ≤ getD st 0 0 → Inputs n (R n))
+    → InputsBelow R (stackOf st 1)
+unfolding stackOf
+below-begin R st h = (h, tt)
+
+-- those found and those to come are at most 128
+pub walk-few : (R : ℕ → AExpr ℕ) (l st nd : List ℕ) (depth len : ℕ)
+    → (firstOf nd len ++ pending R (stackOf st depth)) ≡ l → length l ≤ 128
+    → len + length (pending R (stackOf st depth)) ≤ 128
+walk-few R l st nd depth len e few =
+    let a = length-append (firstOf nd len) (pending R (stackOf st depth)) in
+    let b : length (firstOf nd len ++ pending R (stackOf st depth)) ≡ length l = ap length e in
+    let f = first-length nd len in
+    omega (arith, a, b, f, few)
+
+pub walk-turn : (l nd p q : List ℕ) (len n : ℕ) → len < length nd → (firstOf nd len ++ p) ≡ l → p ≡ (n ∷ q)
+    → (firstOf (set nd len n) (len + 1) ++ q) ≡ l
+walk-turn l nd p q len n room e f =
+    rw (first-more nd len n room)
+    (append-assoc (firstOf nd len) (n ∷ []) q ∙ ap (λ m. firstOf nd len ++ m) (sym f) ∙ e)
+
+pub walk-end : (R : ℕ → AExpr ℕ) (l st nd : List ℕ) (depth len : ℕ) → depth ≡ 0
+    → (firstOf nd len ++ pending R (stackOf st depth)) ≡ l → firstOf nd len ≡ l
+unfolding stackOf
+walk-end R l st nd depth len z e =
+    sym (append-nil (firstOf nd len))
+    ∙ ap (λ d. firstOf nd len ++ pending R (stackOf st d)) (sym z) ∙ e

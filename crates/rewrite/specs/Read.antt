@@ -1,5 +1,6 @@
 -- What the code reads of a conjunct, and what that stands for: `Conjunct` of the code is `Conjunct` of Classify, with
 -- lists by their place in the pool p. n is the conjunct's node.
+use mathlib.Core.Option.{some}
 use mathlib.Core.Bool.{Bool, true, false}
 use mathlib.Core.List.{List, [], _∷_}
 use Prim.Native.Nat.{ℕ}
@@ -98,7 +99,7 @@ columnLiteral n a v operation.Other = c.Recorded false n a []
 columnLiteral n a v operation.Missing = c.Opaque n
 
 abbrev pub columnColumn : ℕ → ℕ → ℕ → Operation → c.Conjunct ℕ
-columnColumn n a b (operation.Compare k) = c.classifyColumns n a b (comparisonIn k)
+columnColumn n a b (operation.Compare k) = c.classifyColumnColumn n a b (some (comparisonIn k))
 columnColumn n a b operation.Other = c.Opaque n
 columnColumn n a b operation.Missing = c.Opaque n
 

@@ -2,11 +2,11 @@
 use mathlib.Core.Bool.{cond}
 use mathlib.Core.List.{List, [], _∷_, _++_}
 use mathlib.Core.Option.{Option, none, some}
-use Prim.Native.Nat.{ℕ, zero, suc, _+_}
+use Prim.Native.Nat.{ℕ, zero, suc, _+_, _≤_}
 use lib.ListN.{getD}
 use lib.Dec.{ltb}
 use Rattle.records.specs.declared.record.Record.{Record}
-use Rattle.truth.specs.AExpr.{AExpr}
+use Rattle.truth.specs.AExpr.{AExpr, Inputs}
 use Rattle.truth.specs.FromBytes.{toAExpr, aexprOf}
 use Rattle.merge.specs.Minterms.{andSides}
 use Rattle.rewrite.specs.declared.minterms.Sides.{Sides}
@@ -34,6 +34,11 @@ firstOf a (suc n) = firstOf a n ++ (getD a n 0 ∷ [])
 unfoldable pub stackOf : List ℕ → ℕ → List ℕ
 stackOf a zero = []
 stackOf a (suc n) = getD a n 0 ∷ stackOf a n
+
+-- Every record up to a node of the stack has its inputs below it, so the walk from there ends.
+abbrev pub InputsBelow : (ℕ → AExpr ℕ) → List ℕ → Type 0
+InputsBelow R [] = Unit {0}
+InputsBelow R (top ∷ stack) = ((n : ℕ) → n ≤ top → Inputs n (R n)) × InputsBelow R stack
 
 -- One conjunct, or those of both sides.
 abbrev pub countBy : (ℕ → ℕ) → Option (ℕ × ℕ) → ℕ

@@ -1,8 +1,9 @@
 // `classify_into_constraints`: what a conjunct says. It looks at the conjunct's record and at its operands' records,
 // and at nothing below them.
 ghost use mathlib.Core.Path.{_≡_};
-ghost use mathlib.Core.Bool.{Bool};
+ghost use mathlib.Core.Bool.{Bool, not, _&&_, cond};
 ghost use mathlib.Core.List.{List, [], _∷_};
+ghost use mathlib.Core.Option.{some};
 ghost use Prim.Native.Nat.{ℕ};
 ghost use lib.Dec.{leb};
 ghost use lib.ListN.{length};
@@ -102,8 +103,8 @@ fn operation_of(o: Operator) -> Operation
 }
 
 fn list_operand(marked: bool, start: u32, count: u32) -> Operand
-    ensures { λ r. ⌜ ((p : List ℕ) → operandIn p r ≡ c.listOperand marked (leb (length (valuesFrom p start count)) 100)
-        (valuesFrom p start count)) ⌝ }
+    ensures { λ r. ⌜ ((p : List ℕ) → operandIn p r ≡ cond (not marked && leb (length (valuesFrom p start count)) 100)
+        (c.AList (valuesFrom p start count)) c.Other) ⌝ }
 {
     if marked {
         return Operand::Other;
@@ -175,7 +176,8 @@ fn column_literal(op: Operation, a: Column, v: Scalar) -> Conjunct
 }
 
 fn columns(k: Comparison, a: Column, b: Column) -> Conjunct
-    ensures { λ r. ⌜ ((p : List ℕ) (n : ℕ) → conjunctIn p n r ≡ c.classifyColumns n (a .0) (b .0) (comparisonIn k)) ⌝ }
+    ensures { λ r. ⌜ ((p : List ℕ) (n : ℕ) → conjunctIn p n r ≡ c.classifyColumnColumn n (a .0) (b .0)
+        (some (comparisonIn k))) ⌝ }
 {
     match k {
         Comparison::Eq => Conjunct::Equality(a, b),
@@ -234,8 +236,8 @@ fn classify_comparison(op: Operation, left: Operand, right: Operand) -> Conjunct
 // ---- is_between
 
 fn between_high(ends: ClosedInterval, a: Column, v: Scalar, high: Operand) -> Conjunct
-    ensures { λ r. ⌜ ((p : List ℕ) (n : ℕ) → conjunctIn p n r ≡ c.classifyEnds n (closesLow ends) (closesHigh ends)
-        (a .0) (c.ALiteral (v .0)) (operandIn p high)) ⌝ }
+    ensures { λ r. ⌜ ((p : List ℕ) (n : ℕ) → conjunctIn p n r ≡ c.classifyIsBetween n (closesLow ends) (closesHigh ends)
+        (c.AColumn (a .0)) (c.ALiteral (v .0)) (operandIn p high)) ⌝ }
 {
     match high {
         Operand::Column(_) => Conjunct::Opaque,
@@ -246,8 +248,8 @@ fn between_high(ends: ClosedInterval, a: Column, v: Scalar, high: Operand) -> Co
 }
 
 fn between_low(ends: ClosedInterval, a: Column, low: Operand, high: Operand) -> Conjunct
-    ensures { λ r. ⌜ ((p : List ℕ) (n : ℕ) → conjunctIn p n r ≡ c.classifyEnds n (closesLow ends) (closesHigh ends)
-        (a .0) (operandIn p low) (operandIn p high)) ⌝ }
+    ensures { λ r. ⌜ ((p : List ℕ) (n : ℕ) → conjunctIn p n r ≡ c.classifyIsBetween n (closesLow ends) (closesHigh ends)
+        (c.AColumn (a .0)) (operandIn p low) (operandIn p high)) ⌝ }
 {
     match low {
         Operand::Column(_) => Conjunct::Opaque,

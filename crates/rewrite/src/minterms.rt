@@ -1,13 +1,14 @@
 // `MintermIter`: the conjuncts of a record, left to right through And and LogicalAnd.
 ghost use mathlib.Core.Path.{_≡_};
-ghost use mathlib.Core.List.{[]};
+ghost use mathlib.Core.List.{[], _∷_};
 ghost use Prim.Native.Nat.{ℕ, _≤_, _<_, min};
 ghost use lib.ListN.{length};
 ghost use Rattle.records.specs.Record.{recordAt};
 ghost use Rattle.truth.specs.AExpr.{Inputs};
 ghost use Rattle.truth.specs.FromBytes.{binaryExpr};
-ghost use Rattle.merge.specs.Minterms.{andSides, minterms};
-ghost use Rattle.rewrite.specs.Walk.{sidesIn, recordSides, walked, firstOf, countBy, countBelow};
+ghost use Rattle.merge.specs.Minterms.{andSides, minterms, pending};
+ghost use Rattle.rewrite.specs.Walk.{sidesIn, recordSides, walked, firstOf, stackOf, InputsBelow};
+ghost use Rattle.rewrite.specs.Walk.{countBy, countBelow};
 use records::operator::Operator;
 use records::record::Node;
 use records::record::Record;
@@ -23,6 +24,12 @@ pub enum Sides {
 pub struct Chain {
     pub nodes: [u32; 128],
     pub len: usize,
+}
+
+/// A conjunct, and how many nodes of the stack are left.
+pub struct Minterm {
+    pub node: Node,
+    pub depth: usize,
 }
 
 fn binary_sides(o: Operator, x: Node, y: Node) -> Sides
@@ -132,7 +139,38 @@ pub fn minterm_count(rs: &[u8], root: Node) -> u8
     counts[root.0 as usize]
 }
 
-/// The conjuncts of the root. On the stack lie the nodes still to be walked, the next one on top.
+/// `MintermIter`'s `next` on the stack of the nodes still to visit, the next one on top: down the left sides of Ands to
+/// the first conjunct. What is left of the stack gives the rest.
+pub fn next_minterm(rs: &[u8], stack: &mut [u32], depth: usize) -> Minterm
+    requires live { ⌜ 0 < depth ⌝ }
+    requires below { ⌜ InputsBelow (walked (now rs)) (stackOf (now stack) depth) ⌝ }
+    requires room { ⌜ length (pending (walked (now rs)) (stackOf (now stack) depth)) ≤ length (now stack) ⌝ }
+    ensures next { λ r. ⌜ pending (walked (now (rs .entry))) (stackOf (now (stack .entry)) depth)
+        ≡ (r .node .0 ∷ pending (walked (now (rs .entry))) (stackOf (now (stack .exit)) (r .depth))) ⌝ }
+    ensures below { λ r. ⌜ InputsBelow (walked (now (rs .entry))) (stackOf (now (stack .exit)) (r .depth)) ⌝ }
+{
+    let mut left = depth - 1;
+    let mut top = stack[left];
+    loop {
+        let s = sides_at(rs, Node(top));
+        match s {
+            Sides::One => {
+                return Minterm {
+                    node: Node(top),
+                    depth: left,
+                };
+            }
+            Sides::Both(x, y) => {
+                stack[left] = y.0;
+                left += 1;
+                top = x.0;
+                continue;
+            }
+        }
+    }
+}
+
+/// The conjuncts of the root.
 pub fn minterms(rs: &[u8], root: Node) -> Chain
     requires below { ⌜ ((n : ℕ) → n ≤ root .0 → Inputs n (walked (now rs) n)) ⌝ }
     requires few { ⌜ length (minterms (walked (now rs)) (root .0)) ≤ 128 ⌝ }
@@ -145,22 +183,10 @@ pub fn minterms(rs: &[u8], root: Node) -> Chain
     let mut len: usize = 0;
     stack[0] = root.0;
     while 0 < depth {
-        let top = stack[depth - 1];
-        let s = sides_at(rs, Node(top));
-        match s {
-            Sides::One => {
-                depth -= 1;
-                nodes[len] = top;
-                len += 1;
-                continue;
-            }
-            Sides::Both(x, y) => {
-                stack[depth - 1] = y.0;
-                stack[depth] = x.0;
-                depth += 1;
-                continue;
-            }
-        }
+        let m = next_minterm(rs, &mut stack, depth);
+        nodes[len] = m.node.0;
+        len += 1;
+        depth = m.depth;
     }
     Chain {
         nodes: nodes,

@@ -1,6 +1,6 @@
 -- What the merging answers of the conjuncts in an array is the answer of rewriting.
 use mathlib.Core.Path.{_≡_, sym, _∙_, ap}
-use mathlib.Core.List.{List}
+use mathlib.Core.List.{List, map}
 use Prim.Native.Nat.{ℕ, _≤_, min}
 use native.Mathlib.Omega.{arith}
 use lib.ListN.{length, getD}
@@ -12,7 +12,7 @@ use Rattle.truth.specs.FromBytes.{aexprOf}
 use Rattle.constraints.specs.Payload.{payload}
 use Rattle.merge.specs.declared.rewrite.RewriteAnswer.{RewriteAnswer}
 use Rattle.merge.specs.Minterms.{minterms}
-use Rattle.merge.specs.Classify.{classifyAll}
+use Rattle.merge.specs.Classify.{classify}
 use Rattle.merge.specs.Emit.{Outcome, mergeFilterConstraints}
 use Rattle.merge.specs.Write.{outcomeBytes}
 use Rattle.merge.specs.Rewrite.{rewriteAnswer, writtenIf, rewriteBytes}
@@ -23,7 +23,7 @@ use Rattle.stages.proofs.Screens.{nodes-count}
 
 -- The merging of the first n nodes.
 abbrev mergedNodes : List ℕ → List ℕ → List ℕ → ℕ → Outcome ℕ
-mergedNodes rs p nodes n = mergeFilterConstraints payload (classifyAll (aexprOf rs p) (firstOf nodes n))
+mergedNodes rs p nodes n = mergeFilterConstraints payload (map (classify (aexprOf rs p)) (firstOf nodes n))
 
 pub rewrite-merged : (t rs p : List ℕ) (used root : ℕ) → checkAnswer t rs p used root ≡ check.Accepted
     → (trees : List ℕ) → ((a : ℕ) → a ≤ root → getD trees a 0 ≡ min (treeCount rs a) 4097) → treeCount rs root ≤ 4096
@@ -36,7 +36,7 @@ rewrite-merged t rs p used root ok trees counted small nodes n are few r out e f
     nodes-count t rs p used root (checked t rs p used root ok) nodes n are in
     let on = rewrite-on t rs p used root ok trees counted small (omega (arith, k, few)) in
     let o : mergedNodes rs p nodes n ≡ walkedOutcome rs p root =
-    ap (λ l. mergeFilterConstraints payload (classifyAll (aexprOf rs p) l)) are in
+    ap (λ l. mergeFilterConstraints payload (map (classify (aexprOf rs p)) l)) are in
     let a : r ≡ reckonedAnswer (length rs) trees used (walkedOutcome rs p root) =
     e ∙ ap (reckonedAnswer (length rs) trees used) o in (
       a ∙ sym (on .0),

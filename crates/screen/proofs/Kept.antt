@@ -26,7 +26,8 @@ use Rattle.merge.specs.Rebuild.{comparisonOf, valueOf, comparisonsEnd, andsEnd,
 use Rattle.merge.specs.Write.{fieldBytes, writeRecord, operatorOf, writeComparison, writeComparisons, writeAnds}
 use Rattle.merge.specs.Write.{foldBytes, outcomeBytes}
 use Rattle.merge.specs.Rewrite.{outcomeOf, chainNodes, chainRoot, chainUsed, hasRoom, chainFits, outcomeAnswer}
-use Rattle.merge.specs.Rewrite.{rewriteIf, rewriteAnswer, writtenIf, rewriteBytes, usedAfter}
+use Rattle.merge.specs.Rewrite.{rewriteIf, rewriteAnswer, writtenIf, rewriteBytes}
+use Rattle.merge.specs.Demand.{usedAfter}
 use Rattle.merge.proofs.Splices.{splice-before, splice-after}
 use Rattle.merge.proofs.Written.{length-write}
 use Rattle.merge.proofs.RebuiltBytes.{comparisons-end, ands-end, fold-end}

@@ -18,10 +18,11 @@ use Rattle.constraints.specs.Values.{isEmpty}
 use Rattle.merge.specs.declared.rewrite.RewriteAnswer.{RewriteAnswer}
 use Rattle.merge.specs.declared.rewrite.RewriteAnswer.the-variants as answer
 use Rattle.merge.specs.Demand.{Row, IsRow, IsChain, isRefused, isNothing, AreBytes, passes, rowsPassing, Demand3}
+use Rattle.merge.specs.Demand.{rootAfter, usedAfter}
 use Rattle.merge.specs.Emit.{Outcome, Unchanged, NothingPasses, Rebuilt}
 use Rattle.merge.specs.Minterms.{minterms}
 use Rattle.merge.specs.Rewrite.{outcomeOf, chainNodes, chainRoot, chainUsed, hasRoom, chainFits, outcomeAnswer}
-use Rattle.merge.specs.Rewrite.{rewriteIf, rewriteAnswer, rewriteBytes, rootAfter, usedAfter}
+use Rattle.merge.specs.Rewrite.{rewriteIf, rewriteAnswer, rewriteBytes}
 use Rattle.merge.proofs.Demand.{demand-3}
 use Rattle.screen.specs.Answers.{rewriteNumber, newRootOut, newUsedOut}
 use Rattle.screen.specs.Promises.{returned, BytesKept, RewritePromise}

@@ -1,7 +1,8 @@
 -- The answer of rewriting and the bytes at exit, by the steps of the code: checking, 8, 9, then what is reckoned.
+use Rattle.merge.specs.Classify.{classify}
 use mathlib.Core.Path.{_≡_, refl, sym, _∙_, ap}
 use mathlib.Core.Bool.{Bool, true, false, cond, _&&_, true≢false}
-use mathlib.Core.List.{List}
+use mathlib.Core.List.{List, map}
 use Prim.Native.Nat.{ℕ, _+_, _≤_, _<_, min}
 use lib.Dec.{ltb, leb, eqb}
 use lib.ListN.{length, getD}
@@ -15,7 +16,6 @@ use Rattle.constraints.specs.Payload.{payload}
 use Rattle.merge.specs.declared.rewrite.RewriteAnswer.{RewriteAnswer}
 use Rattle.merge.specs.declared.rewrite.RewriteAnswer.the-variants as answer
 use Rattle.merge.specs.Minterms.{minterms}
-use Rattle.merge.specs.Classify.{classifyAll}
 use Rattle.merge.specs.Emit.{Outcome, mergeFilterConstraints}
 use Rattle.merge.specs.Write.{outcomeBytes}
 use Rattle.merge.specs.Rewrite.{outcomeOf, outcomeAnswer, checkedAnswer, rewriteIf, rewriteAnswer, writtenIf}
@@ -28,7 +28,7 @@ use Rattle.stages.proofs.Reckons.{reckoned-answer}
 
 -- The merging of what the code reads.
 abbrev pub walkedOutcome : List ℕ → List ℕ → ℕ → Outcome ℕ
-walkedOutcome rs p root = mergeFilterConstraints payload (classifyAll (aexprOf rs p) (minterms (walked rs) root))
+walkedOutcome rs p root = mergeFilterConstraints payload (map (classify (aexprOf rs p)) (minterms (walked rs) root))
 
 -- A screen that is refused in checking is refused.
 pub rewrite-refused : (t rs p : List ℕ) (used root k : ℕ) → checkAnswer t rs p used root ≡ check.Refused k

@@ -1,4 +1,5 @@
 -- Numbers 10 and 11, reckoned before a byte is written, are those of the records written.
+use Rattle.merge.specs.Demand.{rootAfter, usedAfter}
 use mathlib.Core.Path.{_≡_, refl, sym, _∙_, ap, subst}
 use mathlib.Core.Bool.{Bool, true, false, cond, _&&_, true≢false}
 use mathlib.Core.List.{List, [], _∷_, _++_}
@@ -26,7 +27,6 @@ use Rattle.merge.specs.Rebuild.{comparisonOf, valueOf, comparisonNodes, compari
 use Rattle.merge.specs.Write.{fieldBytes, wordBytes, operatorOf, writeRecord, splice, writeComparison}
 use Rattle.merge.specs.Write.{writeComparisons, foldBytes, outcomeBytes}
 use Rattle.merge.specs.Rewrite.{outcomeOf, chainNodes, chainRoot, chainUsed, hasRoom, chainFits, outcomeAnswer}
-use Rattle.merge.specs.Rewrite.{rootAfter, usedAfter}
 use Rattle.merge.proofs.Accepted.{inputs-fall}
 use Rattle.merge.proofs.Chains.{Below, below-more}
 use Rattle.merge.proofs.Demand.{halves}

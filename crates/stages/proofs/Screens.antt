@@ -1,7 +1,7 @@
 -- A checked screen: what the code reads of its bytes is what the definitions read of its used records.
 use mathlib.Core.Path.{_≡_, refl, sym, _∙_, ap, subst}
-use mathlib.Core.Bool.{Bool, true, false, cond}
-use mathlib.Core.List.{List, [], _∷_, _++_}
+use mathlib.Core.Bool.{Bool, true, false, cond, not, _&&_}
+use mathlib.Core.List.{List, [], _∷_, _++_, map}
 use Prim.Native.Nat.{ℕ, zero, suc, _+_, _≤_, _<_}
 use native.Mathlib.Omega.{arith}
 use lib.ListN.{length, getD}
@@ -21,8 +21,8 @@ use Rattle.truth.specs.AExpr.{ListLiteral, IsIn, Missing, Inputs, WF}
 use Rattle.truth.specs.FromBytes.{binaryExpr, toAExpr, aexprOf, aexprAt}
 use Rattle.constraints.specs.Payload.{payload}
 use Rattle.merge.specs.Minterms.{minterms}
-use Rattle.merge.specs.Classify.{Operand, AColumn, ALiteral, AList, Other, listOperand, operand}
-use Rattle.merge.specs.Classify.{classify, classifyRecord, classifyNegation, classifyAll, conjuncts}
+use Rattle.merge.specs.Classify.{Operand, AColumn, ALiteral, AList, Other, operand}
+use Rattle.merge.specs.Classify.{classify, classifyRecord, classifyNegation, conjuncts}
 use Rattle.merge.proofs.Chains.{Below, below-more, below-app, minterms-low}
 use Rattle.merge.proofs.Forms.{Forms, classify-ind}
 use Rattle.merge.proofs.Fitting.{AExprP}
@@ -105,7 +105,7 @@ operand-below k (IsNotNull x) h = tt
 operand-below k (IsBetween c d x y z) h = tt
 operand-below k (ListLiteral m l) h = go m (leb (length l) 100)
   where
-    go : (m b : Bool) → OperandBelow k (listOperand m b l)
+    go : (m b : Bool) → OperandBelow k (cond (not m && b) (AList l) Other)
     go true b = tt
     go false true = tt
     go false false = tt
@@ -226,7 +226,7 @@ module _ (t rs p : List ℕ) (used root : ℕ) (ok : Checked t rs p used root) w
 
   -- What is read of used records.
   pub classify-all-used : (ns : List ℕ) → Below used ns
-      → classifyAll (aexprAt rs p used) ns ≡ classifyAll (aexprOf rs p) ns
+      → map (classify (aexprAt rs p used)) ns ≡ map (classify (aexprOf rs p)) ns
   classify-all-used [] h = refl
   classify-all-used (n ∷ ns) h = rw (classify-used n (h .0), classify-all-used ns (h .1))
 
@@ -242,9 +242,9 @@ module _ (t rs p : List ℕ) (used root : ℕ) (ok : Checked t rs p used root) w
       below-more (suc root) used (minterms (walked rs) root) (omega arith) minterms-below-root
 
   -- What is read of the conjuncts is what the code reads.
-  pub conjuncts-used : conjuncts (aexprAt rs p used) root ≡ classifyAll (aexprOf rs p) (minterms (walked rs) root)
+  pub conjuncts-used : conjuncts (aexprAt rs p used) root ≡ map (classify (aexprOf rs p)) (minterms (walked rs) root)
   conjuncts-used =
-      ap (classifyAll (aexprAt rs p used)) minterms-walked
+      ap (map (classify (aexprAt rs p used))) minterms-walked
       ∙ classify-all-used (minterms (walked rs) root) minterms-below
 
   -- Every column of a used record is in the table, which has at most 64.

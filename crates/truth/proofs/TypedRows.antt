@@ -13,20 +13,12 @@ use lib.ListN.{length, getD}
 use borrow.Author.Tests.{leb-true}
 use Rattle.records.specs.Bytes.{valueAt, all}
 use Rattle.records.specs.Shape.{inType}
-use Rattle.records.proofs.Laws.{and-left, and-right}
+use Rattle.records.proofs.Loops.{all-holds}
 use Rattle.truth.specs.Halves.{key}
 use Rattle.truth.specs.Cell.{TruthKeys}
 use Rattle.truth.specs.FromBytes.{nullMarked, rowOf, truthKeys}
 use Rattle.truth.specs.RowTest.{columnOk, columnsOk, marksOk, rowFault}
 use Rattle.truth.proofs.Keys.{lt-or-le}
-
-all-at : (p : ℕ → Bool) (n m : ℕ) → all p n ≡ true → m < n → p m ≡ true
-unfolding all
-all-at p zero m e h = absurd (omega arith)
-all-at p (suc n) m e h =
-    ⊎-elim (λ (k : m < n). all-at p n m (and-left (all p n) (p n) e) k)
-    (λ (k : n ≤ m). let q : n ≡ m = omega arith in subst (λ i. p i ≡ true) q (and-right (all p n) (p n) e))
-    (lt-or-le m n)
 
 columns-ok-of : (t row : List ℕ) (nulls : ℕ) → rowFault t row nulls ≡ 0 → columnsOk t row nulls ≡ true
 unfolding rowFault
@@ -50,8 +42,8 @@ unfolding rowOf columnsOk columnOk inType
 truth-columns t row nulls e c h ty =
     go (nullMarked nulls c) (valueAt row c)
     (subst (λ y. cond (nullMarked nulls c) (eqb (valueAt row c) 0) (inType y (valueAt row c)) ≡ true) ty
-    (all-at (λ (k : ℕ). columnOk (getD t k 0) (nullMarked nulls k) (valueAt row k)) (length t) c (columns-ok-of t row
-    nulls e) h))
+    (all-holds (λ (k : ℕ). columnOk (getD t k 0) (nullMarked nulls k) (valueAt row k)) c (length t) h (columns-ok-of t row
+    nulls e)))
   where
     small : (v : ℕ) → v ≤ 1 → IsTruth (some (key v))
     small zero k = inr (inl refl)

@@ -6,7 +6,6 @@ use crate::logic::Truth;
 use crate::logic::not_of;
 use crate::logic::truth_of_bool;
 use crate::member::member;
-use crate::read::fields_in;
 use crate::read::leaf_value;
 use crate::value::Value;
 use crate::value::between;
@@ -16,6 +15,7 @@ use crate::value::is_null;
 use crate::value::truth_of_value;
 use crate::value::value_of_truth;
 use records::record::Node;
+use records::record::fields_in;
 
 // The truth of record `n` under the row.
 pub fn truth_at(records: &[u8], pool: &[u8], row: &[u8], nulls: u64, n: Node) -> Truth

@@ -8,11 +8,11 @@ ghost use Rattle.truth.specs.FromBytes.{valuesFrom};
 ghost use Rattle.truth.specs.Evaluate.{keyed, holdsKey, memberOf};
 use crate::logic::Truth;
 use crate::logic::truth_of_bool;
-use crate::read::value_in;
 use crate::scalar::Scalar;
 use crate::scalar::scalar_cmp;
 use crate::value::Value;
 use crate::value::is_equal;
+use records::bytes::value_in;
 use records::record::Fields;
 
 // Whether one of `count` values of the pool, from the one numbered `start` on, equals `v`.

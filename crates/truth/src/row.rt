@@ -5,7 +5,7 @@ ghost use lib.Dec.{ltb};
 ghost use lib.ListN.{length};
 ghost use Rattle.truth.specs.RowTest.{columnOk, columnsOk, marksOk, rowFault};
 use crate::read::null_marked;
-use crate::read::value_in;
+use records::bytes::value_in;
 use records::shape::in_type;
 
 fn column_ok(ty: u8, null: bool, v: u64) -> bool

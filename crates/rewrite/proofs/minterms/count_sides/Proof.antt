@@ -6,31 +6,31 @@ use Rattle.rewrite.proofs.minterms.count_sides.Reads as reads
 use Rattle.rewrite.proofs.minterms.count_sides.Lts as lts
 use Rattle.rewrite.proofs.minterms.count_at.Reads as count-at-reads
 
--- src/minterms.rt:104:23
+-- src/minterms.rt:111:23
 enum-told : tie.Need-enum-told
 enum-told c = search needs
 
--- src/minterms.rt:105:21
+-- src/minterms.rt:112:21
 enum-known-s : tie.Need-enum-known-s
 enum-known-s c = search needs
 
--- src/minterms.rt:105:30
+-- src/minterms.rt:112:30
 count-at-requires : tie.Need-count-at-requires
 count-at-requires c κs = search needs
 
--- src/minterms.rt:105:55
+-- src/minterms.rt:112:55
 count-at-requires-2 : tie.Need-count-at-requires-2
 count-at-requires-2 c κs = search needs
 
--- src/minterms.rt:105:30
+-- src/minterms.rt:112:30
 add-result : tie.Need-add-result
 add-result c = search needs
 
--- src/minterms.rt:98:1
+-- src/minterms.rt:105:1
 returns : tie.Need-returns
 returns c = search needs
 
--- src/minterms.rt:98:1
+-- src/minterms.rt:105:1
 returns-2 : tie.Need-returns-2
 returns-2 c = (
   rw (c .before .before .before .s .given .1, c .count-at2 .ensures .0, c .before .count-at .ensures .0),

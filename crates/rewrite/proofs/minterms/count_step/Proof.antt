@@ -8,23 +8,23 @@ use Rattle.rewrite.proofs.minterms.count_step.Lts as lts
 use Rattle.rewrite.proofs.minterms.count_sides.Reads as count-sides-reads
 use Rattle.rewrite.proofs.minterms.sides_at.Reads as sides-at-reads
 
--- src/minterms.rt:115:36
+-- src/minterms.rt:122:36
 sides-at-requires : tie.Need-sides-at-requires
 sides-at-requires c κs = search needs
 
--- src/minterms.rt:115:9
+-- src/minterms.rt:122:9
 count-sides-requires : tie.Need-count-sides-requires
 count-sides-requires c κs = search needs
 
--- src/minterms.rt:116:18
+-- src/minterms.rt:123:18
 cast-result : tie.Need-cast-result
 cast-result c = search needs
 
--- src/minterms.rt:110:1
+-- src/minterms.rt:117:1
 returns : tie.Need-returns
 returns c = rw (← c .before .before .sides-at .ensures, ← c .before .count-sides .ensures .0) (omega arith)
 
--- src/minterms.rt:110:1
+-- src/minterms.rt:117:1
 returns-2 : tie.Need-returns-2
 returns-2 c = rw (← c .before .before .sides-at .ensures, ← c .before .count-sides .ensures .0) (omega arith)
 

@@ -21,31 +21,31 @@ Inv-loop rs root counts₀ i₀ counts i =
 abbrev μ-loop : tie.MeasureT-loop
 μ-loop rs root counts₀ i₀ counts i = root .0 + 1 - i
 
--- src/minterms.rt:127:5
+-- src/minterms.rt:134:5
 loop-holds : tie.Need-loop-holds Inv-loop μ-loop
 loop-holds c = (search needs, search needs, λ a h. absurd (omega arith))
 
--- src/minterms.rt:128:13
+-- src/minterms.rt:135:13
 count-step-requires : tie.Need-count-step-requires Inv-loop μ-loop
 count-step-requires c κs = search needs
 
--- src/minterms.rt:129:16
+-- src/minterms.rt:136:16
 cast-counts : tie.Need-cast-counts Inv-loop μ-loop
 cast-counts c = search needs
 
--- src/minterms.rt:129:9
+-- src/minterms.rt:136:9
 array-write-counts : tie.Need-array-write-counts Inv-loop μ-loop
 array-write-counts c = search needs
 
--- src/minterms.rt:130:9
+-- src/minterms.rt:137:9
 add-i : tie.Need-add-i Inv-loop μ-loop
 add-i c = search needs
 
--- src/minterms.rt:127:5
+-- src/minterms.rt:134:5
 loop-less : tie.Need-loop-less Inv-loop μ-loop
 loop-less c = search needs
 
--- src/minterms.rt:127:5
+-- src/minterms.rt:134:5
 loop-again : tie.Need-loop-again Inv-loop μ-loop
 loop-again c = (
   omega arith,
@@ -56,15 +56,15 @@ loop-again c = (
       (c .count-step .ensures)),
 )
 
--- src/minterms.rt:132:12
+-- src/minterms.rt:139:12
 cast-result : tie.Need-cast-result Inv-loop μ-loop
 cast-result c = search needs
 
--- src/minterms.rt:132:5
+-- src/minterms.rt:139:5
 array-read-result : tie.Need-array-read-result Inv-loop μ-loop
 array-read-result c = search needs
 
--- src/minterms.rt:121:1
+-- src/minterms.rt:128:1
 returns : tie.Need-returns Inv-loop μ-loop
 returns c = c .before .before .before .loop .inv .2 _ (omega arith)
 

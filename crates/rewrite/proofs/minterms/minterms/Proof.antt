@@ -1,165 +1,92 @@
-use mathlib.Core.Path.{_≡_, refl, sym, _∙_, ap}
+use mathlib.Core.Path.{_≡_, refl, _∙_, ap}
 use mathlib.Core.List.{_++_}
-use Prim.Native.Nat.{suc, _+_, _-_, _≤_, _<_}
+use Prim.Native.Nat.{_+_, _-_, _≤_, _<_}
 use native.Mathlib.Omega.{arith}
 use lib.ListN.{length, length-set, getD}
 use Rattle.merge.specs.Minterms.{minterms, pending}
-use Rattle.rewrite.specs.Walk.{walked, firstOf, stackOf, sidesIn}
-use Rattle.merge.proofs.Chains.{Below}
-use Rattle.rewrite.proofs.Walks.{low-begin, walk-begin, walk-end, low-top, low-rest, low-two, one-turn, both-turn, both-room}
+use Rattle.rewrite.specs.Walk.{walked, firstOf, stackOf, InputsBelow}
+use Rattle.rewrite.proofs.Walks.{walk-begin, below-begin, walk-few, walk-turn, walk-end}
 use borrow.Author.Needs.{needs}
-use Rattle.records.proofs.Laws.{flags}
 use Rattle.rewrite.proofs.minterms.minterms.Statement.{statement}
 use Rattle.rewrite.proofs.minterms.minterms.Tie as tie
 use Rattle.rewrite.proofs.minterms.minterms.Reads as reads
 use Rattle.rewrite.proofs.minterms.minterms.Lts as lts
-use Rattle.rewrite.proofs.minterms.sides_at.Reads as sides-at-reads
+use Rattle.rewrite.proofs.minterms.next_minterm.Reads as next-minterm-reads
 
 abbrev Inv-loop : tie.InvT-loop
 Inv-loop rs stack₀ nodes₀ depth₀ len₀ stack nodes depth len =
-    (len + depth ≤ 128)
-    × (length stack ≡ 128)
+    (length stack ≡ 128)
     × (length nodes ≡ 128)
-    × Below (suc (getD stack₀ 0 0)) (stackOf stack depth)
+    × InputsBelow (walked rs) (stackOf stack depth)
     × ((firstOf nodes len ++ pending (walked rs) (stackOf stack depth)) ≡ minterms (walked rs) (getD stack₀ 0 0))
+    × (len + length (pending (walked rs) (stackOf stack depth)) ≤ 128)
 
 abbrev μ-loop : tie.MeasureT-loop
-μ-loop rs stack₀ nodes₀ depth₀ len₀ stack nodes depth len = 256 - (len + len + depth)
+μ-loop rs stack₀ nodes₀ depth₀ len₀ stack nodes depth len = 128 - len
 
--- src/minterms.rt:146:5
+-- src/minterms.rt:184:5
 array-write-stack : tie.Need-array-write-stack Inv-loop μ-loop
 array-write-stack c = search needs
 
--- src/minterms.rt:147:5
+-- src/minterms.rt:185:5
 loop-holds : tie.Need-loop-holds Inv-loop μ-loop
-loop-holds c = (search needs, refl, refl, low-begin _, walk-begin (walked (c .before .args .rs .now)) _ _)
+loop-holds c =
+    let R = walked (c .before .args .rs .now) in
+    let w = walk-begin R _ _ in
+    (refl, refl, below-begin R _ (c .before .pre .0), w, walk-few R _ _ _ 1 0 w (c .before .pre .1))
 
--- src/minterms.rt:148:25
-sub-top : tie.Need-sub-top Inv-loop μ-loop
-sub-top c = search needs
+slice-aggregate-next-minterm : tie.Need-slice-aggregate-next-minterm Inv-loop μ-loop
+slice-aggregate-next-minterm c = search needs
 
--- src/minterms.rt:148:19
-mul-top : tie.Need-mul-top Inv-loop μ-loop
-mul-top c = search needs
+-- src/minterms.rt:186:13
+next-minterm-requires : tie.Need-next-minterm-requires Inv-loop μ-loop
+next-minterm-requires c κs =
+    let l = c .before .before .loop in
+    (c .before .loop-test .taken, (l .inv .2, omega (arith, l .inv .0, l .inv .4)))
 
--- src/minterms.rt:148:19
-array-read-top : tie.Need-array-read-top Inv-loop μ-loop
-array-read-top c = search needs
-
--- src/minterms.rt:149:13
-sides-at-requires : tie.Need-sides-at-requires Inv-loop μ-loop
-sides-at-requires c κs = search needs
-
--- src/minterms.rt:152:17
-enum-told : tie.Need-enum-told Inv-loop μ-loop
-enum-told c = search needs
-
--- src/minterms.rt:152:17
-sub-depth : tie.Need-sub-depth Inv-loop μ-loop
-sub-depth c = search needs
-
--- src/minterms.rt:153:17
+-- src/minterms.rt:187:9
 mul-nodes : tie.Need-mul-nodes Inv-loop μ-loop
-mul-nodes c = search needs
+mul-nodes c =
+    let k = ap length (c .before .next-minterm .ensures .0) in
+    omega (arith, k, c .before .before .before .before .loop .inv .4)
 
--- src/minterms.rt:153:17
+-- src/minterms.rt:187:9
 array-write-nodes : tie.Need-array-write-nodes Inv-loop μ-loop
-array-write-nodes c = search needs
+array-write-nodes c =
+    let k = ap length (c .before .next-minterm .ensures .0) in
+    omega (arith, k, c .before .before .before .before .loop .inv .4)
 
--- src/minterms.rt:154:17
+-- src/minterms.rt:188:9
 add-len : tie.Need-add-len Inv-loop μ-loop
-add-len c = search needs
+add-len c =
+    let k = ap length (c .before .next-minterm .ensures .0) in
+    omega (arith, k, c .before .before .before .before .loop .inv .4)
 
--- src/minterms.rt:147:5
+-- src/minterms.rt:185:5
 loop-less : tie.Need-loop-less Inv-loop μ-loop
-loop-less c = omega (arith, c .before .before .before .before .loop .inv .0, c .before .before .before .loop-test .taken)
+loop-less c =
+    let k = ap length (c .before .next-minterm .ensures .0) in
+    omega (arith, k, c .before .before .before .before .loop .inv .4)
 
--- src/minterms.rt:147:5
+-- src/minterms.rt:185:5
 loop-again : tie.Need-loop-again Inv-loop μ-loop
 loop-again c =
-    let top = getD (c .before .before .before .before .loop .stack) (c .before .before .before .before .loop .depth - 1) 0 in
-    let i = c .before .before .before .before .before .before .pre .0 top (low-top _ _ _ _ _ _ (c .before .before .before .loop-test .taken) (c .before .before .before .before .loop .inv .4) (c .before .before .before .before .loop .inv .3)) in
-    let e = sym (ap sidesIn (c .enum-told .given .1)) ∙ c .before .before .sides-at .ensures in
-    let q : c .before .before .before .before .loop .len < length (c .before .before .before .before .loop .nodes) = omega (arith, c .before .before .before .before .loop .inv .0, c .before .before .before .before .loop .inv .2, c .before .before .before .loop-test .taken) in (
-      omega (arith, c .before .before .before .before .loop .inv .0, c .before .before .before .loop-test .taken),
-      c .before .before .before .before .loop .inv .1,
-      simp length-set (c .before .before .before .before .loop .inv .2),
-      low-rest _ _ _ _ _ _ (c .before .before .before .loop-test .taken) (c .before .before .before .before .loop .inv .4) (c .before .before .before .before .loop .inv .3),
-      one-turn _ _ _ _ _ _ (c .before .before .before .loop-test .taken) (c .before .before .before .before .loop .inv .4) i e q,
+    let l = c .before .before .before .before .loop in
+    let g = c .before .next-minterm in
+    let k = ap length (g .ensures .0) in
+    let w : l .len < length (l .nodes) = omega (arith, k, l .inv .4, l .inv .1) in (
+      g .kept .1 .0 ∙ l .inv .0,
+      length-set (l .nodes) (l .len) _ ∙ l .inv .1,
+      g .ensures .1,
+      walk-turn _ (l .nodes) _ _ (l .len) _ w (l .inv .3) (g .ensures .0),
+      omega (arith, k, l .inv .4),
     )
 
--- src/minterms.rt:157:25
-enum-known-s : tie.Need-enum-known-s Inv-loop μ-loop
-enum-known-s c = search needs
-
--- src/minterms.rt:158:23
-sub-stack : tie.Need-sub-stack Inv-loop μ-loop
-sub-stack c = search needs
-
--- src/minterms.rt:158:17
-mul-stack : tie.Need-mul-stack Inv-loop μ-loop
-mul-stack c = search needs
-
--- src/minterms.rt:158:17
-array-write-stack-2 : tie.Need-array-write-stack-2 Inv-loop μ-loop
-array-write-stack-2 c = search needs
-
--- src/minterms.rt:159:17
-mul-stack-2 : tie.Need-mul-stack-2 Inv-loop μ-loop
-mul-stack-2 c =
-    let top = getD (c .before .before .before .before .before .loop .stack) (c .before .before .before .before .before .loop .depth - 1) 0 in
-    let i = c .before .before .before .before .before .before .before .pre .0 top (low-top _ _ _ _ _ _ (c .before .before .before .before .loop-test .taken) (c .before .before .before .before .before .loop .inv .4) (c .before .before .before .before .before .loop .inv .3)) in
-    let e = sym (ap sidesIn (c .before .s .given .1)) ∙ c .before .before .before .sides-at .ensures in
-    let r : c .before .before .before .before .before .loop .len + c .before .before .before .before .before .loop .depth < 128 = both-room _ _ _ _ _ _ (c .before .before .before .before .loop-test .taken) (c .before .before .before .before .before .loop .inv .4) _ _ i e (c .before .before .before .before .before .before .before .pre .1) in
-    omega (arith, r)
-
--- src/minterms.rt:159:17
-array-write-stack-3 : tie.Need-array-write-stack-3 Inv-loop μ-loop
-array-write-stack-3 c =
-    let top = getD (c .before .before .before .before .before .loop .stack) (c .before .before .before .before .before .loop .depth - 1) 0 in
-    let i = c .before .before .before .before .before .before .before .pre .0 top (low-top _ _ _ _ _ _ (c .before .before .before .before .loop-test .taken) (c .before .before .before .before .before .loop .inv .4) (c .before .before .before .before .before .loop .inv .3)) in
-    let e = sym (ap sidesIn (c .before .s .given .1)) ∙ c .before .before .before .sides-at .ensures in
-    let r : c .before .before .before .before .before .loop .len + c .before .before .before .before .before .loop .depth < 128 = both-room _ _ _ _ _ _ (c .before .before .before .before .loop-test .taken) (c .before .before .before .before .before .loop .inv .4) _ _ i e (c .before .before .before .before .before .before .before .pre .1) in
-    omega (arith, r)
-
--- src/minterms.rt:160:17
-add-depth : tie.Need-add-depth Inv-loop μ-loop
-add-depth c =
-    let top = getD (c .before .before .before .before .before .loop .stack) (c .before .before .before .before .before .loop .depth - 1) 0 in
-    let i = c .before .before .before .before .before .before .before .pre .0 top (low-top _ _ _ _ _ _ (c .before .before .before .before .loop-test .taken) (c .before .before .before .before .before .loop .inv .4) (c .before .before .before .before .before .loop .inv .3)) in
-    let e = sym (ap sidesIn (c .before .s .given .1)) ∙ c .before .before .before .sides-at .ensures in
-    let r : c .before .before .before .before .before .loop .len + c .before .before .before .before .before .loop .depth < 128 = both-room _ _ _ _ _ _ (c .before .before .before .before .loop-test .taken) (c .before .before .before .before .before .loop .inv .4) _ _ i e (c .before .before .before .before .before .before .before .pre .1) in
-    omega (arith, r)
-
--- src/minterms.rt:147:5
-loop-less-2 : tie.Need-loop-less-2 Inv-loop μ-loop
-loop-less-2 c =
-    let top = getD (c .before .before .before .before .before .loop .stack) (c .before .before .before .before .before .loop .depth - 1) 0 in
-    let i = c .before .before .before .before .before .before .before .pre .0 top (low-top _ _ _ _ _ _ (c .before .before .before .before .loop-test .taken) (c .before .before .before .before .before .loop .inv .4) (c .before .before .before .before .before .loop .inv .3)) in
-    let e = sym (ap sidesIn (c .before .s .given .1)) ∙ c .before .before .before .sides-at .ensures in
-    let r : c .before .before .before .before .before .loop .len + c .before .before .before .before .before .loop .depth < 128 = both-room _ _ _ _ _ _ (c .before .before .before .before .loop-test .taken) (c .before .before .before .before .before .loop .inv .4) _ _ i e (c .before .before .before .before .before .before .before .pre .1) in
-    omega (arith, r)
-
--- src/minterms.rt:147:5
-loop-again-2 : tie.Need-loop-again-2 Inv-loop μ-loop
-loop-again-2 c =
-    let top = getD (c .before .before .before .before .before .loop .stack) (c .before .before .before .before .before .loop .depth - 1) 0 in
-    let i = c .before .before .before .before .before .before .before .pre .0 top (low-top _ _ _ _ _ _ (c .before .before .before .before .loop-test .taken) (c .before .before .before .before .before .loop .inv .4) (c .before .before .before .before .before .loop .inv .3)) in
-    let e = sym (ap sidesIn (c .before .s .given .1)) ∙ c .before .before .before .sides-at .ensures in
-    let r : c .before .before .before .before .before .loop .len + c .before .before .before .before .before .loop .depth < 128 = both-room _ _ _ _ _ _ (c .before .before .before .before .loop-test .taken) (c .before .before .before .before .before .loop .inv .4) _ _ i e (c .before .before .before .before .before .before .before .pre .1) in
-    let w : c .before .before .before .before .before .loop .depth < length (c .before .before .before .before .before .loop .stack) = omega (arith, r, c .before .before .before .before .before .loop .inv .1) in (
-      omega (arith, r),
-      simp length-set (c .before .before .before .before .before .loop .inv .1),
-      c .before .before .before .before .before .loop .inv .2,
-      low-two _ _ _ _ _ _ (c .before .before .before .before .loop-test .taken) (c .before .before .before .before .before .loop .inv .4) _ _ w i e (c .before .before .before .before .before .loop .inv .3),
-      both-turn _ _ _ _ _ _ (c .before .before .before .before .loop-test .taken) (c .before .before .before .before .before .loop .inv .4) _ _ i e w,
-    )
-
--- src/minterms.rt:136:1
+-- src/minterms.rt:174:1
 returns : tie.Need-returns Inv-loop μ-loop
 returns c =
     let z : c .before .loop .depth ≡ 0 = omega arith in
-    (walk-end _ _ _ _ _ _ z (c .before .loop .inv .4), omega (arith, c .before .loop .inv .0))
+    (walk-end _ _ _ _ _ _ z (c .before .loop .inv .3), omega (arith, c .before .loop .inv .4))
 
 pub minterms-spec : {M : Type 1} → statement M
 minterms-spec =
@@ -169,24 +96,11 @@ minterms-spec =
     μ-loop
     array-write-stack
     loop-holds
-    sub-top
-    mul-top
-    array-read-top
-    sides-at-requires
-    enum-told
-    sub-depth
+    slice-aggregate-next-minterm
+    next-minterm-requires
     mul-nodes
     array-write-nodes
     add-len
     loop-less
     loop-again
-    enum-known-s
-    sub-stack
-    mul-stack
-    array-write-stack-2
-    mul-stack-2
-    array-write-stack-3
-    add-depth
-    loop-less-2
-    loop-again-2
     returns)

@@ -19,7 +19,7 @@ use Rattle.truth.proofs.evaluate.+truth_at+value_at.Lts-value_at as val
 use Rattle.truth.proofs.logic.not_of.Reads as not-of-reads
 use Rattle.truth.proofs.logic.truth_of_bool.Reads as truth-of-bool-reads
 use Rattle.truth.proofs.member.member.Reads as member-reads
-use Rattle.truth.proofs.read.fields_in.Reads as fields-in-reads
+use Rattle.records.proofs.record.fields_in.Reads as fields-in-reads
 use Rattle.truth.proofs.read.leaf_value.Reads as leaf-value-reads
 use Rattle.truth.proofs.value.between.Reads as between-reads
 use Rattle.truth.proofs.value.compared.Reads as compared-reads

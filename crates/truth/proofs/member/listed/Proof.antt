@@ -10,7 +10,7 @@ use Rattle.truth.proofs.member.listed.Statement.{statement}
 use Rattle.truth.proofs.member.listed.Tie as tie
 use Rattle.truth.proofs.member.listed.Reads as reads
 use Rattle.truth.proofs.member.listed.Lts as lts
-use Rattle.truth.proofs.read.value_in.Reads as value-in-reads
+use Rattle.records.proofs.bytes.value_in.Reads as value-in-reads
 use Rattle.truth.proofs.scalar.scalar_cmp.Reads as scalar-cmp-reads
 use Rattle.truth.proofs.value.is_equal.Reads as is-equal-reads
 

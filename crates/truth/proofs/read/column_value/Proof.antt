@@ -5,7 +5,7 @@ use Rattle.truth.proofs.read.column_value.Tie as tie
 use Rattle.truth.proofs.read.column_value.Reads as reads
 use Rattle.truth.proofs.read.column_value.Lts as lts
 use Rattle.truth.proofs.read.null_marked.Reads as null-marked-reads
-use Rattle.truth.proofs.read.value_in.Reads as value-in-reads
+use Rattle.records.proofs.bytes.value_in.Reads as value-in-reads
 
 -- src/read.rt:83:8
 null-marked-requires : tie.Need-null-marked-requires

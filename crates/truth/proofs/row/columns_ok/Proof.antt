@@ -13,7 +13,7 @@ use Rattle.truth.proofs.row.columns_ok.Tie as tie
 use Rattle.truth.proofs.row.columns_ok.Reads as reads
 use Rattle.truth.proofs.row.columns_ok.Lts as lts
 use Rattle.truth.proofs.read.null_marked.Reads as null-marked-reads
-use Rattle.truth.proofs.read.value_in.Reads as value-in-reads
+use Rattle.records.proofs.bytes.value_in.Reads as value-in-reads
 use Rattle.truth.proofs.row.column_ok.Reads as column-ok-reads
 
 abbrev Inv-loop : tie.InvT-loop

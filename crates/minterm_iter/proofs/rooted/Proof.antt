@@ -1,0 +1,19 @@
+use mathlib.Core.Path.{refl}
+use Rattle.rewrite.specs.Walk.{stackOf}
+use borrow.Author.Needs.{needs}
+use Rattle.minterm_iter.proofs.rooted.Statement.{statement}
+use Rattle.minterm_iter.proofs.rooted.Tie as tie
+use Rattle.minterm_iter.proofs.rooted.Reads as reads
+use Rattle.minterm_iter.proofs.rooted.Lts as lts
+
+-- src/lib.rt:32:5
+array-write-nodes : tie.Need-array-write-nodes
+array-write-nodes c = search needs
+
+-- src/lib.rt:28:1
+returns : tie.Need-returns
+unfolding stackOf
+returns c = refl
+
+pub rooted-spec : {M : Type 1} → statement M
+rooted-spec = tie.close (tie.spec array-write-nodes returns)
