@@ -150,17 +150,26 @@ static void make_many_lists(void)
     }
 }
 
-/* One list of a value 100 times, then 64 that have it in the last place, all carried to each of 64 columns. */
+/*
+ * The slowest screen known: lists of 100 values on one column that each look for a value finds in its last place, one
+ * list that has none of them, more such lists, and equalities that carry all lists to 64 columns one pass at a time.
+ * Each new list looks for each of 100 values in up to 32 lists of 100.
+ */
 static void make_worst_allowed(void)
 {
-    uint32_t hundred, last;
+    uint32_t first, last, barred, other;
     begin(64);
-    hundred = repeated(7, 100);
+    first = repeated(7, 100);
     last = repeated(8, 99);
     repeated(7, 1);
-    join(listed(0, hundred, 100));
-    for (uint32_t n = 0; n < 64; n++)
+    barred = repeated(8, 100);
+    other = repeated(9, 100);
+    join(listed(0, first, 100));
+    for (uint32_t n = 0; n < 31; n++)
         join(listed(0, last, 100));
+    join(listed(0, barred, 100));
+    for (uint32_t n = 0; n < 32; n++)
+        join(listed(0, other, 100));
     join_chain(1);
 }
 
@@ -253,6 +262,6 @@ int main(void)
     make_negated_lists();
     differ |= beside("rewriting, 8 negated lists, 63 equalities", 1, 3, 1);
     make_worst_allowed();
-    differ |= beside("rewriting, 65 lists of one value, 63 equalities", 1, 3, 1);
+    differ |= beside("rewriting, 65 lists of 100 values, 63 equalities", 1, 3, 1);
     return differ;
 }

@@ -1,4 +1,3 @@
-use borrow.Author.Needs.{needs}
 use Rattle.filter_constraint.proofs.merge_filter_constraints.Statement.{statement}
 use Rattle.filter_constraint.proofs.merge_filter_constraints.Tie as tie
 use Rattle.filter_constraint.proofs.merge_filter_constraints.Reads as reads
@@ -18,6 +17,7 @@ use Rattle.stages.proofs.fields.is_rewritten.Reads as is-rewritten-reads
 use Rattle.stages.proofs.fields.slot.Reads as slot-reads
 use Rattle.stages.proofs.reckon.nothing_passes.Reads as nothing-passes-reads
 use Rattle.stages.proofs.reckon.rebuilt_answer.Reads as rebuilt-answer-reads
+use borrow.Author.Needs.{needs}
 use Prim.Native.Nat.{ℕ, _+_, _*_, _-_, _≤_, _<_}
 use mathlib.Core.Path.{_≡_, refl, sym, _∙_, ap, subst}
 use mathlib.Core.Bool.{Bool, true, false, not, _&&_, _||_}
@@ -101,7 +101,7 @@ abbrev μ-loop6 : tie.MeasureT-loop6
 μ-loop6 t rs₀ p used trees nodes n kinds values starts counts table order columns kept keeps edges bounds unsat i emitted going pass dropped e total o answer u₀ w₀ rs u w =
     columns - w
 
--- src/filter_constraint.rt:63:9
+-- src/lib.rt:64:9
 empty-requires :
     tie.Need-empty-requires
     Inv-loop
@@ -118,7 +118,7 @@ empty-requires :
     μ-loop6
 empty-requires c κs = search needs
 
--- src/filter_constraint.rt:77:5
+-- src/lib.rt:78:5
 loop-holds :
     tie.Need-loop-holds
     Inv-loop
@@ -133,16 +133,17 @@ loop-holds :
     μ-loop5
     Inv-loop6
     μ-loop6
-loop-holds c = (
-  omega arith,
-  omega arith,
-  omega arith,
-  omega arith,
-  collect-none _ _ _ _ (c .empty .ensures .0 _) (c .empty
-      .ensures .1),
-)
+loop-holds c =
+    let empty = c .empty in (
+      omega arith,
+      omega arith,
+      omega arith,
+      omega arith,
+      collect-none _ _ _ _ (empty .ensures .0 _) (empty
+          .ensures .1),
+    )
 
--- src/filter_constraint.rt:78:20
+-- src/lib.rt:79:20
 mul-node :
     tie.Need-mul-node
     Inv-loop
@@ -165,7 +166,7 @@ mul-node c =
     .taken)) in
     omega (arith, l1 .inv .0, l1 .inv .1, l1 .inv .2, l1 .inv .3, h, st .pre .0 .0)
 
--- src/filter_constraint.rt:78:20
+-- src/lib.rt:79:20
 element-copy-out-node :
     tie.Need-element-copy-out-node
     Inv-loop
@@ -188,7 +189,7 @@ element-copy-out-node c =
     .taken)) in
     omega (arith, l1 .inv .0, l1 .inv .1, l1 .inv .2, l1 .inv .3, h, st .pre .0 .0)
 
--- src/filter_constraint.rt:79:17
+-- src/lib.rt:80:17
 cast-j :
     tie.Need-cast-j
     Inv-loop
@@ -211,7 +212,7 @@ cast-j c =
     .taken)) in
     omega (arith, l1 .inv .0, l1 .inv .1, l1 .inv .2, l1 .inv .3, h, st .pre .0 .0)
 
--- src/filter_constraint.rt:80:13
+-- src/lib.rt:81:13
 classify-requires :
     tie.Need-classify-requires
     Inv-loop
@@ -228,7 +229,7 @@ classify-requires :
     μ-loop6
 classify-requires c κs = search needs
 
--- src/filter_constraint.rt:81:9
+-- src/lib.rt:82:9
 add-i :
     tie.Need-add-i
     Inv-loop
@@ -251,7 +252,7 @@ add-i c =
     .taken)) in
     omega (arith, l1 .inv .0, l1 .inv .1, l1 .inv .2, l1 .inv .3, h, st .pre .0 .0)
 
--- src/filter_constraint.rt:83:30
+-- src/lib.rt:84:30
 enum-known-k :
     tie.Need-enum-known-k
     Inv-loop
@@ -268,7 +269,7 @@ enum-known-k :
     μ-loop6
 enum-known-k c = search needs
 
--- src/filter_constraint.rt:84:21
+-- src/lib.rt:85:21
 slot-requires :
     tie.Need-slot-requires
     Inv-loop
@@ -285,7 +286,7 @@ slot-requires :
     μ-loop6
 slot-requires c κs = search needs
 
--- src/filter_constraint.rt:85:17
+-- src/lib.rt:86:17
 mul-order :
     tie.Need-mul-order
     Inv-loop
@@ -309,7 +310,7 @@ mul-order c =
     .taken)) in
     omega (arith, l1 .inv .0, l1 .inv .1, l1 .inv .2, l1 .inv .3, h, st .pre .0 .0)
 
--- src/filter_constraint.rt:85:17
+-- src/lib.rt:86:17
 array-write-order :
     tie.Need-array-write-order
     Inv-loop
@@ -333,7 +334,7 @@ array-write-order c =
     .taken)) in
     omega (arith, l1 .inv .0, l1 .inv .1, l1 .inv .2, l1 .inv .3, h, st .pre .0 .0)
 
--- src/filter_constraint.rt:86:32
+-- src/lib.rt:87:32
 array-read-bump :
     tie.Need-array-read-bump
     Inv-loop
@@ -350,7 +351,7 @@ array-read-bump :
     μ-loop6
 array-read-bump c = search needs
 
--- src/filter_constraint.rt:86:17
+-- src/lib.rt:87:17
 bump-requires :
     tie.Need-bump-requires
     Inv-loop
@@ -374,7 +375,7 @@ bump-requires c κs =
     .taken)) in
     omega (arith, l1 .inv .0, l1 .inv .1, l1 .inv .2, l1 .inv .3, h, st .pre .0 .0)
 
--- src/filter_constraint.rt:87:17
+-- src/lib.rt:88:17
 array-write-seen :
     tie.Need-array-write-seen
     Inv-loop
@@ -391,7 +392,7 @@ array-write-seen :
     μ-loop6
 array-write-seen c = search needs
 
--- src/filter_constraint.rt:88:68
+-- src/lib.rt:89:68
 mul-add-says :
     tie.Need-mul-add-says
     Inv-loop
@@ -408,7 +409,7 @@ mul-add-says :
     μ-loop6
 mul-add-says c = search needs
 
--- src/filter_constraint.rt:88:68
+-- src/lib.rt:89:68
 array-copy-out-add-says :
     tie.Need-array-copy-out-add-says
     Inv-loop
@@ -425,7 +426,7 @@ array-copy-out-add-says :
     μ-loop6
 array-copy-out-add-says c = search needs
 
--- src/filter_constraint.rt:88:21
+-- src/lib.rt:89:21
 add-says-requires :
     tie.Need-add-says-requires
     Inv-loop
@@ -450,20 +451,24 @@ add-says-requires c κs =
     let classify = c .before .before .before .before .before .before .before .before .before .before .classify
     in
     let arm = c .before .before .before .before .before .before .before .before .k in
+    let slot = c .before .before .before .before .before .before .slot in
     let h : l1 .i < st .args .n = ltb-true _ _ (and-left (ltb (l1 .i) (st .args .n)) (not (l1 .unsat)) (t1
     .taken)) in
     let k = read-as _ _ _ _ _ (classify .ensures _) (arm .given .1) in (
-      l1 .inv .4 .shows .fine _ (omega (
+      l1 .inv .4 .shows .fine _ (omega (arith, slot .ensures)),
+      omega (
         arith,
-        c .before .before .before .before .before .before .slot
-            .ensures,
-      )),
-      omega (arith, l1 .inv .0, l1 .inv .1, l1 .inv .2, l1 .inv .3, h, st .pre .0 .0),
-      subst
-          (ToldConjunct _ _) k (st .pre .1 .0 _ h),
+        l1 .inv .0,
+        l1 .inv .1,
+        l1 .inv .2,
+        l1 .inv .3,
+        h,
+        st .pre .0 .0,
+      ),
+      subst (ToldConjunct _ _) k (st .pre .1 .0 _ h),
     )
 
--- src/filter_constraint.rt:89:17
+-- src/lib.rt:90:17
 mul-table :
     tie.Need-mul-table
     Inv-loop
@@ -480,7 +485,7 @@ mul-table :
     μ-loop6
 mul-table c = search needs
 
--- src/filter_constraint.rt:89:17
+-- src/lib.rt:90:17
 array-set-from-table :
     tie.Need-array-set-from-table
     Inv-loop
@@ -497,7 +502,7 @@ array-set-from-table :
     μ-loop6
 array-set-from-table c = search needs
 
--- src/filter_constraint.rt:91:17
+-- src/lib.rt:92:17
 add-bounds :
     tie.Need-add-bounds
     Inv-loop
@@ -519,12 +524,13 @@ add-bounds c =
     .before .before .before .loop in
     let t1 = c .before .before .before .before .before .before .before .before .before .before .before .before
     .before .before .loop-test in
+    let bump = c .before .before .before .before .before .before .bump in
     let h : l1 .i < st .args .n = ltb-true _ _ (and-left (ltb (l1 .i) (st .args .n)) (not (l1 .unsat)) (t1
     .taken)) in
-    let b0 = c .before .before .before .before .before .before .bump .ensures .1 in
+    let b0 = bump .ensures .1 in
     omega (arith, l1 .inv .0, l1 .inv .1, l1 .inv .2, l1 .inv .3, h, st .pre .0 .0, b0)
 
--- src/filter_constraint.rt:77:5
+-- src/lib.rt:78:5
 loop-less :
     tie.Need-loop-less
     Inv-loop
@@ -546,12 +552,13 @@ loop-less c =
     .before .before .before .loop in
     let t1 = c .before .before .before .before .before .before .before .before .before .before .before .before
     .before .before .loop-test in
+    let bump = c .before .before .before .before .before .before .bump in
     let h : l1 .i < st .args .n = ltb-true _ _ (and-left (ltb (l1 .i) (st .args .n)) (not (l1 .unsat)) (t1
     .taken)) in
-    let b0 = c .before .before .before .before .before .before .bump .ensures .1 in
+    let b0 = bump .ensures .1 in
     omega (arith, l1 .inv .0, l1 .inv .1, l1 .inv .2, l1 .inv .3, h, st .pre .0 .0, b0)
 
--- src/filter_constraint.rt:77:5
+-- src/lib.rt:78:5
 loop-again :
     tie.Need-loop-again
     Inv-loop
@@ -578,6 +585,7 @@ loop-again c =
     let arm = c .before .before .before .before .before .before .before .before .before .k in
     let slot = c .before .before .before .before .before .before .before .slot in
     let bump = c .before .before .before .before .before .before .bump in
+    let add-says = c .add-says in
     let h : l1 .i < st .args .n = ltb-true _ _ (and-left (ltb (l1 .i) (st .args .n)) (not (l1 .unsat)) (t1
     .taken)) in
     let k = read-as _ _ _ _ _ (classify .ensures _) (arm .given .1) in
@@ -622,10 +630,10 @@ loop-again c =
         st .pre .0 .0,
       )) _ _ _ _ _ _ _ k (collect-more _ _ _ _ (l1 .inv .4 .stops) (not-true (l1
           .unsat) (and-right (ltb (l1 .i) (st .args .n)) (not (l1 .unsat)) (t1 .taken)))) (subst (ColumnsBelow 64) k
-          (st .pre .1 .1 _ h)) (slot .ensures) (bump .ensures .0) (c .add-says .ensures .0) (c .add-says .ensures .1),
+          (st .pre .1 .1 _ h)) (slot .ensures) (bump .ensures .0) (add-says .ensures .0) (add-says .ensures .1),
     )
 
--- src/filter_constraint.rt:94:32
+-- src/lib.rt:95:32
 enum-known-k-2 :
     tie.Need-enum-known-k-2
     Inv-loop
@@ -642,7 +650,7 @@ enum-known-k-2 :
     μ-loop6
 enum-known-k-2 c = search needs
 
--- src/filter_constraint.rt:95:21
+-- src/lib.rt:96:21
 slot-requires-2 :
     tie.Need-slot-requires-2
     Inv-loop
@@ -659,7 +667,7 @@ slot-requires-2 :
     μ-loop6
 slot-requires-2 c κs = search needs
 
--- src/filter_constraint.rt:96:17
+-- src/lib.rt:97:17
 mul-order-2 :
     tie.Need-mul-order-2
     Inv-loop
@@ -683,7 +691,7 @@ mul-order-2 c =
     .taken)) in
     omega (arith, l1 .inv .0, l1 .inv .1, l1 .inv .2, l1 .inv .3, h, st .pre .0 .0)
 
--- src/filter_constraint.rt:96:17
+-- src/lib.rt:97:17
 array-write-order-2 :
     tie.Need-array-write-order-2
     Inv-loop
@@ -707,7 +715,7 @@ array-write-order-2 c =
     .taken)) in
     omega (arith, l1 .inv .0, l1 .inv .1, l1 .inv .2, l1 .inv .3, h, st .pre .0 .0)
 
--- src/filter_constraint.rt:97:32
+-- src/lib.rt:98:32
 array-read-bump-2 :
     tie.Need-array-read-bump-2
     Inv-loop
@@ -724,7 +732,7 @@ array-read-bump-2 :
     μ-loop6
 array-read-bump-2 c = search needs
 
--- src/filter_constraint.rt:97:17
+-- src/lib.rt:98:17
 bump-requires-2 :
     tie.Need-bump-requires-2
     Inv-loop
@@ -748,7 +756,7 @@ bump-requires-2 c κs =
     .taken)) in
     omega (arith, l1 .inv .0, l1 .inv .1, l1 .inv .2, l1 .inv .3, h, st .pre .0 .0)
 
--- src/filter_constraint.rt:98:17
+-- src/lib.rt:99:17
 array-write-seen-2 :
     tie.Need-array-write-seen-2
     Inv-loop
@@ -765,7 +773,7 @@ array-write-seen-2 :
     μ-loop6
 array-write-seen-2 c = search needs
 
--- src/filter_constraint.rt:99:45
+-- src/lib.rt:100:45
 mul-require-nullability :
     tie.Need-mul-require-nullability
     Inv-loop
@@ -782,7 +790,7 @@ mul-require-nullability :
     μ-loop6
 mul-require-nullability c = search needs
 
--- src/filter_constraint.rt:99:45
+-- src/lib.rt:100:45
 array-copy-out-require-nullability :
     tie.Need-array-copy-out-require-nullability
     Inv-loop
@@ -799,7 +807,7 @@ array-copy-out-require-nullability :
     μ-loop6
 array-copy-out-require-nullability c = search needs
 
--- src/filter_constraint.rt:99:21
+-- src/lib.rt:100:21
 require-nullability-requires :
     tie.Need-require-nullability-requires
     Inv-loop
@@ -816,7 +824,7 @@ require-nullability-requires :
     μ-loop6
 require-nullability-requires c κs = search needs
 
--- src/filter_constraint.rt:100:17
+-- src/lib.rt:101:17
 mul-table-2 :
     tie.Need-mul-table-2
     Inv-loop
@@ -833,7 +841,7 @@ mul-table-2 :
     μ-loop6
 mul-table-2 c = search needs
 
--- src/filter_constraint.rt:100:17
+-- src/lib.rt:101:17
 array-set-from-table-2 :
     tie.Need-array-set-from-table-2
     Inv-loop
@@ -850,7 +858,7 @@ array-set-from-table-2 :
     μ-loop6
 array-set-from-table-2 c = search needs
 
--- src/filter_constraint.rt:101:21
+-- src/lib.rt:102:21
 slot-requires-3 :
     tie.Need-slot-requires-3
     Inv-loop
@@ -867,7 +875,7 @@ slot-requires-3 :
     μ-loop6
 slot-requires-3 c κs = search needs
 
--- src/filter_constraint.rt:102:17
+-- src/lib.rt:103:17
 mul-order-3 :
     tie.Need-mul-order-3
     Inv-loop
@@ -889,12 +897,13 @@ mul-order-3 c =
     .loop in
     let t1 = c .before .before .before .before .before .before .before .before .before .before .before
     .loop-test in
+    let bump2 = c .before .before .before .bump2 in
     let h : l1 .i < st .args .n = ltb-true _ _ (and-left (ltb (l1 .i) (st .args .n)) (not (l1 .unsat)) (t1
     .taken)) in
-    let b0 = c .before .before .before .bump2 .ensures .1 in
+    let b0 = bump2 .ensures .1 in
     omega (arith, l1 .inv .0, l1 .inv .1, l1 .inv .2, l1 .inv .3, h, st .pre .0 .0, b0)
 
--- src/filter_constraint.rt:102:17
+-- src/lib.rt:103:17
 array-write-order-3 :
     tie.Need-array-write-order-3
     Inv-loop
@@ -916,12 +925,13 @@ array-write-order-3 c =
     .loop in
     let t1 = c .before .before .before .before .before .before .before .before .before .before .before
     .loop-test in
+    let bump2 = c .before .before .before .bump2 in
     let h : l1 .i < st .args .n = ltb-true _ _ (and-left (ltb (l1 .i) (st .args .n)) (not (l1 .unsat)) (t1
     .taken)) in
-    let b0 = c .before .before .before .bump2 .ensures .1 in
+    let b0 = bump2 .ensures .1 in
     omega (arith, l1 .inv .0, l1 .inv .1, l1 .inv .2, l1 .inv .3, h, st .pre .0 .0, b0)
 
--- src/filter_constraint.rt:103:32
+-- src/lib.rt:104:32
 array-read-bump-3 :
     tie.Need-array-read-bump-3
     Inv-loop
@@ -938,7 +948,7 @@ array-read-bump-3 :
     μ-loop6
 array-read-bump-3 c = search needs
 
--- src/filter_constraint.rt:103:17
+-- src/lib.rt:104:17
 bump-requires-3 :
     tie.Need-bump-requires-3
     Inv-loop
@@ -960,12 +970,13 @@ bump-requires-3 c κs =
     .loop in
     let t1 = c .before .before .before .before .before .before .before .before .before .before .before
     .loop-test in
+    let bump2 = c .before .before .before .bump2 in
     let h : l1 .i < st .args .n = ltb-true _ _ (and-left (ltb (l1 .i) (st .args .n)) (not (l1 .unsat)) (t1
     .taken)) in
-    let b0 = c .before .before .before .bump2 .ensures .1 in
+    let b0 = bump2 .ensures .1 in
     omega (arith, l1 .inv .0, l1 .inv .1, l1 .inv .2, l1 .inv .3, h, st .pre .0 .0, b0)
 
--- src/filter_constraint.rt:104:17
+-- src/lib.rt:105:17
 array-write-seen-3 :
     tie.Need-array-write-seen-3
     Inv-loop
@@ -982,7 +993,7 @@ array-write-seen-3 :
     μ-loop6
 array-write-seen-3 c = search needs
 
--- src/filter_constraint.rt:105:45
+-- src/lib.rt:106:45
 mul-require-nullability-2 :
     tie.Need-mul-require-nullability-2
     Inv-loop
@@ -999,7 +1010,7 @@ mul-require-nullability-2 :
     μ-loop6
 mul-require-nullability-2 c = search needs
 
--- src/filter_constraint.rt:105:45
+-- src/lib.rt:106:45
 array-copy-out-require-nullability-2 :
     tie.Need-array-copy-out-require-nullability-2
     Inv-loop
@@ -1016,7 +1027,7 @@ array-copy-out-require-nullability-2 :
     μ-loop6
 array-copy-out-require-nullability-2 c = search needs
 
--- src/filter_constraint.rt:105:21
+-- src/lib.rt:106:21
 require-nullability-requires-2 :
     tie.Need-require-nullability-requires-2
     Inv-loop
@@ -1033,7 +1044,7 @@ require-nullability-requires-2 :
     μ-loop6
 require-nullability-requires-2 c κs = search needs
 
--- src/filter_constraint.rt:106:17
+-- src/lib.rt:107:17
 mul-table-3 :
     tie.Need-mul-table-3
     Inv-loop
@@ -1050,7 +1061,7 @@ mul-table-3 :
     μ-loop6
 mul-table-3 c = search needs
 
--- src/filter_constraint.rt:106:17
+-- src/lib.rt:107:17
 array-set-from-table-3 :
     tie.Need-array-set-from-table-3
     Inv-loop
@@ -1067,7 +1078,7 @@ array-set-from-table-3 :
     μ-loop6
 array-set-from-table-3 c = search needs
 
--- src/filter_constraint.rt:107:17
+-- src/lib.rt:108:17
 mul-lefts :
     tie.Need-mul-lefts
     Inv-loop
@@ -1089,13 +1100,15 @@ mul-lefts c =
     .before .before .before .loop in
     let t1 = c .before .before .before .before .before .before .before .before .before .before .before .before
     .before .before .loop-test in
+    let bump2 = c .before .before .before .before .before .before .bump2 in
+    let bump3 = c .before .before .bump3 in
     let h : l1 .i < st .args .n = ltb-true _ _ (and-left (ltb (l1 .i) (st .args .n)) (not (l1 .unsat)) (t1
     .taken)) in
-    let b0 = c .before .before .bump3 .ensures .1 in
-    let b1 = c .before .before .before .before .before .before .bump2 .ensures .1 in
+    let b0 = bump3 .ensures .1 in
+    let b1 = bump2 .ensures .1 in
     omega (arith, l1 .inv .0, l1 .inv .1, l1 .inv .2, l1 .inv .3, h, st .pre .0 .0, b0, b1)
 
--- src/filter_constraint.rt:107:17
+-- src/lib.rt:108:17
 array-write-lefts :
     tie.Need-array-write-lefts
     Inv-loop
@@ -1117,13 +1130,15 @@ array-write-lefts c =
     .before .before .before .loop in
     let t1 = c .before .before .before .before .before .before .before .before .before .before .before .before
     .before .before .loop-test in
+    let bump2 = c .before .before .before .before .before .before .bump2 in
+    let bump3 = c .before .before .bump3 in
     let h : l1 .i < st .args .n = ltb-true _ _ (and-left (ltb (l1 .i) (st .args .n)) (not (l1 .unsat)) (t1
     .taken)) in
-    let b0 = c .before .before .bump3 .ensures .1 in
-    let b1 = c .before .before .before .before .before .before .bump2 .ensures .1 in
+    let b0 = bump3 .ensures .1 in
+    let b1 = bump2 .ensures .1 in
     omega (arith, l1 .inv .0, l1 .inv .1, l1 .inv .2, l1 .inv .3, h, st .pre .0 .0, b0, b1)
 
--- src/filter_constraint.rt:108:17
+-- src/lib.rt:109:17
 mul-rights :
     tie.Need-mul-rights
     Inv-loop
@@ -1145,13 +1160,15 @@ mul-rights c =
     .before .before .before .loop in
     let t1 = c .before .before .before .before .before .before .before .before .before .before .before .before
     .before .before .loop-test in
+    let bump2 = c .before .before .before .before .before .before .bump2 in
+    let bump3 = c .before .before .bump3 in
     let h : l1 .i < st .args .n = ltb-true _ _ (and-left (ltb (l1 .i) (st .args .n)) (not (l1 .unsat)) (t1
     .taken)) in
-    let b0 = c .before .before .bump3 .ensures .1 in
-    let b1 = c .before .before .before .before .before .before .bump2 .ensures .1 in
+    let b0 = bump3 .ensures .1 in
+    let b1 = bump2 .ensures .1 in
     omega (arith, l1 .inv .0, l1 .inv .1, l1 .inv .2, l1 .inv .3, h, st .pre .0 .0, b0, b1)
 
--- src/filter_constraint.rt:108:17
+-- src/lib.rt:109:17
 array-write-rights :
     tie.Need-array-write-rights
     Inv-loop
@@ -1173,13 +1190,15 @@ array-write-rights c =
     .before .before .before .loop in
     let t1 = c .before .before .before .before .before .before .before .before .before .before .before .before
     .before .before .loop-test in
+    let bump2 = c .before .before .before .before .before .before .bump2 in
+    let bump3 = c .before .before .bump3 in
     let h : l1 .i < st .args .n = ltb-true _ _ (and-left (ltb (l1 .i) (st .args .n)) (not (l1 .unsat)) (t1
     .taken)) in
-    let b0 = c .before .before .bump3 .ensures .1 in
-    let b1 = c .before .before .before .before .before .before .bump2 .ensures .1 in
+    let b0 = bump3 .ensures .1 in
+    let b1 = bump2 .ensures .1 in
     omega (arith, l1 .inv .0, l1 .inv .1, l1 .inv .2, l1 .inv .3, h, st .pre .0 .0, b0, b1)
 
--- src/filter_constraint.rt:109:17
+-- src/lib.rt:110:17
 mul-equals :
     tie.Need-mul-equals
     Inv-loop
@@ -1201,13 +1220,15 @@ mul-equals c =
     .before .before .before .loop in
     let t1 = c .before .before .before .before .before .before .before .before .before .before .before .before
     .before .before .loop-test in
+    let bump2 = c .before .before .before .before .before .before .bump2 in
+    let bump3 = c .before .before .bump3 in
     let h : l1 .i < st .args .n = ltb-true _ _ (and-left (ltb (l1 .i) (st .args .n)) (not (l1 .unsat)) (t1
     .taken)) in
-    let b0 = c .before .before .bump3 .ensures .1 in
-    let b1 = c .before .before .before .before .before .before .bump2 .ensures .1 in
+    let b0 = bump3 .ensures .1 in
+    let b1 = bump2 .ensures .1 in
     omega (arith, l1 .inv .0, l1 .inv .1, l1 .inv .2, l1 .inv .3, h, st .pre .0 .0, b0, b1)
 
--- src/filter_constraint.rt:109:17
+-- src/lib.rt:110:17
 array-write-equals :
     tie.Need-array-write-equals
     Inv-loop
@@ -1229,13 +1250,15 @@ array-write-equals c =
     .before .before .before .loop in
     let t1 = c .before .before .before .before .before .before .before .before .before .before .before .before
     .before .before .loop-test in
+    let bump2 = c .before .before .before .before .before .before .bump2 in
+    let bump3 = c .before .before .bump3 in
     let h : l1 .i < st .args .n = ltb-true _ _ (and-left (ltb (l1 .i) (st .args .n)) (not (l1 .unsat)) (t1
     .taken)) in
-    let b0 = c .before .before .bump3 .ensures .1 in
-    let b1 = c .before .before .before .before .before .before .bump2 .ensures .1 in
+    let b0 = bump3 .ensures .1 in
+    let b1 = bump2 .ensures .1 in
     omega (arith, l1 .inv .0, l1 .inv .1, l1 .inv .2, l1 .inv .3, h, st .pre .0 .0, b0, b1)
 
--- src/filter_constraint.rt:110:17
+-- src/lib.rt:111:17
 add-edges :
     tie.Need-add-edges
     Inv-loop
@@ -1257,13 +1280,15 @@ add-edges c =
     .before .before .before .loop in
     let t1 = c .before .before .before .before .before .before .before .before .before .before .before .before
     .before .before .loop-test in
+    let bump2 = c .before .before .before .before .before .before .bump2 in
+    let bump3 = c .before .before .bump3 in
     let h : l1 .i < st .args .n = ltb-true _ _ (and-left (ltb (l1 .i) (st .args .n)) (not (l1 .unsat)) (t1
     .taken)) in
-    let b0 = c .before .before .bump3 .ensures .1 in
-    let b1 = c .before .before .before .before .before .before .bump2 .ensures .1 in
+    let b0 = bump3 .ensures .1 in
+    let b1 = bump2 .ensures .1 in
     omega (arith, l1 .inv .0, l1 .inv .1, l1 .inv .2, l1 .inv .3, h, st .pre .0 .0, b0, b1)
 
--- src/filter_constraint.rt:77:5
+-- src/lib.rt:78:5
 loop-less-2 :
     tie.Need-loop-less-2
     Inv-loop
@@ -1285,13 +1310,15 @@ loop-less-2 c =
     .before .before .before .loop in
     let t1 = c .before .before .before .before .before .before .before .before .before .before .before .before
     .before .before .loop-test in
+    let bump2 = c .before .before .before .before .before .before .bump2 in
+    let bump3 = c .before .before .bump3 in
     let h : l1 .i < st .args .n = ltb-true _ _ (and-left (ltb (l1 .i) (st .args .n)) (not (l1 .unsat)) (t1
     .taken)) in
-    let b0 = c .before .before .bump3 .ensures .1 in
-    let b1 = c .before .before .before .before .before .before .bump2 .ensures .1 in
+    let b0 = bump3 .ensures .1 in
+    let b1 = bump2 .ensures .1 in
     omega (arith, l1 .inv .0, l1 .inv .1, l1 .inv .2, l1 .inv .3, h, st .pre .0 .0, b0, b1)
 
--- src/filter_constraint.rt:77:5
+-- src/lib.rt:78:5
 loop-again-2 :
     tie.Need-loop-again-2
     Inv-loop
@@ -1319,6 +1346,7 @@ loop-again-2 c =
     let slot2 = c .before .before .before .before .before .before .before .slot2 in
     let bump2 = c .before .before .before .before .before .before .bump2 in
     let require-nullability = c .before .before .before .before .require-nullability in
+    let slot3 = c .before .before .before .slot3 in
     let bump3 = c .before .before .bump3 in
     let require-nullability2 = c .require-nullability2 in
     let h : l1 .i < st .args .n = ltb-true _ _ (and-left (ltb (l1 .i) (st .args .n)) (not (l1 .unsat)) (t1
@@ -1368,24 +1396,15 @@ loop-again-2 c =
         l1 .inv .3,
         h,
         st .pre .0 .0,
-      )) _ _ _ _ _ _ _ _ _ _ _ (l .0) (l .1) (slot2 .ensures) (c .before
-          .before .before .slot3 .ensures) (not-true (l1 .unsat) (and-right (ltb (l1 .i) (st .args .n)) (not (l1
-          .unsat)) (t1 .taken))) (bump2 .ensures .0) (require-nullability .ensures .0 _) (require-nullability .ensures
-          .1) (bump3 .ensures .0) (require-nullability2 .ensures .0 _) (require-nullability2 .ensures .1) k
-          (collect-more _ _ _ _ (l1 .inv .4 .stops) (not-true (l1 .unsat) (and-right (ltb (l1 .i) (st .args .n)) (not
-          (l1 .unsat)) (t1 .taken)))) (omega (
-            arith,
-            l1 .inv .0,
-            l1 .inv .1,
-            l1 .inv .2,
-            l1 .inv .3,
-            h,
-            st .pre .0
-                .0,
-          )),
+      )) _ _ _ _ _ _ _ _ _ _ _ (l .0) (l .1) (slot2 .ensures) (slot3
+          .ensures) (not-true (l1 .unsat) (and-right (ltb (l1 .i) (st .args .n)) (not (l1 .unsat)) (t1 .taken)))
+          (bump2 .ensures .0) (require-nullability .ensures .0 _) (require-nullability .ensures .1) (bump3 .ensures
+          .0) (require-nullability2 .ensures .0 _) (require-nullability2 .ensures .1) k (collect-more _ _ _ _ (l1 .inv
+          .4 .stops) (not-true (l1 .unsat) (and-right (ltb (l1 .i) (st .args .n)) (not (l1 .unsat)) (t1 .taken))))
+          (omega (arith, l1 .inv .0, l1 .inv .1, l1 .inv .2, l1 .inv .3, h, st .pre .0 .0)),
     )
 
--- src/filter_constraint.rt:113:32
+-- src/lib.rt:114:32
 enum-known-k-3 :
     tie.Need-enum-known-k-3
     Inv-loop
@@ -1402,7 +1421,7 @@ enum-known-k-3 :
     μ-loop6
 enum-known-k-3 c = search needs
 
--- src/filter_constraint.rt:114:21
+-- src/lib.rt:115:21
 slot-requires-4 :
     tie.Need-slot-requires-4
     Inv-loop
@@ -1419,7 +1438,7 @@ slot-requires-4 :
     μ-loop6
 slot-requires-4 c κs = search needs
 
--- src/filter_constraint.rt:115:17
+-- src/lib.rt:116:17
 mul-order-4 :
     tie.Need-mul-order-4
     Inv-loop
@@ -1443,7 +1462,7 @@ mul-order-4 c =
     .taken)) in
     omega (arith, l1 .inv .0, l1 .inv .1, l1 .inv .2, l1 .inv .3, h, st .pre .0 .0)
 
--- src/filter_constraint.rt:115:17
+-- src/lib.rt:116:17
 array-write-order-4 :
     tie.Need-array-write-order-4
     Inv-loop
@@ -1467,7 +1486,7 @@ array-write-order-4 c =
     .taken)) in
     omega (arith, l1 .inv .0, l1 .inv .1, l1 .inv .2, l1 .inv .3, h, st .pre .0 .0)
 
--- src/filter_constraint.rt:116:32
+-- src/lib.rt:117:32
 array-read-bump-4 :
     tie.Need-array-read-bump-4
     Inv-loop
@@ -1484,7 +1503,7 @@ array-read-bump-4 :
     μ-loop6
 array-read-bump-4 c = search needs
 
--- src/filter_constraint.rt:116:17
+-- src/lib.rt:117:17
 bump-requires-4 :
     tie.Need-bump-requires-4
     Inv-loop
@@ -1508,7 +1527,7 @@ bump-requires-4 c κs =
     .taken)) in
     omega (arith, l1 .inv .0, l1 .inv .1, l1 .inv .2, l1 .inv .3, h, st .pre .0 .0)
 
--- src/filter_constraint.rt:117:17
+-- src/lib.rt:118:17
 array-write-seen-4 :
     tie.Need-array-write-seen-4
     Inv-loop
@@ -1525,7 +1544,7 @@ array-write-seen-4 :
     μ-loop6
 array-write-seen-4 c = search needs
 
--- src/filter_constraint.rt:118:68
+-- src/lib.rt:119:68
 mul-add-says-2 :
     tie.Need-mul-add-says-2
     Inv-loop
@@ -1542,7 +1561,7 @@ mul-add-says-2 :
     μ-loop6
 mul-add-says-2 c = search needs
 
--- src/filter_constraint.rt:118:68
+-- src/lib.rt:119:68
 array-copy-out-add-says-2 :
     tie.Need-array-copy-out-add-says-2
     Inv-loop
@@ -1559,7 +1578,7 @@ array-copy-out-add-says-2 :
     μ-loop6
 array-copy-out-add-says-2 c = search needs
 
--- src/filter_constraint.rt:118:21
+-- src/lib.rt:119:21
 add-says-requires-2 :
     tie.Need-add-says-requires-2
     Inv-loop
@@ -1584,20 +1603,25 @@ add-says-requires-2 c κs =
     let classify = c .before .before .before .before .before .before .before .before .before .before .classify
     in
     let arm = c .before .before .before .before .before .before .before .before .k3 in
+    let slot4 = c .before .before .before .before .before .before .slot4 in
     let h : l1 .i < st .args .n = ltb-true _ _ (and-left (ltb (l1 .i) (st .args .n)) (not (l1 .unsat)) (t1
     .taken)) in
     let k = read-as _ _ _ _ _ (classify .ensures _) (arm .given .1) in (
-      l1 .inv .4 .shows .fine _ (omega (
+      l1 .inv .4 .shows .fine _ (omega (arith, slot4 .ensures)),
+      omega (
         arith,
-        c .before .before .before .before .before .before .slot4
-            .ensures,
-      )),
-      omega (arith, l1 .inv .0, l1 .inv .1, l1 .inv .2, l1 .inv .3, h, st .pre .0 .0),
-      subst
-          (ToldConjunct _ _) k (st .pre .1 .0 _ h),
+        l1 .inv .0,
+        l1 .inv .1,
+        l1 .inv
+            .2,
+        l1 .inv .3,
+        h,
+        st .pre .0 .0,
+      ),
+      subst (ToldConjunct _ _) k (st .pre .1 .0 _ h),
     )
 
--- src/filter_constraint.rt:119:17
+-- src/lib.rt:120:17
 mul-table-4 :
     tie.Need-mul-table-4
     Inv-loop
@@ -1614,7 +1638,7 @@ mul-table-4 :
     μ-loop6
 mul-table-4 c = search needs
 
--- src/filter_constraint.rt:119:17
+-- src/lib.rt:120:17
 array-set-from-table-4 :
     tie.Need-array-set-from-table-4
     Inv-loop
@@ -1631,7 +1655,7 @@ array-set-from-table-4 :
     μ-loop6
 array-set-from-table-4 c = search needs
 
--- src/filter_constraint.rt:121:17
+-- src/lib.rt:122:17
 mul-kept :
     tie.Need-mul-kept
     Inv-loop
@@ -1659,7 +1683,7 @@ mul-kept c =
     let b0 = bump4 .ensures .1 in
     omega (arith, l1 .inv .0, l1 .inv .1, l1 .inv .2, l1 .inv .3, h, st .pre .0 .0, b0)
 
--- src/filter_constraint.rt:121:17
+-- src/lib.rt:122:17
 array-write-kept :
     tie.Need-array-write-kept
     Inv-loop
@@ -1687,7 +1711,7 @@ array-write-kept c =
     let b0 = bump4 .ensures .1 in
     omega (arith, l1 .inv .0, l1 .inv .1, l1 .inv .2, l1 .inv .3, h, st .pre .0 .0, b0)
 
--- src/filter_constraint.rt:122:17
+-- src/lib.rt:123:17
 add-keeps :
     tie.Need-add-keeps
     Inv-loop
@@ -1715,7 +1739,7 @@ add-keeps c =
     let b0 = bump4 .ensures .1 in
     omega (arith, l1 .inv .0, l1 .inv .1, l1 .inv .2, l1 .inv .3, h, st .pre .0 .0, b0)
 
--- src/filter_constraint.rt:77:5
+-- src/lib.rt:78:5
 loop-less-3 :
     tie.Need-loop-less-3
     Inv-loop
@@ -1743,7 +1767,7 @@ loop-less-3 c =
     let b0 = bump4 .ensures .1 in
     omega (arith, l1 .inv .0, l1 .inv .1, l1 .inv .2, l1 .inv .3, h, st .pre .0 .0, b0)
 
--- src/filter_constraint.rt:77:5
+-- src/lib.rt:78:5
 loop-again-3 :
     tie.Need-loop-again-3
     Inv-loop
@@ -1770,6 +1794,7 @@ loop-again-3 c =
     let arm = c .before .before .before .before .before .before .before .before .before .before .k3 in
     let slot4 = c .before .before .before .before .before .before .before .before .slot4 in
     let bump4 = c .before .before .before .before .before .before .before .bump4 in
+    let add-says2 = c .before .add-says2 in
     let h : l1 .i < st .args .n = ltb-true _ _ (and-left (ltb (l1 .i) (st .args .n)) (not (l1 .unsat)) (t1
     .taken)) in
     let k = read-as _ _ _ _ _ (classify .ensures _) (arm .given .1) in
@@ -1816,10 +1841,10 @@ loop-again-3 c =
       )) _ _ _ _ _ _ _ _ _ k (collect-more _ _ _ _ (l1 .inv .4 .stops) (not-true
           (l1 .unsat) (and-right (ltb (l1 .i) (st .args .n)) (not (l1 .unsat)) (t1 .taken)))) (subst (ColumnsBelow 64)
           k (st .pre .1 .1 _ h)) (omega (arith, l1 .inv .0, l1 .inv .1, l1 .inv .2, l1 .inv .3, h, st .pre .0 .0))
-          (slot4 .ensures) (bump4 .ensures .0) (c .before .add-says2 .ensures .0) (c .before .add-says2 .ensures .1),
+          (slot4 .ensures) (bump4 .ensures .0) (add-says2 .ensures .0) (add-says2 .ensures .1),
     )
 
--- src/filter_constraint.rt:125:35
+-- src/lib.rt:126:35
 enum-known-k-4 :
     tie.Need-enum-known-k-4
     Inv-loop
@@ -1836,7 +1861,7 @@ enum-known-k-4 :
     μ-loop6
 enum-known-k-4 c = search needs
 
--- src/filter_constraint.rt:126:21
+-- src/lib.rt:127:21
 slot-requires-5 :
     tie.Need-slot-requires-5
     Inv-loop
@@ -1853,7 +1878,7 @@ slot-requires-5 :
     μ-loop6
 slot-requires-5 c κs = search needs
 
--- src/filter_constraint.rt:127:17
+-- src/lib.rt:128:17
 mul-order-5 :
     tie.Need-mul-order-5
     Inv-loop
@@ -1877,7 +1902,7 @@ mul-order-5 c =
     .taken)) in
     omega (arith, l1 .inv .0, l1 .inv .1, l1 .inv .2, l1 .inv .3, h, st .pre .0 .0)
 
--- src/filter_constraint.rt:127:17
+-- src/lib.rt:128:17
 array-write-order-5 :
     tie.Need-array-write-order-5
     Inv-loop
@@ -1901,7 +1926,7 @@ array-write-order-5 c =
     .taken)) in
     omega (arith, l1 .inv .0, l1 .inv .1, l1 .inv .2, l1 .inv .3, h, st .pre .0 .0)
 
--- src/filter_constraint.rt:128:32
+-- src/lib.rt:129:32
 array-read-bump-5 :
     tie.Need-array-read-bump-5
     Inv-loop
@@ -1918,7 +1943,7 @@ array-read-bump-5 :
     μ-loop6
 array-read-bump-5 c = search needs
 
--- src/filter_constraint.rt:128:17
+-- src/lib.rt:129:17
 bump-requires-5 :
     tie.Need-bump-requires-5
     Inv-loop
@@ -1942,7 +1967,7 @@ bump-requires-5 c κs =
     .taken)) in
     omega (arith, l1 .inv .0, l1 .inv .1, l1 .inv .2, l1 .inv .3, h, st .pre .0 .0)
 
--- src/filter_constraint.rt:129:17
+-- src/lib.rt:130:17
 array-write-seen-5 :
     tie.Need-array-write-seen-5
     Inv-loop
@@ -1959,7 +1984,7 @@ array-write-seen-5 :
     μ-loop6
 array-write-seen-5 c = search needs
 
--- src/filter_constraint.rt:130:45
+-- src/lib.rt:131:45
 mul-require-nullability-3 :
     tie.Need-mul-require-nullability-3
     Inv-loop
@@ -1976,7 +2001,7 @@ mul-require-nullability-3 :
     μ-loop6
 mul-require-nullability-3 c = search needs
 
--- src/filter_constraint.rt:130:45
+-- src/lib.rt:131:45
 array-copy-out-require-nullability-3 :
     tie.Need-array-copy-out-require-nullability-3
     Inv-loop
@@ -1993,7 +2018,7 @@ array-copy-out-require-nullability-3 :
     μ-loop6
 array-copy-out-require-nullability-3 c = search needs
 
--- src/filter_constraint.rt:130:21
+-- src/lib.rt:131:21
 require-nullability-requires-3 :
     tie.Need-require-nullability-requires-3
     Inv-loop
@@ -2010,7 +2035,7 @@ require-nullability-requires-3 :
     μ-loop6
 require-nullability-requires-3 c κs = search needs
 
--- src/filter_constraint.rt:131:17
+-- src/lib.rt:132:17
 mul-table-5 :
     tie.Need-mul-table-5
     Inv-loop
@@ -2027,7 +2052,7 @@ mul-table-5 :
     μ-loop6
 mul-table-5 c = search needs
 
--- src/filter_constraint.rt:131:17
+-- src/lib.rt:132:17
 array-set-from-table-5 :
     tie.Need-array-set-from-table-5
     Inv-loop
@@ -2044,7 +2069,7 @@ array-set-from-table-5 :
     μ-loop6
 array-set-from-table-5 c = search needs
 
--- src/filter_constraint.rt:132:21
+-- src/lib.rt:133:21
 slot-requires-6 :
     tie.Need-slot-requires-6
     Inv-loop
@@ -2061,7 +2086,7 @@ slot-requires-6 :
     μ-loop6
 slot-requires-6 c κs = search needs
 
--- src/filter_constraint.rt:133:17
+-- src/lib.rt:134:17
 mul-order-6 :
     tie.Need-mul-order-6
     Inv-loop
@@ -2083,12 +2108,13 @@ mul-order-6 c =
     .loop in
     let t1 = c .before .before .before .before .before .before .before .before .before .before .before
     .loop-test in
+    let bump5 = c .before .before .before .bump5 in
     let h : l1 .i < st .args .n = ltb-true _ _ (and-left (ltb (l1 .i) (st .args .n)) (not (l1 .unsat)) (t1
     .taken)) in
-    let b0 = c .before .before .before .bump5 .ensures .1 in
+    let b0 = bump5 .ensures .1 in
     omega (arith, l1 .inv .0, l1 .inv .1, l1 .inv .2, l1 .inv .3, h, st .pre .0 .0, b0)
 
--- src/filter_constraint.rt:133:17
+-- src/lib.rt:134:17
 array-write-order-6 :
     tie.Need-array-write-order-6
     Inv-loop
@@ -2110,12 +2136,13 @@ array-write-order-6 c =
     .loop in
     let t1 = c .before .before .before .before .before .before .before .before .before .before .before
     .loop-test in
+    let bump5 = c .before .before .before .bump5 in
     let h : l1 .i < st .args .n = ltb-true _ _ (and-left (ltb (l1 .i) (st .args .n)) (not (l1 .unsat)) (t1
     .taken)) in
-    let b0 = c .before .before .before .bump5 .ensures .1 in
+    let b0 = bump5 .ensures .1 in
     omega (arith, l1 .inv .0, l1 .inv .1, l1 .inv .2, l1 .inv .3, h, st .pre .0 .0, b0)
 
--- src/filter_constraint.rt:134:32
+-- src/lib.rt:135:32
 array-read-bump-6 :
     tie.Need-array-read-bump-6
     Inv-loop
@@ -2132,7 +2159,7 @@ array-read-bump-6 :
     μ-loop6
 array-read-bump-6 c = search needs
 
--- src/filter_constraint.rt:134:17
+-- src/lib.rt:135:17
 bump-requires-6 :
     tie.Need-bump-requires-6
     Inv-loop
@@ -2154,12 +2181,13 @@ bump-requires-6 c κs =
     .loop in
     let t1 = c .before .before .before .before .before .before .before .before .before .before .before
     .loop-test in
+    let bump5 = c .before .before .before .bump5 in
     let h : l1 .i < st .args .n = ltb-true _ _ (and-left (ltb (l1 .i) (st .args .n)) (not (l1 .unsat)) (t1
     .taken)) in
-    let b0 = c .before .before .before .bump5 .ensures .1 in
+    let b0 = bump5 .ensures .1 in
     omega (arith, l1 .inv .0, l1 .inv .1, l1 .inv .2, l1 .inv .3, h, st .pre .0 .0, b0)
 
--- src/filter_constraint.rt:135:17
+-- src/lib.rt:136:17
 array-write-seen-6 :
     tie.Need-array-write-seen-6
     Inv-loop
@@ -2176,7 +2204,7 @@ array-write-seen-6 :
     μ-loop6
 array-write-seen-6 c = search needs
 
--- src/filter_constraint.rt:136:45
+-- src/lib.rt:137:45
 mul-require-nullability-4 :
     tie.Need-mul-require-nullability-4
     Inv-loop
@@ -2193,7 +2221,7 @@ mul-require-nullability-4 :
     μ-loop6
 mul-require-nullability-4 c = search needs
 
--- src/filter_constraint.rt:136:45
+-- src/lib.rt:137:45
 array-copy-out-require-nullability-4 :
     tie.Need-array-copy-out-require-nullability-4
     Inv-loop
@@ -2210,7 +2238,7 @@ array-copy-out-require-nullability-4 :
     μ-loop6
 array-copy-out-require-nullability-4 c = search needs
 
--- src/filter_constraint.rt:136:21
+-- src/lib.rt:137:21
 require-nullability-requires-4 :
     tie.Need-require-nullability-requires-4
     Inv-loop
@@ -2227,7 +2255,7 @@ require-nullability-requires-4 :
     μ-loop6
 require-nullability-requires-4 c κs = search needs
 
--- src/filter_constraint.rt:137:17
+-- src/lib.rt:138:17
 mul-table-6 :
     tie.Need-mul-table-6
     Inv-loop
@@ -2244,7 +2272,7 @@ mul-table-6 :
     μ-loop6
 mul-table-6 c = search needs
 
--- src/filter_constraint.rt:137:17
+-- src/lib.rt:138:17
 array-set-from-table-6 :
     tie.Need-array-set-from-table-6
     Inv-loop
@@ -2261,7 +2289,7 @@ array-set-from-table-6 :
     μ-loop6
 array-set-from-table-6 c = search needs
 
--- src/filter_constraint.rt:138:17
+-- src/lib.rt:139:17
 mul-kept-2 :
     tie.Need-mul-kept-2
     Inv-loop
@@ -2283,13 +2311,15 @@ mul-kept-2 c =
     .before .before .before .loop in
     let t1 = c .before .before .before .before .before .before .before .before .before .before .before .before
     .before .before .loop-test in
+    let bump5 = c .before .before .before .before .before .before .bump5 in
+    let bump6 = c .before .before .bump6 in
     let h : l1 .i < st .args .n = ltb-true _ _ (and-left (ltb (l1 .i) (st .args .n)) (not (l1 .unsat)) (t1
     .taken)) in
-    let b0 = c .before .before .bump6 .ensures .1 in
-    let b1 = c .before .before .before .before .before .before .bump5 .ensures .1 in
+    let b0 = bump6 .ensures .1 in
+    let b1 = bump5 .ensures .1 in
     omega (arith, l1 .inv .0, l1 .inv .1, l1 .inv .2, l1 .inv .3, h, st .pre .0 .0, b0, b1)
 
--- src/filter_constraint.rt:138:17
+-- src/lib.rt:139:17
 array-write-kept-2 :
     tie.Need-array-write-kept-2
     Inv-loop
@@ -2311,13 +2341,15 @@ array-write-kept-2 c =
     .before .before .before .loop in
     let t1 = c .before .before .before .before .before .before .before .before .before .before .before .before
     .before .before .loop-test in
+    let bump5 = c .before .before .before .before .before .before .bump5 in
+    let bump6 = c .before .before .bump6 in
     let h : l1 .i < st .args .n = ltb-true _ _ (and-left (ltb (l1 .i) (st .args .n)) (not (l1 .unsat)) (t1
     .taken)) in
-    let b0 = c .before .before .bump6 .ensures .1 in
-    let b1 = c .before .before .before .before .before .before .bump5 .ensures .1 in
+    let b0 = bump6 .ensures .1 in
+    let b1 = bump5 .ensures .1 in
     omega (arith, l1 .inv .0, l1 .inv .1, l1 .inv .2, l1 .inv .3, h, st .pre .0 .0, b0, b1)
 
--- src/filter_constraint.rt:139:17
+-- src/lib.rt:140:17
 add-keeps-2 :
     tie.Need-add-keeps-2
     Inv-loop
@@ -2339,13 +2371,15 @@ add-keeps-2 c =
     .before .before .before .loop in
     let t1 = c .before .before .before .before .before .before .before .before .before .before .before .before
     .before .before .loop-test in
+    let bump5 = c .before .before .before .before .before .before .bump5 in
+    let bump6 = c .before .before .bump6 in
     let h : l1 .i < st .args .n = ltb-true _ _ (and-left (ltb (l1 .i) (st .args .n)) (not (l1 .unsat)) (t1
     .taken)) in
-    let b0 = c .before .before .bump6 .ensures .1 in
-    let b1 = c .before .before .before .before .before .before .bump5 .ensures .1 in
+    let b0 = bump6 .ensures .1 in
+    let b1 = bump5 .ensures .1 in
     omega (arith, l1 .inv .0, l1 .inv .1, l1 .inv .2, l1 .inv .3, h, st .pre .0 .0, b0, b1)
 
--- src/filter_constraint.rt:77:5
+-- src/lib.rt:78:5
 loop-less-4 :
     tie.Need-loop-less-4
     Inv-loop
@@ -2367,13 +2401,15 @@ loop-less-4 c =
     .before .before .before .loop in
     let t1 = c .before .before .before .before .before .before .before .before .before .before .before .before
     .before .before .loop-test in
+    let bump5 = c .before .before .before .before .before .before .bump5 in
+    let bump6 = c .before .before .bump6 in
     let h : l1 .i < st .args .n = ltb-true _ _ (and-left (ltb (l1 .i) (st .args .n)) (not (l1 .unsat)) (t1
     .taken)) in
-    let b0 = c .before .before .bump6 .ensures .1 in
-    let b1 = c .before .before .before .before .before .before .bump5 .ensures .1 in
+    let b0 = bump6 .ensures .1 in
+    let b1 = bump5 .ensures .1 in
     omega (arith, l1 .inv .0, l1 .inv .1, l1 .inv .2, l1 .inv .3, h, st .pre .0 .0, b0, b1)
 
--- src/filter_constraint.rt:77:5
+-- src/lib.rt:78:5
 loop-again-4 :
     tie.Need-loop-again-4
     Inv-loop
@@ -2401,6 +2437,7 @@ loop-again-4 c =
     let slot5 = c .before .before .before .before .before .before .before .slot5 in
     let bump5 = c .before .before .before .before .before .before .bump5 in
     let require-nullability3 = c .before .before .before .before .require-nullability3 in
+    let slot6 = c .before .before .before .slot6 in
     let bump6 = c .before .before .bump6 in
     let require-nullability4 = c .require-nullability4 in
     let h : l1 .i < st .args .n = ltb-true _ _ (and-left (ltb (l1 .i) (st .args .n)) (not (l1 .unsat)) (t1
@@ -2450,15 +2487,15 @@ loop-again-4 c =
         l1 .inv .3,
         h,
         st .pre .0 .0,
-      )) _ _ _ _ _ _ _ _ _ _ _ (l .0) (l .1) (slot5 .ensures) (c .before .before
-          .before .slot6 .ensures) (not-true (l1 .unsat) (and-right (ltb (l1 .i) (st .args .n)) (not (l1 .unsat)) (t1
-          .taken))) (bump5 .ensures .0) (require-nullability3 .ensures .0 _) (require-nullability3 .ensures .1) (bump6
-          .ensures .0) (require-nullability4 .ensures .0 _) (require-nullability4 .ensures .1) k (collect-more _ _ _ _
-          (l1 .inv .4 .stops) (not-true (l1 .unsat) (and-right (ltb (l1 .i) (st .args .n)) (not (l1 .unsat)) (t1
-          .taken)))) (omega (arith, l1 .inv .0, l1 .inv .1, l1 .inv .2, l1 .inv .3, h, st .pre .0 .0)),
+      )) _ _ _ _ _ _ _ _ _ _ _ (l .0) (l .1) (slot5 .ensures) (slot6 .ensures)
+          (not-true (l1 .unsat) (and-right (ltb (l1 .i) (st .args .n)) (not (l1 .unsat)) (t1 .taken))) (bump5 .ensures
+          .0) (require-nullability3 .ensures .0 _) (require-nullability3 .ensures .1) (bump6 .ensures .0)
+          (require-nullability4 .ensures .0 _) (require-nullability4 .ensures .1) k (collect-more _ _ _ _ (l1 .inv .4
+          .stops) (not-true (l1 .unsat) (and-right (ltb (l1 .i) (st .args .n)) (not (l1 .unsat)) (t1 .taken)))) (omega
+          (arith, l1 .inv .0, l1 .inv .1, l1 .inv .2, l1 .inv .3, h, st .pre .0 .0)),
     )
 
--- src/filter_constraint.rt:143:17
+-- src/lib.rt:144:17
 enum-told :
     tie.Need-enum-told
     Inv-loop
@@ -2475,7 +2512,7 @@ enum-told :
     μ-loop6
 enum-told c = search needs
 
--- src/filter_constraint.rt:143:17
+-- src/lib.rt:144:17
 mul-kept-3 :
     tie.Need-mul-kept-3
     Inv-loop
@@ -2498,7 +2535,7 @@ mul-kept-3 c =
     .taken)) in
     omega (arith, l1 .inv .0, l1 .inv .1, l1 .inv .2, l1 .inv .3, h, st .pre .0 .0)
 
--- src/filter_constraint.rt:143:17
+-- src/lib.rt:144:17
 array-write-kept-3 :
     tie.Need-array-write-kept-3
     Inv-loop
@@ -2521,7 +2558,7 @@ array-write-kept-3 c =
     .taken)) in
     omega (arith, l1 .inv .0, l1 .inv .1, l1 .inv .2, l1 .inv .3, h, st .pre .0 .0)
 
--- src/filter_constraint.rt:144:17
+-- src/lib.rt:145:17
 add-keeps-3 :
     tie.Need-add-keeps-3
     Inv-loop
@@ -2544,7 +2581,7 @@ add-keeps-3 c =
     .taken)) in
     omega (arith, l1 .inv .0, l1 .inv .1, l1 .inv .2, l1 .inv .3, h, st .pre .0 .0)
 
--- src/filter_constraint.rt:77:5
+-- src/lib.rt:78:5
 loop-less-5 :
     tie.Need-loop-less-5
     Inv-loop
@@ -2567,7 +2604,7 @@ loop-less-5 c =
     .taken)) in
     omega (arith, l1 .inv .0, l1 .inv .1, l1 .inv .2, l1 .inv .3, h, st .pre .0 .0)
 
--- src/filter_constraint.rt:77:5
+-- src/lib.rt:78:5
 loop-again-5 :
     tie.Need-loop-again-5
     Inv-loop
@@ -2586,9 +2623,11 @@ loop-again-5 c =
     let st = c .before .before .before .before .before .before .before .before .before .before .before in
     let l1 = c .before .before .before .before .before .before .loop in
     let t1 = c .before .before .before .before .before .loop-test in
+    let classify = c .before .before .classify in
+    let arm = c .enum-told in
     let h : l1 .i < st .args .n = ltb-true _ _ (and-left (ltb (l1 .i) (st .args .n)) (not (l1 .unsat)) (t1
     .taken)) in
-    let k = read-as _ _ _ _ _ (c .before .before .classify .ensures _) (c .enum-told .given .1) in (
+    let k = read-as _ _ _ _ _ (classify .ensures _) (arm .given .1) in (
       omega (arith, l1 .inv .0, l1 .inv .1, l1 .inv .2, l1 .inv .3, h, st .pre .0 .0),
       omega (
         arith,
@@ -2633,7 +2672,7 @@ loop-again-5 c =
           (not (l1 .unsat)) (t1 .taken))),
     )
 
--- src/filter_constraint.rt:150:9
+-- src/lib.rt:151:9
 nothing-passes-requires :
     tie.Need-nothing-passes-requires
     Inv-loop
@@ -2652,7 +2691,7 @@ nothing-passes-requires c κs =
     let st = c .before .before .before .before .before .before .before .before in
     st .pre .0 .1
 
--- src/filter_constraint.rt:150:9
+-- src/lib.rt:151:9
 same-length :
     tie.Need-same-length
     Inv-loop
@@ -2669,7 +2708,7 @@ same-length :
     μ-loop6
 same-length c = search needs
 
--- src/filter_constraint.rt:150:9
+-- src/lib.rt:151:9
 returns :
     tie.Need-returns
     Inv-loop
@@ -2688,15 +2727,16 @@ returns c =
     let st = c .before .before .before .before .before .before .before .before .before .before .before in
     let l1 = c .before .before .before .before .before .before .loop in
     let t1 = c .before .before .before .before .before .loop-test in
+    let if1 = c .before .before .before .before .if1 in
     let nothing-passes = c .before .before .nothing-passes in
     answered-as (st .args .t .now) _ (st .args .trees .now) _ _ _ _ _ (ended-stopped _ _ _ _ _ (l1 .inv .0) (l1
-    .inv .4 .stops) (t1 .left) (c .before .before .before .before .if1 .taken)) (
-      nothing-passes .ensures .0 (st
-          .args .trees .now),
-      nothing-passes .ensures .1 (st .args .t .now),
+    .inv .4 .stops) (t1 .left) (if1 .taken)) (
+      nothing-passes .ensures .0 (st .args .trees .now),
+      nothing-passes
+          .ensures .1 (st .args .t .now),
     )
 
--- src/filter_constraint.rt:155:5
+-- src/lib.rt:156:5
 loop2-holds :
     tie.Need-loop2-holds
     Inv-loop
@@ -2714,7 +2754,7 @@ loop2-holds :
 loop2-holds c =
     (omega arith, λ T S. passed-none _ _ _ _ T S)
 
--- src/filter_constraint.rt:158:9
+-- src/lib.rt:159:9
 loop3-holds :
     tie.Need-loop3-holds
     Inv-loop
@@ -2732,7 +2772,7 @@ loop3-holds :
 loop3-holds c =
     (omega arith, λ T S. merged-none _ _ _ _ _ _ T S)
 
--- src/filter_constraint.rt:159:33
+-- src/lib.rt:160:33
 mul-t194 :
     tie.Need-mul-t194
     Inv-loop
@@ -2753,7 +2793,7 @@ mul-t194 c =
     let t3 = c .loop3-test in
     omega (arith, t3 .taken, l1 .inv .0, l1 .inv .2, st .pre .0 .0)
 
--- src/filter_constraint.rt:159:33
+-- src/lib.rt:160:33
 array-read-t197 :
     tie.Need-array-read-t197
     Inv-loop
@@ -2774,7 +2814,7 @@ array-read-t197 c =
     let t3 = c .loop3-test in
     omega (arith, t3 .taken, l1 .inv .0, l1 .inv .2, st .pre .0 .0)
 
--- src/filter_constraint.rt:159:17
+-- src/lib.rt:160:17
 slot-requires-7 :
     tie.Need-slot-requires-7
     Inv-loop
@@ -2791,7 +2831,7 @@ slot-requires-7 :
     μ-loop6
 slot-requires-7 c κs = search needs
 
--- src/filter_constraint.rt:160:33
+-- src/lib.rt:161:33
 mul-t194-2 :
     tie.Need-mul-t194-2
     Inv-loop
@@ -2813,7 +2853,7 @@ mul-t194-2 c =
     let t3 = c .before .loop3-test in
     omega (arith, t3 .taken, l1 .inv .0, l1 .inv .2, st .pre .0 .0)
 
--- src/filter_constraint.rt:160:33
+-- src/lib.rt:161:33
 array-read-t197-2 :
     tie.Need-array-read-t197-2
     Inv-loop
@@ -2835,7 +2875,7 @@ array-read-t197-2 c =
     let t3 = c .before .loop3-test in
     omega (arith, t3 .taken, l1 .inv .0, l1 .inv .2, st .pre .0 .0)
 
--- src/filter_constraint.rt:160:17
+-- src/lib.rt:161:17
 slot-requires-8 :
     tie.Need-slot-requires-8
     Inv-loop
@@ -2852,7 +2892,7 @@ slot-requires-8 :
     μ-loop6
 slot-requires-8 c κs = search needs
 
--- src/filter_constraint.rt:162:17
+-- src/lib.rt:163:17
 add-e :
     tie.Need-add-e
     Inv-loop
@@ -2874,7 +2914,7 @@ add-e c =
     let t3 = c .before .before .before .loop3-test in
     omega (arith, t3 .taken, l1 .inv .0, l1 .inv .2, st .pre .0 .0)
 
--- src/filter_constraint.rt:158:9
+-- src/lib.rt:159:9
 loop3-less :
     tie.Need-loop3-less
     Inv-loop
@@ -2896,7 +2936,7 @@ loop3-less c =
     let t3 = c .before .before .before .loop3-test in
     omega (arith, t3 .taken, l1 .inv .0, l1 .inv .2, st .pre .0 .0)
 
--- src/filter_constraint.rt:158:9
+-- src/lib.rt:159:9
 loop3-again :
     tie.Need-loop3-again
     Inv-loop
@@ -2916,14 +2956,17 @@ loop3-again c =
     .before .before in
     let l1 = c .before .before .before .before .before .before .before .before .before .loop in
     let l3 = c .before .before .before .before .loop3 in
-    let t3 = c .before .before .before .loop3-test in (
+    let t3 = c .before .before .before .loop3-test in
+    let slot7 = c .before .before .slot7 in
+    let slot8 = c .before .slot8 in
+    let if2 = c .if2 in (
       omega (arith, t3 .taken, l1 .inv .0, l1 .inv .2, st .pre .0 .0),
       λ T S. edge-self _ _ _ _ _ _ _ _ _ T (l3
           .inv .1 T S) _ _ (l1 .inv .4 .linked .low-left _ (t3 .taken)) (l1 .inv .4 .linked .low-right _ (t3 .taken))
-          (c .before .before .slot7 .ensures) (c .before .slot8 .ensures) (c .if2 .taken),
+          (slot7 .ensures) (slot8 .ensures) (if2 .taken),
     )
 
--- src/filter_constraint.rt:165:21
+-- src/lib.rt:166:21
 mul-c :
     tie.Need-mul-c
     Inv-loop
@@ -2940,7 +2983,7 @@ mul-c :
     μ-loop6
 mul-c c = search needs
 
--- src/filter_constraint.rt:165:21
+-- src/lib.rt:166:21
 array-copy-out-c :
     tie.Need-array-copy-out-c
     Inv-loop
@@ -2957,7 +3000,7 @@ array-copy-out-c :
     μ-loop6
 array-copy-out-c c = search needs
 
--- src/filter_constraint.rt:166:70
+-- src/lib.rt:167:70
 mul-merge-from :
     tie.Need-mul-merge-from
     Inv-loop
@@ -2974,7 +3017,7 @@ mul-merge-from :
     μ-loop6
 mul-merge-from c = search needs
 
--- src/filter_constraint.rt:166:70
+-- src/lib.rt:167:70
 array-copy-out-merge-from :
     tie.Need-array-copy-out-merge-from
     Inv-loop
@@ -2991,7 +3034,7 @@ array-copy-out-merge-from :
     μ-loop6
 array-copy-out-merge-from c = search needs
 
--- src/filter_constraint.rt:166:17
+-- src/lib.rt:167:17
 merge-from-requires :
     tie.Need-merge-from-requires
     Inv-loop
@@ -3017,7 +3060,7 @@ merge-from-requires c κs =
     let s = l3 .inv .1 _ (l2 .inv .1 _ (l1 .inv .4 .shows) .shows) .shows in
     (s .fine _ (omega (arith, slot8 .ensures)), s .fine _ (omega (arith, slot7 .ensures)))
 
--- src/filter_constraint.rt:168:13
+-- src/lib.rt:169:13
 mul-table-7 :
     tie.Need-mul-table-7
     Inv-loop
@@ -3036,7 +3079,7 @@ mul-table-7 c =
     let slot8 = c .before .before .before .before .before .before .before .before .before .slot8 in
     omega (arith, slot8 .ensures)
 
--- src/filter_constraint.rt:168:13
+-- src/lib.rt:169:13
 array-set-from-table-7 :
     tie.Need-array-set-from-table-7
     Inv-loop
@@ -3055,7 +3098,7 @@ array-set-from-table-7 c =
     let slot8 = c .before .before .before .before .before .before .before .before .before .slot8 in
     omega (arith, slot8 .ensures)
 
--- src/filter_constraint.rt:169:17
+-- src/lib.rt:170:17
 merge-from-requires-2 :
     tie.Need-merge-from-requires-2
     Inv-loop
@@ -3079,13 +3122,11 @@ merge-from-requires-2 c κs =
     .before .before .before .before .loop3 in
     let slot7 = c .before .before .before .before .before .before .before .before .before .before .before
     .before .before .before .slot7 in
-    let s = l3 .inv .1 _ (l2 .inv .1 _ (l1 .inv .4 .shows) .shows) .shows in (
-      s .fine _ (omega (arith, slot7 .ensures)),
-      c .before .before .before .before .before .merge-from .ensures
-          .1,
-    )
+    let merge-from = c .before .before .before .before .before .merge-from in
+    let s = l3 .inv .1 _ (l2 .inv .1 _ (l1 .inv .4 .shows) .shows) .shows in
+    (s .fine _ (omega (arith, slot7 .ensures)), merge-from .ensures .1)
 
--- src/filter_constraint.rt:171:13
+-- src/lib.rt:172:13
 mul-table-8 :
     tie.Need-mul-table-8
     Inv-loop
@@ -3105,7 +3146,7 @@ mul-table-8 c =
     .before .before .before .before .before .slot7 in
     omega (arith, slot7 .ensures)
 
--- src/filter_constraint.rt:171:13
+-- src/lib.rt:172:13
 array-set-from-table-8 :
     tie.Need-array-set-from-table-8
     Inv-loop
@@ -3125,7 +3166,7 @@ array-set-from-table-8 c =
     .before .before .before .before .before .slot7 in
     omega (arith, slot7 .ensures)
 
--- src/filter_constraint.rt:174:13
+-- src/lib.rt:175:13
 add-e-2 :
     tie.Need-add-e-2
     Inv-loop
@@ -3151,7 +3192,7 @@ add-e-2 c =
     .before .before .before .before .before .before .before .before .before .loop3-test in
     omega (arith, t3 .taken, l1 .inv .0, l1 .inv .2, st .pre .0 .0)
 
--- src/filter_constraint.rt:158:9
+-- src/lib.rt:159:9
 loop3-less-2 :
     tie.Need-loop3-less-2
     Inv-loop
@@ -3177,7 +3218,7 @@ loop3-less-2 c =
     .before .before .before .before .before .before .before .before .before .loop3-test in
     omega (arith, t3 .taken, l1 .inv .0, l1 .inv .2, st .pre .0 .0)
 
--- src/filter_constraint.rt:158:9
+-- src/lib.rt:159:9
 loop3-again-2 :
     tie.Need-loop3-again-2
     Inv-loop
@@ -3219,7 +3260,7 @@ loop3-again-2 c =
           (merge-from2 .ensures .0) (merge-from2 .ensures .1),
     )
 
--- src/filter_constraint.rt:177:9
+-- src/lib.rt:178:9
 add-pass :
     tie.Need-add-pass
     Inv-loop
@@ -3243,7 +3284,7 @@ add-pass c =
     .taken)) in
     omega (arith, h, l1 .inv .0, l1 .inv .1, st .pre .0 .0)
 
--- src/filter_constraint.rt:155:5
+-- src/lib.rt:156:5
 loop2-less :
     tie.Need-loop2-less
     Inv-loop
@@ -3267,7 +3308,7 @@ loop2-less c =
     .taken)) in
     omega (arith, h, l1 .inv .0, l1 .inv .1, st .pre .0 .0)
 
--- src/filter_constraint.rt:155:5
+-- src/lib.rt:156:5
 loop2-again :
     tie.Need-loop2-again
     Inv-loop
@@ -3295,7 +3336,7 @@ loop2-again c =
           .columns)) (l2 .going) (t2 .taken)) (omega (arith, l3 .inv .0, t3 .left)) (l2 .inv .1 T S) (l3 .inv .1),
     )
 
--- src/filter_constraint.rt:181:5
+-- src/lib.rt:182:5
 loop4-holds :
     tie.Need-loop4-holds
     Inv-loop
@@ -3313,7 +3354,7 @@ loop4-holds :
 loop4-holds c =
     (omega arith, omega arith, λ T l rights S K. kept-none T _ _ _ _ _ l K)
 
--- src/filter_constraint.rt:182:29
+-- src/lib.rt:183:29
 mul-kept-4 :
     tie.Need-mul-kept-4
     Inv-loop
@@ -3335,7 +3376,7 @@ mul-kept-4 c =
     let t4 = c .loop4-test in
     omega (arith, t4 .taken, l4 .inv .0, l4 .inv .1, l1 .inv .0, l1 .inv .2, st .pre .0 .0)
 
--- src/filter_constraint.rt:182:29
+-- src/lib.rt:183:29
 array-read-kept :
     tie.Need-array-read-kept
     Inv-loop
@@ -3357,7 +3398,7 @@ array-read-kept c =
     let t4 = c .loop4-test in
     omega (arith, t4 .taken, l4 .inv .0, l4 .inv .1, l1 .inv .0, l1 .inv .2, st .pre .0 .0)
 
--- src/filter_constraint.rt:182:13
+-- src/lib.rt:183:13
 slot-requires-9 :
     tie.Need-slot-requires-9
     Inv-loop
@@ -3374,7 +3415,7 @@ slot-requires-9 :
     μ-loop6
 slot-requires-9 c κs = search needs
 
--- src/filter_constraint.rt:183:30
+-- src/lib.rt:184:30
 mul-is-fixed :
     tie.Need-mul-is-fixed
     Inv-loop
@@ -3391,7 +3432,7 @@ mul-is-fixed :
     μ-loop6
 mul-is-fixed c = search needs
 
--- src/filter_constraint.rt:183:30
+-- src/lib.rt:184:30
 array-copy-out-is-fixed :
     tie.Need-array-copy-out-is-fixed
     Inv-loop
@@ -3408,7 +3449,7 @@ array-copy-out-is-fixed :
     μ-loop6
 array-copy-out-is-fixed c = search needs
 
--- src/filter_constraint.rt:183:13
+-- src/lib.rt:184:13
 is-fixed-requires :
     tie.Need-is-fixed-requires
     Inv-loop
@@ -3425,7 +3466,7 @@ is-fixed-requires :
     μ-loop6
 is-fixed-requires c κs = search needs
 
--- src/filter_constraint.rt:184:23
+-- src/lib.rt:185:23
 mul-kept-5 :
     tie.Need-mul-kept-5
     Inv-loop
@@ -3448,7 +3489,7 @@ mul-kept-5 c =
     let t4 = c .before .before .before .loop4-test in
     omega (arith, t4 .taken, l4 .inv .0, l4 .inv .1, l1 .inv .0, l1 .inv .2, st .pre .0 .0)
 
--- src/filter_constraint.rt:184:23
+-- src/lib.rt:185:23
 array-read-kept-2 :
     tie.Need-array-read-kept-2
     Inv-loop
@@ -3471,7 +3512,7 @@ array-read-kept-2 c =
     let t4 = c .before .before .before .loop4-test in
     omega (arith, t4 .taken, l4 .inv .0, l4 .inv .1, l1 .inv .0, l1 .inv .2, st .pre .0 .0)
 
--- src/filter_constraint.rt:184:9
+-- src/lib.rt:185:9
 mul-kept-6 :
     tie.Need-mul-kept-6
     Inv-loop
@@ -3494,7 +3535,7 @@ mul-kept-6 c =
     let t4 = c .before .before .before .loop4-test in
     omega (arith, t4 .taken, l4 .inv .0, l4 .inv .1, l1 .inv .0, l1 .inv .2, st .pre .0 .0)
 
--- src/filter_constraint.rt:184:9
+-- src/lib.rt:185:9
 array-write-kept-4 :
     tie.Need-array-write-kept-4
     Inv-loop
@@ -3517,7 +3558,7 @@ array-write-kept-4 c =
     let t4 = c .before .before .before .loop4-test in
     omega (arith, t4 .taken, l4 .inv .0, l4 .inv .1, l1 .inv .0, l1 .inv .2, st .pre .0 .0)
 
--- src/filter_constraint.rt:185:9
+-- src/lib.rt:186:9
 bump-requires-7 :
     tie.Need-bump-requires-7
     Inv-loop
@@ -3540,7 +3581,7 @@ bump-requires-7 c κs =
     let t4 = c .before .before .before .loop4-test in
     omega (arith, t4 .taken, l4 .inv .0, l4 .inv .1, l1 .inv .0, l1 .inv .2, st .pre .0 .0)
 
--- src/filter_constraint.rt:187:9
+-- src/lib.rt:188:9
 add-e-3 :
     tie.Need-add-e-3
     Inv-loop
@@ -3563,7 +3604,7 @@ add-e-3 c =
     let t4 = c .before .before .before .before .loop4-test in
     omega (arith, t4 .taken, l4 .inv .0, l4 .inv .1, l1 .inv .0, l1 .inv .2, st .pre .0 .0)
 
--- src/filter_constraint.rt:181:5
+-- src/lib.rt:182:5
 loop4-less :
     tie.Need-loop4-less
     Inv-loop
@@ -3586,7 +3627,7 @@ loop4-less c =
     let t4 = c .before .before .before .before .loop4-test in
     omega (arith, t4 .taken, l4 .inv .0, l4 .inv .1, l1 .inv .0, l1 .inv .2, st .pre .0 .0)
 
--- src/filter_constraint.rt:181:5
+-- src/lib.rt:182:5
 loop4-again :
     tie.Need-loop4-again
     Inv-loop
@@ -3607,7 +3648,10 @@ loop4-again c =
     let l1 = c .before .before .before .before .before .before .before .before .before .before .loop in
     let l4 = c .before .before .before .before .before .loop4 in
     let t4 = c .before .before .before .before .loop4-test in
-    let b = c .bump7 .ensures .1 in (
+    let slot9 = c .before .before .before .slot9 in
+    let is-fixed = c .before .is-fixed in
+    let bump7 = c .bump7 in
+    let b = bump7 .ensures .1 in (
       omega (arith, t4 .taken, l4 .inv .0, l4 .inv .1, l1 .inv .0, l1 .inv .2, st .pre .0 .0),
       omega (
         arith,
@@ -3622,12 +3666,12 @@ loop4-again c =
       ),
       λ T l rights S K. kept-more _ _ T
           _ rights _ _ _ _ _ _ _ _ l S (l4 .inv .2 T l rights S K) (l1 .inv .4 .linked .low-left _ (t4 .taken)) (omega
-          (arith, t4 .taken, l4 .inv .0, l4 .inv .1, l1 .inv .0, l1 .inv .2, st .pre .0 .0)) (c .before .before
-          .before .slot9 .ensures) (c .before .is-fixed .ensures (conjuncts (st .args .kinds .now) (st .args .values
-          .now) (st .args .starts .now) (st .args .counts .now) (st .args .p .now))) (c .bump7 .ensures .0),
+          (arith, t4 .taken, l4 .inv .0, l4 .inv .1, l1 .inv .0, l1 .inv .2, st .pre .0 .0)) (slot9 .ensures)
+          (is-fixed .ensures (conjuncts (st .args .kinds .now) (st .args .values .now) (st .args .starts .now) (st
+          .args .counts .now) (st .args .p .now))) (bump7 .ensures .0),
     )
 
--- src/filter_constraint.rt:191:5
+-- src/lib.rt:192:5
 loop5-holds :
     tie.Need-loop5-holds
     Inv-loop
@@ -3645,7 +3689,7 @@ loop5-holds :
 loop5-holds c =
     (omega arith, omega arith, λ T S. resolved-none _ _ _ _ T S)
 
--- src/filter_constraint.rt:192:29
+-- src/lib.rt:193:29
 mul-t241 :
     tie.Need-mul-t241
     Inv-loop
@@ -3668,7 +3712,7 @@ mul-t241 c =
     let t5 = c .loop5-test in
     omega (arith, t5 .taken, l5 .inv .0, l5 .inv .1, l1 .inv .0, l1 .inv .1, st .pre .0 .0)
 
--- src/filter_constraint.rt:192:29
+-- src/lib.rt:193:29
 array-read-t244 :
     tie.Need-array-read-t244
     Inv-loop
@@ -3691,7 +3735,7 @@ array-read-t244 c =
     let t5 = c .loop5-test in
     omega (arith, t5 .taken, l5 .inv .0, l5 .inv .1, l1 .inv .0, l1 .inv .1, st .pre .0 .0)
 
--- src/filter_constraint.rt:192:13
+-- src/lib.rt:193:13
 slot-requires-10 :
     tie.Need-slot-requires-10
     Inv-loop
@@ -3708,7 +3752,7 @@ slot-requires-10 :
     μ-loop6
 slot-requires-10 c κs = search needs
 
--- src/filter_constraint.rt:193:68
+-- src/lib.rt:194:68
 mul-resolve-deferred :
     tie.Need-mul-resolve-deferred
     Inv-loop
@@ -3725,7 +3769,7 @@ mul-resolve-deferred :
     μ-loop6
 mul-resolve-deferred c = search needs
 
--- src/filter_constraint.rt:193:68
+-- src/lib.rt:194:68
 array-copy-out-resolve-deferred :
     tie.Need-array-copy-out-resolve-deferred
     Inv-loop
@@ -3742,7 +3786,7 @@ array-copy-out-resolve-deferred :
     μ-loop6
 array-copy-out-resolve-deferred c = search needs
 
--- src/filter_constraint.rt:193:13
+-- src/lib.rt:194:13
 resolve-deferred-requires :
     tie.Need-resolve-deferred-requires
     Inv-loop
@@ -3762,13 +3806,10 @@ resolve-deferred-requires c κs =
     .before .before .loop in
     let l2 = c .before .before .before .before .before .before .before .before .before .before .before .loop2 in
     let l5 = c .before .before .before .before .before .before .before .loop5 in
-    l5 .inv .2 _ (l2 .inv .1 _ (l1 .inv .4 .shows) .shows) .shows .fine _ (omega (
-      arith,
-      c .before .before
-          .before .before .before .slot10 .ensures,
-    ))
+    let slot10 = c .before .before .before .before .before .slot10 in
+    l5 .inv .2 _ (l2 .inv .1 _ (l1 .inv .4 .shows) .shows) .shows .fine _ (omega (arith, slot10 .ensures))
 
--- src/filter_constraint.rt:194:9
+-- src/lib.rt:195:9
 mul-table-9 :
     tie.Need-mul-table-9
     Inv-loop
@@ -3785,7 +3826,7 @@ mul-table-9 :
     μ-loop6
 mul-table-9 c = search needs
 
--- src/filter_constraint.rt:194:9
+-- src/lib.rt:195:9
 array-set-from-table-9 :
     tie.Need-array-set-from-table-9
     Inv-loop
@@ -3802,7 +3843,7 @@ array-set-from-table-9 :
     μ-loop6
 array-set-from-table-9 c = search needs
 
--- src/filter_constraint.rt:196:25
+-- src/lib.rt:197:25
 comparison-count-requires :
     tie.Need-comparison-count-requires
     Inv-loop
@@ -3818,9 +3859,10 @@ comparison-count-requires :
     Inv-loop6
     μ-loop6
 comparison-count-requires c κs =
-    c .before .before .resolve-deferred .ensures .1
+    let resolve-deferred = c .before .before .resolve-deferred in
+    resolve-deferred .ensures .1
 
--- src/filter_constraint.rt:196:17
+-- src/lib.rt:197:17
 add-total :
     tie.Need-add-total
     Inv-loop
@@ -3843,13 +3885,14 @@ add-total c =
     let l5 = c .before .before .before .before .before .before .before .before .before .before .before .loop5 in
     let t5 = c .before .before .before .before .before .before .before .before .before .before .loop5-test in
     let resolve-deferred = c .before .before .before .resolve-deferred in
+    let comparison-count = c .comparison-count in
     let f = column-few (conjuncts (st .args .kinds .now) (st .args .values .now) (st .args .starts .now) (st
     .args .counts .now) (st .args .p .now)) (resolve-deferred .result) (resolve-deferred .ensures .1) in
-    let g = c .comparison-count .ensures (conjuncts (st .args .kinds .now) (st .args .values .now) (st .args
+    let g = comparison-count .ensures (conjuncts (st .args .kinds .now) (st .args .values .now) (st .args
     .starts .now) (st .args .counts .now) (st .args .p .now)) refl in
     omega (arith, t5 .taken, l5 .inv .0, l5 .inv .1, l1 .inv .0, l1 .inv .1, st .pre .0 .0, f, g)
 
--- src/filter_constraint.rt:197:9
+-- src/lib.rt:198:9
 add-o :
     tie.Need-add-o
     Inv-loop
@@ -3873,7 +3916,7 @@ add-o c =
     let t5 = c .before .before .before .before .before .before .before .before .before .before .loop5-test in
     omega (arith, t5 .taken, l5 .inv .0, l5 .inv .1, l1 .inv .0, l1 .inv .1, st .pre .0 .0)
 
--- src/filter_constraint.rt:191:5
+-- src/lib.rt:192:5
 loop5-less :
     tie.Need-loop5-less
     Inv-loop
@@ -3897,7 +3940,7 @@ loop5-less c =
     let t5 = c .before .before .before .before .before .before .before .before .before .before .loop5-test in
     omega (arith, t5 .taken, l5 .inv .0, l5 .inv .1, l1 .inv .0, l1 .inv .1, st .pre .0 .0)
 
--- src/filter_constraint.rt:191:5
+-- src/lib.rt:192:5
 loop5-again :
     tie.Need-loop5-again
     Inv-loop
@@ -3921,9 +3964,10 @@ loop5-again c =
     let t5 = c .before .before .before .before .before .before .before .before .before .before .loop5-test in
     let slot10 = c .before .before .before .before .before .before .before .before .before .slot10 in
     let resolve-deferred = c .before .before .before .resolve-deferred in
+    let comparison-count = c .comparison-count in
     let f = column-few (conjuncts (st .args .kinds .now) (st .args .values .now) (st .args .starts .now) (st
     .args .counts .now) (st .args .p .now)) (resolve-deferred .result) (resolve-deferred .ensures .1) in
-    let g = c .comparison-count .ensures (conjuncts (st .args .kinds .now) (st .args .values .now) (st .args
+    let g = comparison-count .ensures (conjuncts (st .args .kinds .now) (st .args .values .now) (st .args
     .starts .now) (st .args .counts .now) (st .args .p .now)) refl in (
       omega (arith, t5 .taken, l5 .inv .0, l5 .inv .1, l1 .inv .0, l1 .inv .1, st .pre .0 .0),
       omega (
@@ -3940,11 +3984,11 @@ loop5-again c =
       ),
       λ T S. resolved-more _ _ _ _ _
           _ _ T (l5 .inv .2 T S) _ _ _ (l1 .inv .4 .entered .low _ (t5 .taken)) (l1 .inv .4 .entered .distinct _ (t5
-          .taken)) (slot10 .ensures) (resolve-deferred .ensures .0) (resolve-deferred .ensures .1) (c
-          .comparison-count .ensures _ refl),
+          .taken)) (slot10 .ensures) (resolve-deferred .ensures .0) (resolve-deferred .ensures .1) (comparison-count
+          .ensures _ refl),
     )
 
--- src/filter_constraint.rt:200:9
+-- src/lib.rt:201:9
 nothing-passes-requires-2 :
     tie.Need-nothing-passes-requires-2
     Inv-loop
@@ -3964,7 +4008,7 @@ nothing-passes-requires-2 c κs =
     .before .before .before in
     st .pre .0 .1
 
--- src/filter_constraint.rt:200:9
+-- src/lib.rt:201:9
 same-length-2 :
     tie.Need-same-length-2
     Inv-loop
@@ -3981,7 +4025,7 @@ same-length-2 :
     μ-loop6
 same-length-2 c = search needs
 
--- src/filter_constraint.rt:200:9
+-- src/lib.rt:201:9
 returns-2 :
     tie.Need-returns-2
     Inv-loop
@@ -4009,6 +4053,7 @@ returns-2 c =
     let t4 = c .before .before .before .before .before .before .before .loop4-test in
     let l5 = c .before .before .before .before .before .before .loop5 in
     let t5 = c .before .before .before .before .before .loop5-test in
+    let if3 = c .before .before .before .before .if3 in
     let nothing-passes2 = c .before .before .nothing-passes2 in
     answered-as (st .args .t .now) _ (st .args .trees .now) _ _ _ _ _ (ended _ _ _ _ _ (l1 .inv .0) (l1 .inv .4
     .stops) (t1 .left) ∙ conclude-dead _ _ _ _ _ _ _ _ _ _ _ _ _ _ _ _ _ _ (l1 .inv .4) _ _ _ (l2 .inv .1) (l2
@@ -4016,13 +4061,13 @@ returns-2 c =
       arith,
       l5 .inv .0,
       t5 .left,
-    )) (l5 .inv .2) (c .before .before .before .before .if3 .taken)) (
-      nothing-passes2 .ensures .0 (st
-          .args .trees .now),
-      nothing-passes2 .ensures .1 (st .args .t .now),
+    )) (l5 .inv .2) (if3 .taken)) (
+      nothing-passes2 .ensures .0 (st .args .trees .now),
+      nothing-passes2
+          .ensures .1 (st .args .t .now),
     )
 
--- src/filter_constraint.rt:203:9
+-- src/lib.rt:204:9
 returns-3 :
     tie.Need-returns-3
     Inv-loop
@@ -4048,15 +4093,17 @@ returns-3 c =
     let t4 = c .before .before .before .before .loop4-test in
     let l5 = c .before .before .before .loop5 in
     let t5 = c .before .before .loop5-test in
+    let if3 = c .before .if3 in
+    let if4 = c .if4 in
     answered-as (st .args .t .now) _ (st .args .trees .now) _ _ _ _ _ (ended _ _ _ _ _ (l1 .inv .0) (l1 .inv .4
     .stops) (t1 .left) ∙ conclude-same _ _ _ _ _ _ _ _ _ _ _ _ _ _ _ _ _ _ (l1 .inv .4) _ _ _ (l2 .inv .1) (l2
     .inv .0) (t2 .left) _ _ (omega (arith, l4 .inv .0, t4 .left)) (l4 .inv .2) _ _ _ (omega (
       arith,
       l5 .inv .0,
       t5 .left,
-    )) (l5 .inv .2) (c .before .if3 .left) (c .if4 .taken)) (refl, refl)
+    )) (l5 .inv .2) (if3 .left) (if4 .taken)) (refl, refl)
 
--- src/filter_constraint.rt:205:50
+-- src/lib.rt:206:50
 slice-aggregate-rebuilt-answer :
     tie.Need-slice-aggregate-rebuilt-answer
     Inv-loop
@@ -4081,7 +4128,7 @@ slice-aggregate-rebuilt-answer c =
           .keeping .size,
     )
 
--- src/filter_constraint.rt:205:9
+-- src/lib.rt:206:9
 rebuilt-answer-requires :
     tie.Need-rebuilt-answer-requires
     Inv-loop
@@ -4144,7 +4191,7 @@ rebuilt-answer-requires c κs =
       ),
     )
 
--- src/filter_constraint.rt:206:9
+-- src/lib.rt:207:9
 is-rewritten-requires :
     tie.Need-is-rewritten-requires
     Inv-loop
@@ -4161,7 +4208,7 @@ is-rewritten-requires :
     μ-loop6
 is-rewritten-requires c κs = search needs
 
--- src/filter_constraint.rt:207:9
+-- src/lib.rt:208:9
 returns-4 :
     tie.Need-returns-4
     Inv-loop
@@ -4189,6 +4236,11 @@ returns-4 c =
     let t4 = c .before .before .before .before .before .before .before .before .loop4-test in
     let l5 = c .before .before .before .before .before .before .before .loop5 in
     let t5 = c .before .before .before .before .before .before .loop5-test in
+    let if3 = c .before .before .before .before .before .if3 in
+    let if4 = c .before .before .before .before .if4 in
+    let rebuilt-answer = c .before .before .rebuilt-answer in
+    let is-rewritten = c .before .is-rewritten in
+    let if5 = c .if5 in
     answered-as (st .args .t .now) _ (st .args .trees .now) _ _ _ _ _ (ended _ _ _ _ _ (l1 .inv .0) (l1 .inv .4
     .stops) (t1 .left) ∙ conclude-rebuilt _ _ _ _ _ _ _ _ _ _ _ _ _ _ _ _ _ _ (l1 .inv .4) _ _ _ (l2 .inv .1)
     (l2 .inv .0) (t2 .left) _ _ (omega (arith, l4 .inv .0, t4 .left)) (l4 .inv .2) _ _ _ (omega (
@@ -4196,20 +4248,19 @@ returns-4 c =
       l5 .inv
           .0,
       t5 .left,
-    )) (l5 .inv .2) (c .before .before .before .before .before .if3 .left) (c .before .before
-    .before .before .if4 .left)) (chain-refused (st .args .t .now) (st .args .rs .now) (st .args .trees .now)
-    (st .args .used) (l4 .kept) (l4 .keeps) (l5 .total) (comparisons payload (firstOf (l1 .order) (l1 .columns))
-    (shown (conjuncts (st .args .kinds .now) (st .args .values .now) (st .args .starts .now) (st .args .counts
-    .now) (st .args .p .now)) (l5 .table))) _ (c .before .before .rebuilt-answer .ensures) (total-is _ _ _ _ _ _
-    _ _ _ _ _ _ _ _ _ _ _ _ (l1 .inv .4) _ _ _ (l2 .inv .1) (l2 .inv .0) (t2 .left) _ _ (omega (
+    )) (l5 .inv .2) (if3 .left) (if4 .left)) (chain-refused (st .args .t .now) (st .args .rs .now)
+    (st .args .trees .now) (st .args .used) (l4 .kept) (l4 .keeps) (l5 .total) (comparisons payload (firstOf (l1
+    .order) (l1 .columns)) (shown (conjuncts (st .args .kinds .now) (st .args .values .now) (st .args .starts
+    .now) (st .args .counts .now) (st .args .p .now)) (l5 .table))) _ (rebuilt-answer .ensures) (total-is _ _ _
+    _ _ _ _ _ _ _ _ _ _ _ _ _ _ _ (l1 .inv .4) _ _ _ (l2 .inv .1) (l2 .inv .0) (t2 .left) _ _ (omega (
       arith,
-      l4 .inv
-          .0,
+      l4
+          .inv .0,
       t4 .left,
-    )) (l4 .inv .2) _ _ _ (omega (arith, l5 .inv .0, t5 .left)) (l5 .inv .2)) _ (c .before
-    .is-rewritten .ensures) (c .if5 .taken))
+    )) (l4 .inv .2) _ _ _ (omega (arith, l5 .inv .0, t5 .left)) (l5 .inv .2)) _ (is-rewritten
+    .ensures) (if5 .taken))
 
--- src/filter_constraint.rt:211:5
+-- src/lib.rt:212:5
 loop6-holds :
     tie.Need-loop6-holds
     Inv-loop
@@ -4227,7 +4278,7 @@ loop6-holds :
 loop6-holds c =
     (omega arith, written-none _ _ _ _ _)
 
--- src/filter_constraint.rt:212:24
+-- src/lib.rt:213:24
 mul-t270 :
     tie.Need-mul-t270
     Inv-loop
@@ -4251,7 +4302,7 @@ mul-t270 c =
     let t6 = c .loop6-test in
     omega (arith, t6 .taken, l6 .inv .0, l1 .inv .0, l1 .inv .1, st .pre .0 .0)
 
--- src/filter_constraint.rt:212:24
+-- src/lib.rt:213:24
 array-read-t273 :
     tie.Need-array-read-t273
     Inv-loop
@@ -4275,7 +4326,7 @@ array-read-t273 c =
     let t6 = c .loop6-test in
     omega (arith, t6 .taken, l6 .inv .0, l1 .inv .0, l1 .inv .1, st .pre .0 .0)
 
--- src/filter_constraint.rt:213:13
+-- src/lib.rt:214:13
 slot-requires-11 :
     tie.Need-slot-requires-11
     Inv-loop
@@ -4292,7 +4343,7 @@ slot-requires-11 :
     μ-loop6
 slot-requires-11 c κs = search needs
 
--- src/filter_constraint.rt:214:54
+-- src/lib.rt:215:54
 mul-write-column :
     tie.Need-mul-write-column
     Inv-loop
@@ -4309,7 +4360,7 @@ mul-write-column :
     μ-loop6
 mul-write-column c = search needs
 
--- src/filter_constraint.rt:214:54
+-- src/lib.rt:215:54
 array-copy-out-write-column :
     tie.Need-array-copy-out-write-column
     Inv-loop
@@ -4326,7 +4377,7 @@ array-copy-out-write-column :
     μ-loop6
 array-copy-out-write-column c = search needs
 
--- src/filter_constraint.rt:214:9
+-- src/lib.rt:215:9
 write-column-requires :
     tie.Need-write-column-requires
     Inv-loop
@@ -4389,7 +4440,7 @@ write-column-requires c κs =
       r .1,
     )
 
--- src/filter_constraint.rt:215:9
+-- src/lib.rt:216:9
 add-w :
     tie.Need-add-w
     Inv-loop
@@ -4414,7 +4465,7 @@ add-w c =
     let t6 = c .before .before .before .before .before .before .before .before .loop6-test in
     omega (arith, t6 .taken, l6 .inv .0, l1 .inv .0, l1 .inv .1, st .pre .0 .0)
 
--- src/filter_constraint.rt:211:5
+-- src/lib.rt:212:5
 loop6-less :
     tie.Need-loop6-less
     Inv-loop
@@ -4439,7 +4490,7 @@ loop6-less c =
     let t6 = c .before .before .before .before .before .before .before .before .loop6-test in
     omega (arith, t6 .taken, l6 .inv .0, l1 .inv .0, l1 .inv .1, st .pre .0 .0)
 
--- src/filter_constraint.rt:211:5
+-- src/lib.rt:212:5
 loop6-again :
     tie.Need-loop6-again
     Inv-loop
@@ -4476,7 +4527,7 @@ loop6-again c =
           .now)) refl refl) (search needs),
     )
 
--- src/filter_constraint.rt:217:20
+-- src/lib.rt:218:20
 slice-aggregate-write-ands :
     tie.Need-slice-aggregate-write-ands
     Inv-loop
@@ -4504,7 +4555,7 @@ slice-aggregate-write-ands c =
           .keeping .size,
     )
 
--- src/filter_constraint.rt:217:40
+-- src/lib.rt:218:40
 add-write-ands :
     tie.Need-add-write-ands
     Inv-loop
@@ -4540,7 +4591,7 @@ add-write-ands c =
           .0,
     )
 
--- src/filter_constraint.rt:217:5
+-- src/lib.rt:218:5
 write-ands-requires :
     tie.Need-write-ands-requires
     Inv-loop
@@ -4571,6 +4622,8 @@ write-ands-requires c κs =
     let l5 = c .before .before .before .before .before .before .before .before .before .before .before .loop5 in
     let t5 = c .before .before .before .before .before .before .before .before .before .before .loop5-test in
     let rebuilt-answer = c .before .before .before .before .before .before .rebuilt-answer in
+    let is-rewritten = c .before .before .before .before .before .is-rewritten in
+    let if5 = c .before .before .before .before .if5 in
     let l6 = c .before .before .before .loop6 in
     let t6 = c .before .before .loop6-test in
     let z = l4 .inv .2 _ _ (l1 .rights) (l2 .inv .1 _ (l1 .inv .4 .shows) .shows) (l1 .inv .4 .keeping) .keeping
@@ -4589,8 +4642,8 @@ write-ands-requires c κs =
       l4 .inv .0,
       t4
           .left,
-    )) (l4 .inv .2) _ _ _ (omega (arith, l5 .inv .0, t5 .left)) (l5 .inv .2)) _ (c .before .before
-    .before .before .before .is-rewritten .ensures) (c .before .before .before .before .if5 .left)) in (
+    )) (l4 .inv .2) _ _ _ (omega (arith, l5 .inv .0, t5 .left)) (l5 .inv .2)) _ (is-rewritten .ensures)
+    (if5 .left)) in (
       omega (
         arith,
         z,
@@ -4610,7 +4663,7 @@ write-ands-requires c κs =
       r .1,
     )
 
--- src/filter_constraint.rt:40:1
+-- src/lib.rt:41:1
 same-length-3 :
     tie.Need-same-length-3
     Inv-loop
@@ -4627,7 +4680,7 @@ same-length-3 :
     μ-loop6
 same-length-3 c = search needs
 
--- src/filter_constraint.rt:40:1
+-- src/lib.rt:41:1
 returns-5 :
     tie.Need-returns-5
     Inv-loop
@@ -4671,6 +4724,7 @@ returns-5 c =
     let if5 = c .before .before .before .before .before .before .before .if5 in
     let l6 = c .before .before .before .before .before .before .loop6 in
     let t6 = c .before .before .before .before .before .loop6-test in
+    let write-ands = c .before .before .write-ands in
     answered-as (st .args .t .now) _ (st .args .trees .now) _ _ _ _ _ (ended _ _ _ _ _ (l1 .inv .0) (l1 .inv .4
     .stops) (t1 .left) ∙ conclude-rebuilt _ _ _ _ _ _ _ _ _ _ _ _ _ _ _ _ _ _ (l1 .inv .4) _ _ _ (l2 .inv .1)
     (l2 .inv .0) (t2 .left) _ _ (omega (arith, l4 .inv .0, t4 .left)) (l4 .inv .2) _ _ _ (omega (
@@ -4689,7 +4743,7 @@ returns-5 c =
       t4 .left,
     )) (l4 .inv .2) _ _ _ (omega (arith, l5 .inv .0, t5 .left)) (l5 .inv .2)) _ (is-rewritten
     .ensures) (if5 .left) _ _ _ (written-all _ _ _ _ _ _ _ _ _ (omega (arith, l6 .inv .0, t6 .left)) (l6 .inv
-    .1)) (c .before .before .write-ands .ensures))
+    .1)) (write-ands .ensures))
 
 pub merge-filter-constraints-spec : {M : Type 1} → statement M
 merge-filter-constraints-spec =
