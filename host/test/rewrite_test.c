@@ -354,6 +354,15 @@ static void test_equalities(void)
     nothing_passes("c0==c1, c0==7, c1==8");
 }
 
+/* c0 in a list of so many values from 1 on, and c0 > 2. */
+static void member_above_2(unsigned holds_null, uint32_t count)
+{
+    begin_ints(2);
+    join(member(0, holds_null, 0, 1, count));
+    compare(GT, 0, 2);
+    room(5, 0);
+}
+
 static void test_members(void)
 {
     begin_ints(2);
@@ -369,28 +378,16 @@ static void test_members(void)
     room(5, 0);
     nothing_passes("is_null(c0), c0>1");
 
-    begin_ints(2);
-    join(member(0, 0, 0, 1, 2));
-    compare(GT, 0, 2);
-    room(5, 0);
+    member_above_2(0, 2);
     nothing_passes("c0 in [1,2], c0>2");
 
-    begin_ints(2);
-    join(member(0, 1, 0, 1, 2));
-    compare(GT, 0, 2);
-    room(5, 0);
+    member_above_2(1, 2);
     unchanged("c0 in [1,2,null], c0>2");
 
-    begin_ints(2);
-    join(member(0, 1, 0, 1, 0));
-    compare(GT, 0, 2);
-    room(5, 0);
+    member_above_2(1, 0);
     unchanged("a list of code 1 and count 0, c0>2");
 
-    begin_ints(2);
-    join(member(0, 0, 0, 1, 0));
-    compare(GT, 0, 2);
-    room(5, 0);
+    member_above_2(0, 0);
     nothing_passes("c0 in [], c0>2");
 
     for (unsigned nulls_equal = 0; nulls_equal < 2; nulls_equal++) {
