@@ -2,7 +2,7 @@
 use mathlib.Core.Path.{_≡_, refl, sym, _∙_, ap, subst}
 use mathlib.Core.Bool.{Bool, true, false, cond, _||_, or-true, or-false}
 use mathlib.Core.List.{List, [], _∷_, _++_, append-assoc}
-use Prim.Native.Nat.{ℕ, zero, suc, _+_, _<_, _≤_}
+use Prim.Native.Nat.{ℕ, zero, suc, _+_, _<_, _≤_, _%_}
 use native.Mathlib.Omega.{arith}
 use native.Mathlib.Numerals.{add-one}
 use lib.ListN.{length, getD, set, length-set, length-append}
@@ -28,12 +28,6 @@ first-kept a i v (suc n) h =
 pub first-more : (a : List ℕ) (n v : ℕ) → n < length a → firstOf (set a n v) (n + 1) ≡ firstOf a n ++ (v ∷ [])
 unfolding firstOf
 first-more a n v h = rw (add-one, first-kept a n v n (omega arith), getD-set-same a n v 0 h)
-
-pub first-length : (a : List ℕ) (n : ℕ) → length (firstOf a n) ≡ n
-unfolding firstOf
-first-length a zero = refl
-first-length a (suc n) =
-    length-append (firstOf a n) (getD a n 0 ∷ []) ∙ rw (first-length a n) (omega arith)
 
 pub keeps-more : (a : List ℕ) (n v : ℕ) (l : List ℕ) → n < 260 → Keeps a n l → Keeps (set a n v) (n + 1) (l ++ (v ∷ []))
 keeps-more a n v l h k =
@@ -197,6 +191,6 @@ edges-more x y z i a b n l E h la lb =
           (λ p. let d = eqb-false e i p in rw (getD-set-other y i e b 0 d) (E .low-right e (omega (arith, k, d))));
     }
 
-pub bump-few : (x : Bool) (n o : ℕ) → o ≡ cond x n (n + 1) → o ≤ n + 1
-bump-few true n o e = omega (arith, e)
-bump-few false n o e = omega (arith, e)
+-- A column below 64 stands in its own place.
+pub low-slot : (a x : ℕ) → a < 64 → x ≡ a % 64 → x ≡ a
+low-slot a x h e = omega (arith, h, e)

@@ -22,7 +22,8 @@ use Rattle.rewrite.specs.Read.{conjunctIn}
 use Rattle.rewrite.specs.declared.classify.Conjunct as code
 use Rattle.rewrite.specs.Walk.{firstOf}
 use Rattle.filter_constraint.specs.State.{pastColumn, Shows, Entered, Keeps, Edges, Collects, collectTo, edgesOf}
-use Rattle.filter_constraint.proofs.Arrays.{entered-more, shows-set, keeps-more, edges-more}
+use Rattle.rewrite.proofs.Telling.{fine-same}
+use Rattle.filter_constraint.proofs.Arrays.{entered-more, shows-set, keeps-more, edges-more, low-slot}
 
 -- ---- the conjuncts one by one
 collect-snoc : (l : List (Conjunct ℕ)) (k : Conjunct ℕ) (s : Collected ℕ)
@@ -120,13 +121,6 @@ collect-none t R nodes c e z =
   where
     none : Fine (c .marks) (c .len)
     none i h = absurd (omega (arith, h, z))
-
-pub fine-same : (c d : ColumnConstraints) → (d .marks ≡ c .marks) × (d .len ≡ c .len) → Fine (c .marks) (c .len)
-    → Fine (d .marks) (d .len)
-fine-same c d e f = rw (e .0, e .1) f
-
-low-slot : (a x : ℕ) → a < 64 → x ≡ a % 64 → x ≡ a
-low-slot a x h e = omega (arith, h, e)
 
 -- what a conjunct is, once its form in code is known
 pub read-as : (rs p : List ℕ) (n : ℕ) (k k′ : code.Conjunct) → conjunctIn p n k ≡ classify (aexprOf rs p) n → k ≡ k′
@@ -285,11 +279,11 @@ module _ (t : Conjuncts) (table : List ColumnConstraints) (seen : List Bool) (or
         there = low-slot b y lb ey
 
         fine-c : Fine (c .marks) (c .len)
-        fine-c = fine-same (getD table x pastColumn) c sc (rw here (C .shows .fine a la))
+        fine-c = fine-same (getD table x pastColumn .marks) (c .marks) (getD table x pastColumn .len) (c .len) sc (rw here (C .shows .fine a la))
 
         fine-d : Fine (d .marks) (d .len)
         fine-d =
-            fine-same (getD (set table x c) y pastColumn) d sd
+            fine-same (getD (set table x c) y pastColumn .marks) (d .marks) (getD (set table x c) y pastColumn .len) (d .len) sd
             (rw (here, there) (one-shown a b o o′ c d la lb (rw here at eo) (rw here at ec) fine-c (rw (here, there) at eo′)
             (rw (here, there) at ed) .fine b lb))
 

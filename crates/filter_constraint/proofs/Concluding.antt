@@ -32,10 +32,11 @@ use Rattle.stages.specs.Rewritten.{isRewritten}
 use Rattle.filter_constraint.specs.State.{pastColumn, Table, Shows, Entered, Keeps, Edges, edgesOf, Collects, collectTo}
 use Rattle.filter_constraint.specs.State.{Passed, Kept, resolveAll, resolvedIn, Resolved, shown, Written}
 use Rattle.stages.proofs.Answers.{chain-written, chain-unwritten}
-use Rattle.filter_constraint.proofs.Arrays.{first-length}
+use Rattle.rewrite.proofs.Walks.{first-length}
+use Rattle.filter_constraint.proofs.Arrays.{low-slot}
 use Rattle.filter_constraint.proofs.Collecting.{collect-end}
 use Rattle.stages.proofs.Chains.{chain-bytes, chain-not-empty}
-use Rattle.filter_constraint.proofs.Propagating.{passed-end, low-slot}
+use Rattle.filter_constraint.proofs.Propagating.{passed-end}
 use Rattle.stages.proofs.Reckons.{ChainRoom, rewritten-room}
 use Rattle.filter_constraint.proofs.Resolving.{comparisons-more, comparisons-upto, comparisons-agree, in-first, same-comparisons}
 

@@ -24,7 +24,7 @@ use Rattle.merge.specs.Propagate.{propagate, propagateEmitted}
 use Rattle.merge.specs.Emit.{isFixed, keptEqualities, droppedEquality}
 use Rattle.rewrite.specs.Walk.{firstOf}
 use Rattle.filter_constraint.specs.State.{pastColumn, Table, Shows, Keeps, Edges, edgesOf, Merged, Passed, Kept}
-use Rattle.filter_constraint.proofs.Arrays.{shows-set, keeps-more, first-kept}
+use Rattle.filter_constraint.proofs.Arrays.{shows-set, keeps-more, first-kept, low-slot}
 
 pub or-assoc : (x y z : Bool) → (x || (y || z)) ≡ ((x || y) || z)
 or-assoc true y z = refl
@@ -59,9 +59,6 @@ emitted-snoc (f ∷ es) e T =
     (passEmitted payload es (mergeEdge payload (f .0) (f .1) T))
     (edgeEmitted payload (e .0) (e .1)
     (pass payload es (mergeEdge payload (f .0) (f .1) T)))
-
-pub low-slot : (a x : ℕ) → a < 64 → x ≡ a % 64 → x ≡ a
-low-slot a x h e = omega (arith, h, e)
 
 -- ---- a pass, edge by edge
 pub merged-none : (t : Conjuncts) (table : List ColumnConstraints) (lefts rights equals : List ℕ) (held : Bool)

@@ -25,8 +25,9 @@ use Rattle.merge.specs.Emit.{ofColumn, anyUnsat, comparisons}
 use Rattle.merge.specs.Write.{writeComparison, writeComparisons}
 use Rattle.rewrite.specs.Walk.{firstOf}
 use Rattle.filter_constraint.specs.State.{pastColumn, Table, Shows, resolveAll, resolvedIn, Resolved, shown, Written}
-use Rattle.filter_constraint.proofs.Arrays.{shows-set, is-in-snoc}
-use Rattle.filter_constraint.proofs.Propagating.{low-slot, or-assoc}
+use Rattle.stages.proofs.Emitting.{of-column-length, write-append}
+use Rattle.filter_constraint.proofs.Arrays.{shows-set, is-in-snoc, low-slot}
+use Rattle.filter_constraint.proofs.Propagating.{or-assoc}
 
 -- a table that agrees on the columns
 shows-agree : (t : Conjuncts) (table : List ColumnConstraints) (T U : Table) → ((a : ℕ) → T a ≡ U a) → Shows t table T
@@ -51,10 +52,6 @@ comparisons-snoc (c ∷ l) a T =
     ap (λ x. ofColumn c (collectColumnComparisons payload (T c)) ++ x) (comparisons-snoc l a T)
     ∙ append-assoc′ (ofColumn c (collectColumnComparisons payload (T c))) (comparisons payload l T)
     (ofColumn a (collectColumnComparisons payload (T a)))
-
-pub of-column-length : (a : ℕ) (l : List (ColumnComparison ℕ)) → length (ofColumn a l) ≡ length l
-of-column-length a [] = refl
-of-column-length a (x ∷ l) = ap suc (of-column-length a l)
 
 pub comparisons-more : (order : List ℕ) (o : ℕ) (T : Table)
     → length (comparisons payload (firstOf order (o + 1)) T) ≡
@@ -216,14 +213,6 @@ module _ (t : Conjuncts) (table : List ColumnConstraints) (order : List ℕ) (o 
       rw p (at-a c k la new (rw p at ec) f ek)
 
 -- ---- writing, column by column
-pub write-append : (t : List ℕ) (u : ℕ) (l m : List (ℕ × ColumnComparison ℕ)) (rs : List ℕ)
-    → writeComparisons t u (l ++ m) rs ≡ writeComparisons t (u + 3 * length l) m (writeComparisons t u l rs)
-write-append t u [] m rs = let e : u ≡ u + 3 * 0 = omega arith in ap (λ v. writeComparisons t v m rs) e
-write-append t u (x ∷ l) m rs =
-    let e : suc (suc (suc u)) + 3 * length l ≡ u + 3 * suc (length l) = omega arith in
-    write-append t (suc (suc (suc u))) l m (writeComparison t u x rs)
-    ∙ ap (λ v. writeComparisons t v m (writeComparisons t (suc (suc (suc u))) l (writeComparison t u x rs))) e
-
 pub written-none : (t : List ℕ) (used : ℕ) (order : List ℕ) (T : Table) (rs : List ℕ)
     → Written t used rs (comparisons payload (firstOf order 0) T) used rs
 unfolding firstOf

@@ -7,10 +7,6 @@ use Rattle.columns.specs.Abstraction.{Conjuncts, conjuncts, Fine}
 use Rattle.merge.specs.Classify.{comparisonConstraints}
 use Rattle.rewrite.specs.Told.{Told}
 
--- The same numbers are as fine.
-pub fine-same : (a b : List ℕ) (m n : ℕ) → a ≡ b → m ≡ n → Fine b n → Fine a m
-fine-same a b m n e f h = rw (e, f) h
-
 -- A comparison reads no list.
 pub told-compared : (t : Conjuncts) (j : ℕ) (k : Comparison) (v : ℕ) → Told t j (comparisonConstraints k v) →
     Told (conjuncts (t .kinds) (t .values) [] [] []) j (comparisonConstraints k v)

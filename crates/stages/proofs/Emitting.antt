@@ -29,16 +29,31 @@ place-few (place.Lt v) = omega arith
 place-few (place.LtEq v) = omega arith
 place-few (place.NotEq v) = omega arith
 
--- Two parts of a column's comparisons, written one behind the other.
+-- Two parts of a list of comparisons, written one behind the other.
+pub write-append : (t : List ℕ) (u : ℕ) (l m : List (ℕ × ColumnComparison ℕ)) (rs : List ℕ) →
+    writeComparisons t u (l ++ m) rs ≡ writeComparisons t (u + 3 * length l) m (writeComparisons t u l rs)
+write-append t u [] m rs = ap (λ (n : ℕ). writeComparisons t n m rs) (place-none u)
+write-append t u (x ∷ l) m rs =
+    let q : suc (suc (suc u)) + 3 * length l ≡ u + 3 * suc (length l) = omega arith in
+    write-append t (suc (suc (suc u))) l m (writeComparison t u x rs) ∙
+    ap (λ (n : ℕ). writeComparisons t n m (writeComparisons t (suc (suc (suc u))) l (writeComparison t u x rs))) q
+
+pub of-column-length : (a : ℕ) (l : List (ColumnComparison ℕ)) → length (ofColumn a l) ≡ length l
+of-column-length a [] = refl
+of-column-length a (x ∷ l) = ap suc (of-column-length a l)
+
+of-column-append : (a : ℕ) (l m : List (ColumnComparison ℕ)) → ofColumn a (l ++ m) ≡ ofColumn a l ++ ofColumn a m
+of-column-append a [] m = refl
+of-column-append a (x ∷ l) m = ap (λ k. (a, x) ∷ k) (of-column-append a l m)
+
+-- The same of one column's comparisons.
 written-append : (t : List ℕ) (u a : ℕ) (l m : List (ColumnComparison ℕ)) (rs : List ℕ) →
     writeComparisons t u (ofColumn a (l ++ m)) rs ≡
     writeComparisons t (u + 3 * length l) (ofColumn a m) (writeComparisons t u (ofColumn a l) rs)
-written-append t u a [] m rs = ap (λ (n : ℕ). writeComparisons t n (ofColumn a m) rs) (place-none u)
-written-append t u a (x ∷ l) m rs =
-    let q : suc (suc (suc u)) + 3 * length l ≡ u + 3 * suc (length l) = omega arith in
-    written-append t (suc (suc (suc u))) a l m (writeComparison t u (a, x) rs) ∙
-    ap (λ (n : ℕ). writeComparisons t n (ofColumn a m)
-    (writeComparisons t (suc (suc (suc u))) (ofColumn a l) (writeComparison t u (a, x) rs))) q
+written-append t u a l m rs =
+    ap (λ k. writeComparisons t u k rs) (of-column-append a l m) ∙ write-append t u (ofColumn a l) (ofColumn a m) rs ∙
+    ap (λ n. writeComparisons t (u + 3 * n) (ofColumn a m) (writeComparisons t u (ofColumn a l) rs))
+    (of-column-length a l)
 
 placed-none : (s : Conjuncts) (c : ColumnConstraints) → placedTo s c 0 ≡ []
 unfolding placedTo

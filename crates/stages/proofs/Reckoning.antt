@@ -13,16 +13,8 @@ use Rattle.records.proofs.Laws.{and-left, and-right}
 use Rattle.merge.specs.declared.rewrite.RewriteAnswer.{RewriteAnswer}
 use Rattle.merge.specs.declared.rewrite.RewriteAnswer.the-variants as answer
 use Rattle.rewrite.specs.Walk.{firstOf}
+use Rattle.rewrite.proofs.Walks.{first-length}
 use Rattle.stages.specs.Reckon.{firstConjunct, roomFor, reckoned}
-
-pub first-length : (a : List ℕ) (n : ℕ) → length (firstOf a n) ≡ n
-unfolding firstOf
-first-length a zero = refl
-first-length a (suc n) =
-    let h : length (firstOf a n) ≡ n = first-length a n in
-    let g : length (firstOf a n ++ (getD a n 0 ∷ [])) ≡ length (firstOf a n) + 1 =
-    length-append (firstOf a n) (getD a n 0 ∷ []) in
-    g ∙ omega (arith, h)
 
 -- ---- the trees of the kept nodes
 sum-append : (f : ℕ → ℕ) (l m : List ℕ) → sumAt f (l ++ m) ≡ sumAt f l + sumAt f m

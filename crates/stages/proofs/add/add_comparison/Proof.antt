@@ -1,4 +1,4 @@
-use Rattle.stages.proofs.Adding.{fine-same}
+use Rattle.rewrite.proofs.Telling.{fine-same}
 use Rattle.columns.specs.Abstraction.{columnOf}
 use Prim.Native.Nat.{ℕ}
 use Rattle.constraints.specs.Payload.{payload}
@@ -50,7 +50,7 @@ returns : tie.Need-returns
 returns c =
     let st = c .before .before .before .before .before in (
       (λ t e f. rw (c .before .enum-told .given .1) (c .add-equal .ensures .0 t)),
-      fine-same _ _ _ _ (c .add-equal .ensures .1 .0) (c .add-equal .ensures .1 .1) (st .pre .0),
+      fine-same _ _ _ _ (c .add-equal .ensures .1) (st .pre .0),
     )
 
 returns-2 : tie.Need-returns-2
@@ -66,28 +66,28 @@ returns-3 : tie.Need-returns-3
 returns-3 c =
     let st = c .before .before .before .before .before in (
       (λ t e f. rw (c .before .enum-told3 .given .1) (c .add-upper .ensures .0 t)),
-      fine-same _ _ _ _ (c .add-upper .ensures .1 .0) (c .add-upper .ensures .1 .1) (st .pre .0),
+      fine-same _ _ _ _ (c .add-upper .ensures .1) (st .pre .0),
     )
 
 returns-4 : tie.Need-returns-4
 returns-4 c =
     let st = c .before .before .before .before .before in (
       (λ t e f. rw (c .before .enum-told4 .given .1) (c .add-upper2 .ensures .0 t)),
-      fine-same _ _ _ _ (c .add-upper2 .ensures .1 .0) (c .add-upper2 .ensures .1 .1) (st .pre .0),
+      fine-same _ _ _ _ (c .add-upper2 .ensures .1) (st .pre .0),
     )
 
 returns-5 : tie.Need-returns-5
 returns-5 c =
     let st = c .before .before .before .before .before in (
       (λ t e f. rw (c .before .enum-told5 .given .1) (c .add-lower .ensures .0 t)),
-      fine-same _ _ _ _ (c .add-lower .ensures .1 .0) (c .add-lower .ensures .1 .1) (st .pre .0),
+      fine-same _ _ _ _ (c .add-lower .ensures .1) (st .pre .0),
     )
 
 returns-6 : tie.Need-returns-6
 returns-6 c =
     let st = c .before .before .before .before .before in (
       (λ t e f. rw (c .before .enum-told6 .given .1) (c .add-lower2 .ensures .0 t)),
-      fine-same _ _ _ _ (c .add-lower2 .ensures .1 .0) (c .add-lower2 .ensures .1 .1) (st .pre .0),
+      fine-same _ _ _ _ (c .add-lower2 .ensures .1) (st .pre .0),
     )
 
 pub add-comparison-spec : {M : Type 1} → statement M

@@ -1,5 +1,6 @@
 use Rattle.rewrite.specs.Read.{comparisonIn}
-use Rattle.stages.proofs.Adding.{fine-same, told-compared}
+use Rattle.rewrite.proofs.Telling.{fine-same}
+use Rattle.stages.proofs.Adding.{told-compared}
 use Prim.Native.Nat.{ℕ}
 use mathlib.Core.List.{List}
 use Rattle.columns.specs.Abstraction.{conjuncts, columnOf}
@@ -71,7 +72,7 @@ returns-3 c =
     let tb = conjuncts (st .args .kinds .now) (st .args .values .now) (st .args .starts .now) (st .args .counts .now)
     (st .args .pool .now) in (
       rw (c .before .before .s2 .given .1) (c .add-between .ensures .0 tb),
-      fine-same _ _ _ _ (c .add-between .ensures .1 .0) (c .add-between .ensures .1 .1) (st .pre .0),
+      fine-same _ _ _ _ (c .add-between .ensures .1) (st .pre .0),
     )
 
 returns-4 : tie.Need-returns-4
@@ -103,7 +104,7 @@ returns-6 c =
     let tb = conjuncts (st .args .kinds .now) (st .args .values .now) (st .args .starts .now) (st .args .counts .now)
     (st .args .pool .now) in (
       rw (c .before .before .s4 .given .1) (c .require-nullability .ensures .0 tb),
-      fine-same _ _ _ _ (c .require-nullability .ensures .1 .0) (c .require-nullability .ensures .1 .1) (st .pre .0),
+      fine-same _ _ _ _ (c .require-nullability .ensures .1) (st .pre .0),
     )
 
 pub add-says-spec : {M : Type 1} → statement M
