@@ -62,8 +62,8 @@ fn sizes_ok(rs: &[u8], p: &[u8], used: u64) -> bool
     false
 }
 
-fn meaning_fault(t: &[u8], rs: &[u8], p: &[u8], types: &[u8; 4096], r: Record, n: Node) -> u32
-    requires { ⌜ n .0 < 4096 ⌝ }
+fn meaning_fault(t: &[u8], rs: &[u8], p: &[u8], types: &[u8], r: Record, n: Node) -> u32
+    requires { ⌜ n .0 < length (now types) ⌝ }
     requires { ⌜ Typed (now t) (now rs) (now types) (n .0) ⌝ }
     ensures { λ f. ⌜ f ≡ meaningFault (now (t .entry)) (now (rs .entry)) (now (p .entry)) r n ⌝ }
 {
@@ -80,16 +80,8 @@ fn meaning_fault(t: &[u8], rs: &[u8], p: &[u8], types: &[u8; 4096], r: Record, n
 }
 
 // The fault of the record n whose fields are f and which decodes to r.
-fn record_fault(
-    t: &[u8],
-    rs: &[u8],
-    p: &[u8],
-    types: &[u8; 4096],
-    f: Fields,
-    r: Record,
-    n: Node,
-) -> u32
-    requires { ⌜ n .0 < 4096 ⌝ }
+fn record_fault(t: &[u8], rs: &[u8], p: &[u8], types: &[u8], f: Fields, r: Record, n: Node) -> u32
+    requires { ⌜ n .0 < length (now types) ⌝ }
     requires { ⌜ Typed (now t) (now rs) (now types) (n .0) ⌝ }
     requires { ⌜ f ≡ fieldsAt (now rs) n ⌝ }
     requires { ⌜ r ≡ decode f ⌝ }
@@ -103,17 +95,16 @@ fn record_fault(
 
 // The number of the first fault among the records below `used`, or 0. Each record is decoded once; its type stays in
 // a table for the records that name it.
-fn first_fault(t: &[u8], rs: &[u8], p: &[u8], used: u32) -> u32
-    requires { ⌜ used ≤ 4096 ⌝ }
+fn fault_below(t: &[u8], rs: &[u8], p: &[u8], used: u32, types: &mut [u8]) -> u32
+    requires { ⌜ used ≤ length (now types) ⌝ }
     requires { ⌜ 16 * used ≤ length (now rs) ⌝ }
     ensures { λ f. ⌜ f ≡ firstFault (now (t .entry)) (now (rs .entry)) (now (p .entry)) used ⌝ }
 {
-    let mut types = [0u8; 4096];
     let mut i: u32 = 0;
     while i < used {
         let f = fields_in(rs, Node(i));
         let r = decode_fields(f);
-        let fault = record_fault(t, rs, p, &types, f, r, Node(i));
+        let fault = record_fault(t, rs, p, types, f, r, Node(i));
         if fault != 0 {
             return fault;
         }
@@ -121,6 +112,20 @@ fn first_fault(t: &[u8], rs: &[u8], p: &[u8], used: u32) -> u32
         i += 1;
     }
     0
+}
+
+// Most screens have few records, and a small table costs less to clear.
+fn first_fault(t: &[u8], rs: &[u8], p: &[u8], used: u32) -> u32
+    requires { ⌜ used ≤ 4096 ⌝ }
+    requires { ⌜ 16 * used ≤ length (now rs) ⌝ }
+    ensures { λ f. ⌜ f ≡ firstFault (now (t .entry)) (now (rs .entry)) (now (p .entry)) used ⌝ }
+{
+    if used <= 64 {
+        let mut small = [0u8; 64];
+        return fault_below(t, rs, p, used, &mut small);
+    }
+    let mut types = [0u8; 4096];
+    fault_below(t, rs, p, used, &mut types)
 }
 
 fn records_answer(t: &[u8], rs: &[u8], p: &[u8], used: u32, root: Node) -> CheckAnswer

@@ -1,6 +1,7 @@
 // Columns read. As the tree count, through a table with one word a record: records are shared.
 ghost use mathlib.Core.Path.{_≡_};
-ghost use Prim.Native.Nat.{_<_};
+ghost use Prim.Native.Nat.{ℕ, _≤_, _<_};
+ghost use lib.ListN.{length, getD};
 ghost use lib.Count.{ones};
 ghost use Rattle.records.specs.Record.{listOf, recordAt};
 ghost use Rattle.checking.specs.Columns.{columnBit, ownColumn, orAt, columnsStep, columnsWord, columnsAnswer};
@@ -37,8 +38,8 @@ fn own_column(r: Record) -> u64
 }
 
 // The word of an input; one that is not below its record reaches nothing.
-fn word_of(words: &[u64; 4096], n: Node, x: Node) -> u64
-    requires { ⌜ n .0 < 4096 ⌝ }
+fn word_of(words: &[u64], n: Node, x: Node) -> u64
+    requires { ⌜ n .0 < length (now words) ⌝ }
     ensures { λ r. ⌜ r ≡ below (now (words .entry)) (n .0) (x .0) ⌝ }
 {
     if x.0 < n.0 {
@@ -48,8 +49,8 @@ fn word_of(words: &[u64; 4096], n: Node, x: Node) -> u64
     0
 }
 
-fn word_of_inputs(words: &[u64; 4096], n: Node, inputs: Inputs) -> u64
-    requires { ⌜ n .0 < 4096 ⌝ }
+fn word_of_inputs(words: &[u64], n: Node, inputs: Inputs) -> u64
+    requires { ⌜ n .0 < length (now words) ⌝ }
     ensures { λ r. ⌜ r ≡ orAt (below (now (words .entry)) (n .0)) (listOf inputs) ⌝ }
 {
     match inputs {
@@ -61,26 +62,40 @@ fn word_of_inputs(words: &[u64; 4096], n: Node, inputs: Inputs) -> u64
     }
 }
 
-fn columns_step(words: &[u64; 4096], rs: &[u8], n: Node) -> u64
-    requires { ⌜ n .0 < 4096 ⌝ }
+fn columns_step(words: &[u64], rs: &[u8], n: Node) -> u64
+    requires { ⌜ n .0 < length (now words) ⌝ }
     ensures { λ w. ⌜ w ≡ columnsStep (below (now (words .entry)) (n .0)) (recordAt (now (rs .entry)) n) ⌝ }
 {
     let r = record_at(rs, n);
     own_column(r) | word_of_inputs(words, n, inputs_of(r))
 }
 
-// A bit for each column that the root reaches.
+// The words of the records up to the root.
+fn fill_words(words: &mut [u64], rs: &[u8], root: Node)
+    requires { ⌜ root .0 < length (now words) ⌝ }
+    requires { ⌜ root .0 < 4096 ⌝ }
+    ensures { λ _. ⌜ ((a : ℕ) → a ≤ root .0 → getD (now (words .exit)) a 0 ≡ columnsWord (now (rs .entry)) a) ⌝ }
+{
+    let mut i: u32 = 0;
+    while i <= root.0 {
+        let w = columns_step(words, rs, Node(i));
+        words[i as usize] = w;
+        i += 1;
+    }
+}
+
+// A bit for each column that the root reaches. Most screens have few records, and a small table costs less to clear.
 pub fn columns_word(rs: &[u8], root: Node) -> u64
     requires { ⌜ root .0 < 4096 ⌝ }
     ensures { λ w. ⌜ w ≡ columnsWord (now (rs .entry)) (root .0) ⌝ }
 {
-    let mut words = [0u64; 4096];
-    let mut i: u32 = 0;
-    while i <= root.0 {
-        let w = columns_step(&words, rs, Node(i));
-        words[i as usize] = w;
-        i += 1;
+    if root.0 < 64 {
+        let mut small = [0u64; 64];
+        fill_words(&mut small, rs, root);
+        return small[root.0 as usize];
     }
+    let mut words = [0u64; 4096];
+    fill_words(&mut words, rs, root);
     words[root.0 as usize]
 }
 

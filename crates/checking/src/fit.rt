@@ -158,8 +158,8 @@ fn member_fits(x: u8, list: Record) -> bool
 }
 
 // The type of an input; one that is not below its record has none.
-fn type_below(types: &[u8; 4096], n: Node, x: Node) -> u8
-    requires { ⌜ n .0 < 4096 ⌝ }
+fn type_below(types: &[u8], n: Node, x: Node) -> u8
+    requires { ⌜ n .0 < length (now types) ⌝ }
     ensures { λ ty. ⌜ ty ≡ below (now (types .entry)) (n .0) (x .0) ⌝ }
 {
     if x.0 < n.0 {
@@ -170,8 +170,8 @@ fn type_below(types: &[u8; 4096], n: Node, x: Node) -> u8
 }
 
 // `types` has the types of the records below n, so that no input is decoded again.
-pub fn types_ok(types: &[u8; 4096], rs: &[u8], r: Record, n: Node) -> bool
-    requires { ⌜ n .0 < 4096 ⌝ }
+pub fn types_ok(types: &[u8], rs: &[u8], r: Record, n: Node) -> bool
+    requires { ⌜ n .0 < length (now types) ⌝ }
     ensures { λ ok. ⌜ ((t : List ℕ) → Typed t (now (rs .entry)) (now (types .entry)) (n .0)
         → allBelow (n .0) (inputs r) ≡ true → ok ≡ typesOk t (now (rs .entry)) r) ⌝ }
 {

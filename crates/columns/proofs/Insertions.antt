@@ -21,7 +21,7 @@ use Rattle.constraints.specs.Column as q
 use Rattle.constraints.specs.Payload.{payload}
 use Rattle.columns.specs.Abstraction.{Conjuncts, columnOf, gather, ofKind, listOf, excludedBy, allowedBy}
 use Rattle.columns.specs.Abstraction.{disallowedBy, marked, pushed}
-use Rattle.columns.specs.declared.column.ColumnConstraints.{ColumnConstraints}
+use Rattle.columns.specs.Abstraction.{Numbered}
 use Rattle.constraints.proofs.Sets.{contains-extend, contains-retain, subset-contains, extend-subset}
 use Rattle.constraints.proofs.Sets.{retain-subset}
 use Rattle.constraints.specs.Resolve.{isAllowed}
@@ -157,12 +157,12 @@ unfolding disallowedBy
 any-push ks ss cs ps a n j l = gather-push (ofKind ks 2) (λ l j. extend payload l (listOf ss cs ps j)) [] a n j l
 
 -- ---- the column's laws: held already, or new
-pub exc-old : (t : Conjuncts) (c : ColumnConstraints) (v : ℕ) →
+pub exc-old : (t : Conjuncts) (c : Numbered) (v : ℕ) →
     has v (excludedBy (t .kinds) (t .values) (c .marks) (c .len)) ≡ true → columnOf t c ≡
     q.put payload (q.Exclude v) (columnOf t c)
 exc-old t c v h = rw (h)
 
-pub exc-new : (t : Conjuncts) (c : ColumnConstraints) (j : ℕ) → getD (t .kinds) j 0 ≡ 0 → c .len < length (c .marks) →
+pub exc-new : (t : Conjuncts) (c : Numbered) (j : ℕ) → getD (t .kinds) j 0 ≡ 0 → c .len < length (c .marks) →
     has (getD (t .values) j 0) (excludedBy (t .kinds) (t .values) (c .marks) (c .len)) ≡ false →
     columnOf t (pushed c j) ≡ q.put payload (q.Exclude (getD (t .values) j 0)) (columnOf t c)
 exc-new t c j k l h = rw (
@@ -175,14 +175,14 @@ exc-new t c j k l h = rw (
   k,
 )
 
-pub allow-old : (t : Conjuncts) (c : ColumnConstraints) (j : ℕ) → marked (c .marks) (c .len) j ≡ true →
+pub allow-old : (t : Conjuncts) (c : Numbered) (j : ℕ) → marked (c .marks) (c .len) j ≡ true →
     getD (t .kinds) j 0 ≡ 1 → columnOf t c ≡ q.put payload (q.Allow (listOf (t .starts) (t .counts) (t .pool) j))
     (columnOf t c)
 allow-old t c j h k = rw (within-same (allowedBy (t .kinds) (t .starts) (t .counts) (t .pool) (c .marks) (c .len))
     (listOf (t .starts) (t .counts) (t .pool) j) (all-within (t .kinds) (t .starts) (t .counts) (t .pool) (c .marks)
     (c .len) j h k))
 
-pub allow-new : (t : Conjuncts) (c : ColumnConstraints) (j : ℕ) → c .len < length (c .marks) → getD (t .kinds) j 0 ≡
+pub allow-new : (t : Conjuncts) (c : Numbered) (j : ℕ) → c .len < length (c .marks) → getD (t .kinds) j 0 ≡
     1 → columnOf t (pushed c j) ≡ q.put payload (q.Allow (listOf (t .starts) (t .counts) (t .pool) j)) (columnOf t c)
 allow-new t c j l k = rw (
   excl-push (t .kinds) (t .values) (c .marks) (c .len) j l,
@@ -193,7 +193,7 @@ allow-new t c j l k = rw (
   k,
 )
 
-pub dis-old : (t : Conjuncts) (c : ColumnConstraints) (j : ℕ) → marked (c .marks) (c .len) j ≡ true →
+pub dis-old : (t : Conjuncts) (c : Numbered) (j : ℕ) → marked (c .marks) (c .len) j ≡ true →
     getD (t .kinds) j 0 ≡ 2 → columnOf t c ≡
     q.put payload (q.Disallow false (listOf (t .starts) (t .counts) (t .pool) j)) (columnOf t c)
 dis-old t c j h k = rw (
@@ -203,7 +203,7 @@ dis-old t c j h k = rw (
   or-false (c .strict),
 )
 
-pub dis-new : (t : Conjuncts) (c : ColumnConstraints) (j : ℕ) → c .len < length (c .marks) → getD (t .kinds) j 0 ≡ 2 →
+pub dis-new : (t : Conjuncts) (c : Numbered) (j : ℕ) → c .len < length (c .marks) → getD (t .kinds) j 0 ≡ 2 →
     columnOf t (pushed c j) ≡ q.put payload (q.Disallow false (listOf (t .starts) (t .counts) (t .pool) j))
     (columnOf t c)
 dis-new t c j l k = rw (
@@ -322,7 +322,7 @@ unfolding valuesFrom
 empty-count ps s zero = refl
 empty-count ps s (suc n) = lt-ltb 0 (suc n) (omega arith)
 
-pub strict-add : (t : Conjuncts) (c d : ColumnConstraints) (j : ℕ) (s : Bool) (n : ℕ) → columnOf t d ≡
+pub strict-add : (t : Conjuncts) (c d : Numbered) (j : ℕ) (s : Bool) (n : ℕ) → columnOf t d ≡
     q.put payload (q.Disallow false (listOf (t .starts) (t .counts) (t .pool) j)) (columnOf t c) →
     c .unsat ≡ false → n ≡ getD (t .counts) j 0 → withStrict (columnOf t d) (d .strict || (s && ltb 0 n)) ≡
     q.add payload (q.Disallow s (listOf (t .starts) (t .counts) (t .pool) j)) (columnOf t c)

@@ -20,7 +20,7 @@ use Rattle.constraints.specs.Column as q
 use Rattle.constraints.specs.Payload.{payload}
 use Rattle.columns.specs.Abstraction.{Conjuncts, columnOf, gather, ofKind, listOf, excludedBy, allowedBy}
 use Rattle.columns.specs.Abstraction.{marked}
-use Rattle.columns.specs.declared.column.ColumnConstraints.{ColumnConstraints}
+use Rattle.columns.specs.Abstraction.{Numbered}
 use Rattle.constraints.proofs.Sets.{subset-contains, isEqual-subst}
 use Rattle.constraints.specs.Resolve as z
 use Rattle.constraints.specs.Bound as b
@@ -165,7 +165,7 @@ narrows-first ks ss cs ps a n f j h k = go (allowedBy ks ss cs ps a n) (all-with
     go (some m) e = outside-all m (listOf ss cs ps f) (listOf ss cs ps j)
         (all-sub (listOf ss cs ps f) (listOf ss cs ps f) (λ x i. i)) e
 
-pub feasible-first : (t : Conjuncts) (c : ColumnConstraints) (f : ℕ) → marked (c .marks) (c .len) f ≡ true →
+pub feasible-first : (t : Conjuncts) (c : Numbered) (f : ℕ) → marked (c .marks) (c .len) f ≡ true →
     getD (t .kinds) f 0 ≡ 1 →
     z.anyFeasible payload (columnOf t c) (listOf (t .starts) (t .counts) (t .pool) f) ≡
     z.allowedFeasible payload (columnOf t c) (columnOf t c .allowed)
@@ -242,7 +242,7 @@ within-still : (o : Option (List ℕ)) (l : List ℕ) → within o l ≡ true �
 within-still none l h = absurd (true≢false (sym h))
 within-still (some m) l h = ap not h
 
-pub held-allowed : (t : Conjuncts) (c : ColumnConstraints) (j : ℕ) → c .unsat ≡ false → marked (c .marks) (c .len) j ≡
+pub held-allowed : (t : Conjuncts) (c : Numbered) (j : ℕ) → c .unsat ≡ false → marked (c .marks) (c .len) j ≡
     true → getD (t .kinds) j 0 ≡ 1 → false ≡ changesIn (q.Allow (listOf (t .starts) (t .counts) (t .pool) j))
     (columnOf t c)
 held-allowed t c j u m k = sym (ap (λ x. not x && q.changes payload
@@ -250,7 +250,7 @@ held-allowed t c j u m k = sym (ap (λ x. not x && q.changes payload
     within-still (columnOf t c .allowed) (listOf (t .starts) (t .counts) (t .pool) j)
     (all-within (t .kinds) (t .starts) (t .counts) (t .pool) (c .marks) (c .len) j m k))
 
-pub held-disallowed : (t : Conjuncts) (c : ColumnConstraints) (j : ℕ) → c .unsat ≡ false →
+pub held-disallowed : (t : Conjuncts) (c : Numbered) (j : ℕ) → c .unsat ≡ false →
     marked (c .marks) (c .len) j ≡ true → getD (t .kinds) j 0 ≡ 2 → false ≡
     changesIn (q.Disallow false (listOf (t .starts) (t .counts) (t .pool) j)) (columnOf t c)
 held-disallowed t c j u m k = sym

@@ -14,7 +14,7 @@ use Rattle.constraints.specs.Column as q
 use Rattle.constraints.specs.Payload.{payload}
 use Rattle.columns.specs.Abstraction.{Conjuncts, columnOf, boundOf, gather, ofKind, listOf, excludedBy}
 use Rattle.columns.specs.Abstraction.{allowedBy, disallowedBy}
-use Rattle.columns.specs.declared.column.ColumnConstraints.{ColumnConstraints}
+use Rattle.columns.specs.Abstraction.{Numbered}
 use Rattle.constraints.proofs.Sets.{contains-extend, contains-retain, subset-contains, extend-subset}
 use Rattle.constraints.proofs.Sets.{retain-subset}
 use Rattle.constraints.specs.Bound as b
@@ -396,7 +396,7 @@ dead-told m e o d u =
       or-false (m .any),
     )
 
-marks-told : (t : Conjuncts) (d : ColumnConstraints) (m : Merging) → takeMarks t (d .marks) (d .len) m ≡
+marks-told : (t : Conjuncts) (d : Numbered) (m : Merging) → takeMarks t (d .marks) (d .len) m ≡
     told m (columnOf t d .excluded) (columnOf t d .allowed) (columnOf t d .disallowed)
 marks-told t d m = go (m .column .unsat) refl
   where
@@ -478,7 +478,7 @@ told-whole c d = sym (
     })
     (changes-3 (ofBound q.Lower (d .lower)) (ofBound q.Upper (d .upper)) (map q.Exclude (d .excluded)) c))
 
-pub merge-law : (t : Conjuncts) (c : q.ColumnConstraints ℕ) (d : ColumnConstraints) →
+pub merge-law : (t : Conjuncts) (c : q.ColumnConstraints ℕ) (d : Numbered) →
     takeMarks t (d .marks) (d .len) (takeUpper (boundOf (d .upper)) (takeLower (boundOf (d .lower)) (mergeStart c))) ≡
     wholly c (columnOf t d)
 merge-law t c d = marks-told t d (takeUpper (boundOf (d .upper)) (takeLower (boundOf (d .lower)) (mergeStart c)))

@@ -114,18 +114,27 @@ unfolding marked
 marked-same a b zero j h = refl
 marked-same a b (suc n) j h = rw (marked-same a b n j (λ i l. h i (omega arith)), h n (omega arith))
 
-pub fine-push : (a : List ℕ) (n j : ℕ) → n < length a → Fine a n → j < 128 → marked a n j ≡ false →
-    Fine (set a n j) (n + 1)
-fine-push a n j l h k e i q = go (eq-view i n)
+pub fine-push : (m : ℕ) (a : List ℕ) (n j : ℕ) → n < length a → Fine m a n → j < m → marked a n j ≡ false →
+    Fine m (set a n j) (n + 1)
+fine-push m a n j l h k e i q = go (eq-view i n)
   where
     old : (i : ℕ) → i < n → getD (set a n j) i 0 ≡ getD a i 0
     old i p = getD-set-other a n i j 0 (λ e. omega arith)
 
-    go : {x : Bool} → Eq i n x → (getD (set a n j) i 0 < 128) × (marked (set a n j) i (getD (set a n j) i 0) ≡ false)
+    go : {x : Bool} → Eq i n x → (getD (set a n j) i 0 < m) × (marked (set a n j) i (getD (set a n j) i 0) ≡ false)
     go (yes p) = rw (p, getD-set-same a n j 0 l) (k, marked-same (set a n j) a n j old ∙ e)
     go (no p) =
-        let m : i < n = omega (arith, p, q) in
-        rw (old i m, marked-same (set a n j) a i (getD a i 0) (λ x y. old x (omega arith))) (h i m)
+        let w : i < n = omega (arith, p, q) in
+        rw (old i w, marked-same (set a n j) a i (getD a i 0) (λ x y. old x (omega arith))) (h i w)
 
-pub fine-zero : (a : List ℕ) (n : ℕ) → n ≡ 0 → Fine a n
-fine-zero a n e i l = absurd (omega (arith, e, l))
+pub fine-zero : (m : ℕ) (a : List ℕ) (n : ℕ) → n ≡ 0 → Fine m a n
+fine-zero m a n e i l = absurd (omega (arith, e, l))
+
+-- a copy, one number after the other
+pub copied-more : (a b : List ℕ) (n : ℕ) → n < length a → ((k : ℕ) → k < n → getD a k 0 ≡ getD b k 0) → (k : ℕ)
+    → k < n + 1 → getD (set a n (getD b n 0)) k 0 ≡ getD b k 0
+copied-more a b n l h k q = go (eq-view k n)
+  where
+    go : {x : Bool} → Eq k n x → getD (set a n (getD b n 0)) k 0 ≡ getD b k 0
+    go (yes p) = rw p (getD-set-same a n (getD b n 0) 0 l)
+    go (no p) = getD-set-other a n k (getD b n 0) 0 (λ e. omega (arith, e, p)) ∙ h k (omega (arith, p, q))

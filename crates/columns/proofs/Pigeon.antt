@@ -57,21 +57,21 @@ marked-at a i zero j l e = absurd (not-suc-le-zero l)
 marked-at a i (suc n) j l e = ⊎-elim (λ q. rw (← q, eq-eqb _ _ e) (or-true (marked a i j)))
     (λ k. rw (marked-at a i n j k e)) (eq-or-lt-of-le (le-of-suc-le-suc l))
 
-pub few : (a : List ℕ) (n : ℕ) → Fine a n → n ≤ 128
-few a n h = pigeon 128 n (λ i. getD a i 0) (λ i l. h i l .0)
+pub few : (m : ℕ) (a : List ℕ) (n : ℕ) → Fine m a n → n ≤ m
+few m a n h = pigeon m n (λ i. getD a i 0) (λ i l. h i l .0)
     (λ i j l k e. true≢false (sym (marked-at a i j (getD a j 0) l e) ∙ h j k .1))
 
 -- a new number finds room
-pub room : (a : List ℕ) (n j : ℕ) → Fine a n → j < 128 → marked a n j ≡ false → n < 128
-room a n j h l e = pigeon 128 (suc n) f low apart
+pub room : (m : ℕ) (a : List ℕ) (n j : ℕ) → Fine m a n → j < m → marked a n j ≡ false → n < m
+room m a n j h l e = pigeon m (suc n) f low apart
   where
     f : ℕ → ℕ
     f i = cond (eqb i n) j (getD a i 0)
 
-    low : (i : ℕ) → i < suc n → f i < 128
+    low : (i : ℕ) → i < suc n → f i < m
     low i k = go (eq-view i n)
       where
-        go : {x : Bool} → Eq i n x → cond x j (getD a i 0) < 128
+        go : {x : Bool} → Eq i n x → cond x j (getD a i 0) < m
         go (yes p) = l
         go (no p) = h i (omega (arith, p, k)) .0
 

@@ -14,7 +14,7 @@ use Rattle.constraints.specs.Column as q
 use Rattle.constraints.specs.Payload.{payload}
 use Rattle.columns.specs.Abstraction.{Conjuncts, columnOf, gather, ofKind, listOf, excludedBy, allowedBy}
 use Rattle.columns.specs.Abstraction.{disallowedBy}
-use Rattle.columns.specs.declared.column.ColumnConstraints.{ColumnConstraints}
+use Rattle.columns.specs.Abstraction.{Numbered}
 use Rattle.constraints.specs.Bound as b
 use Rattle.constraints.specs.Resolve as z
 use Rattle.columns.specs.Steps.{consistent, applyBy, applyExcluded, stepExcluded, stepMark, stepMarks}
@@ -131,7 +131,7 @@ withUnsat cc u = record {
   unsat = u;
 }
 
-pub walk-law : (t : Conjuncts) (c : ColumnConstraints) (d : q.ColumnConstraints ℕ) (x : Bool) → d ≡
+pub walk-law : (t : Conjuncts) (c : Numbered) (d : q.ColumnConstraints ℕ) (x : Bool) → d ≡
     stepMarks t (c .marks) (c .len) (begun (columnOf t c)) → x ≡ z.nullConflict (columnOf t c) →
     withUnsat d (c .unsat || (x || d .unsat)) ≡ z.withExcluded payload (columnOf t c)
 walk-law t c d x e k =

@@ -15,7 +15,7 @@ use Rattle.constraints.specs.Comparisons as e
 use Rattle.constraints.specs.Payload.{payload}
 use Rattle.columns.specs.Abstraction.{Conjuncts, columnOf, boundOf, gather, ofKind, excludedBy}
 use Rattle.columns.specs.Steps.{placed, placedTo, placedBy, placedFree, placedPoint, placedMark}
-use Rattle.columns.specs.declared.column.ColumnConstraints.{ColumnConstraints}
+use Rattle.columns.specs.Abstraction.{Numbered}
 
 pub count-none : (ks vs a : List ℕ) → 0 ≡ length (excludedBy ks vs a 0)
 unfolding excludedBy gather
@@ -70,29 +70,29 @@ unfolding excludedBy gather
 none-compared ks vs a = refl
 
 -- the places of a column that no value fixes
-abbrev free : Conjuncts → ColumnConstraints → ℕ → List (e.ColumnComparison ℕ)
+abbrev free : Conjuncts → Numbered → ℕ → List (e.ColumnComparison ℕ)
 free t c n = ofBound e.IsLower (boundOf (c .lower)) ++
     (ofBound e.IsUpper (boundOf (c .upper)) ++ map e.IsNotEq (excludedBy (t .kinds) (t .values) (c .marks) n))
 
-unfixed : (t : Conjuncts) (c : ColumnConstraints) (p : ℕ) → z.fixedAt payload (boundOf (c .lower))
+unfixed : (t : Conjuncts) (c : Numbered) (p : ℕ) → z.fixedAt payload (boundOf (c .lower))
     (boundOf (c .upper)) ≡ none → placed t c p ≡ placedFree t c p
 unfolding placed
 unfixed t c p h = ap (λ o. placedBy o t c p) h
 
-fixed : (t : Conjuncts) (c : ColumnConstraints) (p v : ℕ) → z.fixedAt payload (boundOf (c .lower))
+fixed : (t : Conjuncts) (c : Numbered) (p v : ℕ) → z.fixedAt payload (boundOf (c .lower))
     (boundOf (c .upper)) ≡ some v → placed t c p ≡ placedPoint v p
 unfolding placed
 fixed t c p v h = ap (λ o. placedBy o t c p) h
 
-two : (t : Conjuncts) (c : ColumnConstraints) → placedTo t c 2 ≡ placed t c 0 ++ placed t c 1
+two : (t : Conjuncts) (c : Numbered) → placedTo t c 2 ≡ placed t c 0 ++ placed t c 1
 unfolding placedTo
 two t c = refl
 
-step : (t : Conjuncts) (c : ColumnConstraints) (p : ℕ) → placedTo t c (suc p) ≡ placedTo t c p ++ placed t c p
+step : (t : Conjuncts) (c : Numbered) (p : ℕ) → placedTo t c (suc p) ≡ placedTo t c p ++ placed t c p
 unfolding placedTo
 step t c p = refl
 
-place-mark : (t : Conjuncts) (c : ColumnConstraints) (n : ℕ) → placedFree t c (2 + n) ≡
+place-mark : (t : Conjuncts) (c : Numbered) (n : ℕ) → placedFree t c (2 + n) ≡
     placedMark (t .kinds) (t .values) (getD (c .marks) n 0)
 place-mark t c n =
     let z0 : (2 + n ≡ 0 → ⊥) = λ e. omega (arith, e) in
@@ -100,7 +100,7 @@ place-mark t c n =
     let s : 2 + n - 2 ≡ n = omega arith in
     rw (ne-eqb (2 + n) 0 z0, ne-eqb (2 + n) 1 z1, s)
 
-free-placed : (t : Conjuncts) (c : ColumnConstraints) → z.fixedAt payload (boundOf (c .lower)) (boundOf (c .upper)) ≡
+free-placed : (t : Conjuncts) (c : Numbered) → z.fixedAt payload (boundOf (c .lower)) (boundOf (c .upper)) ≡
     none → (n : ℕ) → placedTo t c (2 + n) ≡ free t c n
 free-placed t c h zero = two t c ∙
     rw (
@@ -127,11 +127,11 @@ free-placed t c h (suc n) =
     (map e.IsNotEq (excludedBy (t .kinds) (t .values) (c .marks) n))
     (placedMark (t .kinds) (t .values) (getD (c .marks) n 0))))
 
-none-placed : (t : Conjuncts) (c : ColumnConstraints) (v : ℕ) → placedTo t c 0 ++ (e.IsEq v ∷ []) ≡ e.IsEq v ∷ []
+none-placed : (t : Conjuncts) (c : Numbered) (v : ℕ) → placedTo t c 0 ++ (e.IsEq v ∷ []) ≡ e.IsEq v ∷ []
 unfolding placedTo
 none-placed t c v = refl
 
-point-placed : (t : Conjuncts) (c : ColumnConstraints) (v : ℕ) → z.fixedAt payload (boundOf (c .lower))
+point-placed : (t : Conjuncts) (c : Numbered) (v : ℕ) → z.fixedAt payload (boundOf (c .lower))
     (boundOf (c .upper)) ≡ some v → (n : ℕ) → placedTo t c (suc n) ≡ e.IsEq v ∷ []
 point-placed t c v h zero = step t c 0 ∙ rw (fixed t c 0 v h) (none-placed t c v)
 point-placed t c v h (suc n) =
@@ -139,7 +139,7 @@ point-placed t c v h (suc n) =
     step t c (suc n) ∙ rw (point-placed t c v h n, fixed t c (suc n) v h, ne-eqb (suc n) 0 z0)
 
 -- the places, one after the other, are the column's comparisons in their order
-pub places-law : (t : Conjuncts) (c : ColumnConstraints) → placedTo t c (2 + c .len) ≡
+pub places-law : (t : Conjuncts) (c : Numbered) → placedTo t c (2 + c .len) ≡
     e.collectColumnComparisons payload (columnOf t c)
 places-law t c = go (z.fixedAt payload (boundOf (c .lower)) (boundOf (c .upper))) refl
   where

@@ -16,6 +16,7 @@ use Rattle.constraints.specs.Comparisons as e
 use Rattle.constraints.specs.Payload.{payload}
 use Rattle.columns.specs.declared.bound.Bound.{Bound}
 use Rattle.columns.specs.declared.bound.Bound.the-variants.{Absent, Open, Closed}
+use Rattle.constraints.specs.declared.column.Nullability.{Nullability}
 use Rattle.columns.specs.declared.column.ColumnConstraints.{ColumnConstraints}
 use Rattle.columns.specs.declared.resolve.FixedValue.{FixedValue}
 use Rattle.columns.specs.declared.resolve.FixedValue.the-variants.{Nothing, At}
@@ -66,7 +67,29 @@ boundOf Absent = b.absent
 boundOf (Open s) = b.at false (s .0)
 boundOf (Closed s) = b.at true (s .0)
 
-abbrev pub columnOf : Conjuncts → ColumnConstraints → q.ColumnConstraints ℕ
+-- A column with its numbers. The code keeps the numbers of all columns in one array, a row for each column.
+pub record Numbered : Type 0 where
+  pub lower : Bound
+  pub upper : Bound
+  pub marks : List ℕ
+  pub len : ℕ
+  pub strict : Bool
+  pub nullability : Nullability
+  pub unsat : Bool
+
+abbrev pub numbered : List ℕ → ColumnConstraints → Numbered
+numbered a c =
+    record {
+      lower = c .lower;
+      upper = c .upper;
+      marks = a;
+      len = c .len;
+      strict = c .strict;
+      nullability = c .nullability;
+      unsat = c .unsat;
+    }
+
+abbrev pub columnOf : Conjuncts → Numbered → q.ColumnConstraints ℕ
 columnOf t c =
     record {
       lower = boundOf (c .lower);
@@ -97,12 +120,23 @@ unfoldable pub marked : List ℕ → ℕ → ℕ → Bool
 marked a zero j = false
 marked a (suc n) j = marked a n j || eqb (getD a n 0) j
 
--- n numbers below 128, each a new one: what every column's numbers are, so that there is room for all.
-abbrev pub Fine : List ℕ → ℕ → Type 0
-Fine a n = (i : ℕ) → i < n → (getD a i 0 < 128) × (marked a i (getD a i 0) ≡ false)
+-- n numbers below m, each a new one: what every column's numbers are, so that a row of m has room for all.
+abbrev pub Fine : ℕ → List ℕ → ℕ → Type 0
+Fine m a n = (i : ℕ) → i < n → (getD a i 0 < m) × (marked a i (getD a i 0) ≡ false)
 
 -- One number more.
-abbrev pub pushed : ColumnConstraints → ℕ → ColumnConstraints
+abbrev pub longer : ColumnConstraints → ColumnConstraints
+longer c =
+    record {
+      lower = c .lower;
+      upper = c .upper;
+      len = c .len + 1;
+      strict = c .strict;
+      nullability = c .nullability;
+      unsat = c .unsat;
+    }
+
+abbrev pub pushed : Numbered → ℕ → Numbered
 pushed c j =
     record {
       lower = c .lower;

@@ -14,11 +14,10 @@ use Rattle.constraints.specs.Column as q
 use Rattle.constraints.specs.Resolve as z
 use Rattle.constraints.specs.Comparisons as e
 use Rattle.constraints.specs.Payload.{payload}
-use Rattle.columns.specs.Abstraction.{Conjuncts, columnOf, boundOf, ofKind, listOf}
+use Rattle.columns.specs.Abstraction.{Conjuncts, Numbered, numbered, columnOf, boundOf, ofKind, listOf}
 use Rattle.constraints.specs.declared.column.ExcludedResolution.{ExcludedResolution}
 use Rattle.constraints.specs.declared.column.ExcludedResolution.the-variants.{Drop, Keep, TightenLower}
 use Rattle.constraints.specs.declared.column.ExcludedResolution.the-variants.{TightenUpper}
-use Rattle.columns.specs.declared.column.ColumnConstraints.{ColumnConstraints}
 use Rattle.columns.specs.declared.merging.Merged.{Merged}
 
 -- The tables that a function which reads lists is lent.
@@ -46,8 +45,8 @@ pub record Merging : Type 0 where
   pub emitted : Bool
   pub any : Bool
 
-abbrev pub mergingOf : Conjuncts → Merged → Merging
-mergingOf t m = record { column = columnOf t (m .column); emitted = m .emitted; any = m .any }
+abbrev pub mergingOf : Conjuncts → List ℕ → Merged → Merging
+mergingOf t a m = record { column = columnOf t (numbered a (m .column)); emitted = m .emitted; any = m .any }
 
 abbrev pub changesIn : q.Constraint ℕ → q.ColumnConstraints ℕ → Bool
 changesIn a cc = (not (cc .unsat) && q.changes payload a cc)
@@ -114,7 +113,7 @@ begun cc = q.column (cc .lower) (cc .upper) [] none [] (cc .strict) (cc .nullabi
 abbrev pub placedMark : List ℕ → List ℕ → ℕ → List (e.ColumnComparison ℕ)
 placedMark kinds values j = cond (ofKind kinds 0 j) (e.IsNotEq (getD values j 0) ∷ []) []
 
-abbrev pub placedFree : Conjuncts → ColumnConstraints → ℕ → List (e.ColumnComparison ℕ)
+abbrev pub placedFree : Conjuncts → Numbered → ℕ → List (e.ColumnComparison ℕ)
 placedFree t c p =
     cond (eqb p 0) (ofBound e.IsLower (boundOf (c .lower)))
     (cond (eqb p 1) (ofBound e.IsUpper (boundOf (c .upper)))
@@ -123,14 +122,14 @@ placedFree t c p =
 abbrev pub placedPoint : ℕ → ℕ → List (e.ColumnComparison ℕ)
 placedPoint v p = cond (eqb p 0) (e.IsEq v ∷ []) []
 
-abbrev pub placedBy : Option ℕ → Conjuncts → ColumnConstraints → ℕ → List (e.ColumnComparison ℕ)
+abbrev pub placedBy : Option ℕ → Conjuncts → Numbered → ℕ → List (e.ColumnComparison ℕ)
 placedBy none t c p = placedFree t c p
 placedBy (some v) t c p = placedPoint v p
 
-unfoldable pub placed : Conjuncts → ColumnConstraints → ℕ → List (e.ColumnComparison ℕ)
+unfoldable pub placed : Conjuncts → Numbered → ℕ → List (e.ColumnComparison ℕ)
 placed t c p = placedBy (z.fixedAt payload (boundOf (c .lower)) (boundOf (c .upper))) t c p
 
 -- The comparisons at the places below p.
-unfoldable pub placedTo : Conjuncts → ColumnConstraints → ℕ → List (e.ColumnComparison ℕ)
+unfoldable pub placedTo : Conjuncts → Numbered → ℕ → List (e.ColumnComparison ℕ)
 placedTo t c zero = []
 placedTo t c (suc p) = placedTo t c p ++ placed t c p

@@ -1,9 +1,11 @@
 // A column's constraints: what the conjuncts say of its bounds and of nulls. The sets are in module `marks`.
 ghost use mathlib.Core.Path.{_≡_};
+ghost use mathlib.Core.List.{List};
+ghost use Prim.Native.Nat.{ℕ};
 ghost use Rattle.constraints.specs.Column as q;
 ghost use Rattle.constraints.specs.Column.{isNullRequired};
 ghost use Rattle.constraints.specs.Payload.{payload};
-ghost use Rattle.columns.specs.Abstraction.{Conjuncts, columnOf};
+ghost use Rattle.columns.specs.Abstraction.{Conjuncts, numbered, columnOf};
 ghost use Rattle.columns.specs.Steps.{changesIn, consistent};
 ghost use Rattle.constraints.specs.declared.column.Nullability.the-variants.{Null};
 use crate::bound::Bound;
@@ -15,13 +17,12 @@ use crate::bound::upper_tightens;
 use constraints::column::Nullability;
 use truth::scalar::Scalar;
 
-/// `marks[..len]` are the conjuncts that gave excluded values and lists, each once, in insertion order; a conjunct's
-/// kind says which of the three sets its values belong to. One array serves all three: a conjunct gives to one only.
-/// `strict`: some negated is_in that drops nulls gave a value. `unsat` stays: an impossible column takes nothing.
+/// `len` counts the column's numbers: the conjuncts that gave excluded values and lists, each once, in insertion order. They
+/// stand in the column's row of an array beside the table, so that a column is small; a conjunct's kind says which of the
+/// three sets its values belong to. One row serves all three: a conjunct gives to one only. `strict`: some negated is_in that drops nulls gave a value. `unsat` stays: an impossible column takes nothing.
 pub struct ColumnConstraints {
     pub lower: Bound,
     pub upper: Bound,
-    pub marks: [u8; 128],
     pub len: usize,
     pub strict: bool,
     pub nullability: Nullability,
@@ -29,13 +30,12 @@ pub struct ColumnConstraints {
 }
 
 pub fn empty() -> ColumnConstraints
-    ensures { λ r. ⌜ ((t : Conjuncts) → columnOf t r ≡ q.empty) ⌝ }
+    ensures { λ r. ⌜ ((t : Conjuncts) (a : List ℕ) → columnOf t (numbered a r) ≡ q.empty) ⌝ }
     ensures { λ r. ⌜ r .len ≡ 0 ⌝ }
 {
     ColumnConstraints {
         lower: Bound::Absent,
         upper: Bound::Absent,
-        marks: [0u8; 128],
         len: 0,
         strict: false,
         nullability: Nullability::Unconstrained,
@@ -45,17 +45,15 @@ pub fn empty() -> ColumnConstraints
 
 /// Marks the column impossible when its bounds cross.
 pub fn check_bound_consistency(c: ColumnConstraints) -> ColumnConstraints
-    ensures { λ r. ⌜ ((t : Conjuncts) → columnOf t r ≡ consistent (columnOf t c)) ⌝ }
-    ensures { λ r. ⌜ (r .marks ≡ c .marks) × (r .len ≡ c .len) ⌝ }
+    ensures { λ r. ⌜ ((t : Conjuncts) (a : List ℕ) → columnOf t (numbered a r) ≡ consistent (columnOf t (numbered a c))) ⌝ }
+    ensures { λ r. ⌜ r .len ≡ c .len ⌝ }
 {
     let low = c.lower;
     let upp = c.upper;
-    let mks = c.marks;
     let nul = c.nullability;
     ColumnConstraints {
         lower: low,
         upper: upp,
-        marks: mks,
         len: c.len,
         strict: c.strict,
         nullability: nul,
@@ -64,21 +62,19 @@ pub fn check_bound_consistency(c: ColumnConstraints) -> ColumnConstraints
 }
 
 pub fn add_lower(c: ColumnConstraints, v: Scalar, inclusive: bool) -> ColumnConstraints
-    ensures { λ r. ⌜ ((t : Conjuncts) → columnOf t r ≡ q.addLower payload (v .0) inclusive (columnOf t c)) ⌝ }
-    ensures { λ r. ⌜ (r .marks ≡ c .marks) × (r .len ≡ c .len) ⌝ }
+    ensures { λ r. ⌜ ((t : Conjuncts) (a : List ℕ) → columnOf t (numbered a r) ≡ q.addLower payload (v .0) inclusive (columnOf t (numbered a c))) ⌝ }
+    ensures { λ r. ⌜ r .len ≡ c .len ⌝ }
 {
     if c.unsat {
         return c;
     }
     let low = c.lower;
     let upp = c.upper;
-    let mks = c.marks;
     let nul = c.nullability;
     let low2 = tighten_lower(low, v, inclusive);
     ColumnConstraints {
         lower: low2,
         upper: upp,
-        marks: mks,
         len: c.len,
         strict: c.strict,
         nullability: nul,
@@ -87,21 +83,19 @@ pub fn add_lower(c: ColumnConstraints, v: Scalar, inclusive: bool) -> ColumnCons
 }
 
 pub fn add_upper(c: ColumnConstraints, v: Scalar, inclusive: bool) -> ColumnConstraints
-    ensures { λ r. ⌜ ((t : Conjuncts) → columnOf t r ≡ q.addUpper payload (v .0) inclusive (columnOf t c)) ⌝ }
-    ensures { λ r. ⌜ (r .marks ≡ c .marks) × (r .len ≡ c .len) ⌝ }
+    ensures { λ r. ⌜ ((t : Conjuncts) (a : List ℕ) → columnOf t (numbered a r) ≡ q.addUpper payload (v .0) inclusive (columnOf t (numbered a c))) ⌝ }
+    ensures { λ r. ⌜ r .len ≡ c .len ⌝ }
 {
     if c.unsat {
         return c;
     }
     let low = c.lower;
     let upp = c.upper;
-    let mks = c.marks;
     let nul = c.nullability;
     let upp2 = tighten_upper(upp, v, inclusive);
     ColumnConstraints {
         lower: low,
         upper: upp2,
-        marks: mks,
         len: c.len,
         strict: c.strict,
         nullability: nul,
@@ -111,7 +105,7 @@ pub fn add_upper(c: ColumnConstraints, v: Scalar, inclusive: bool) -> ColumnCons
 
 /// Whether `add_lower` changes the column.
 pub fn lower_changes(c: ColumnConstraints, v: Scalar, inclusive: bool) -> bool
-    ensures { λ r. ⌜ ((t : Conjuncts) → r ≡ changesIn (q.Lower inclusive (v .0)) (columnOf t c)) ⌝ }
+    ensures { λ r. ⌜ ((t : Conjuncts) (a : List ℕ) → r ≡ changesIn (q.Lower inclusive (v .0)) (columnOf t (numbered a c))) ⌝ }
 {
     if c.unsat {
         return false;
@@ -122,7 +116,7 @@ pub fn lower_changes(c: ColumnConstraints, v: Scalar, inclusive: bool) -> bool
 
 /// Whether `add_upper` changes the column.
 pub fn upper_changes(c: ColumnConstraints, v: Scalar, inclusive: bool) -> bool
-    ensures { λ r. ⌜ ((t : Conjuncts) → r ≡ changesIn (q.Upper inclusive (v .0)) (columnOf t c)) ⌝ }
+    ensures { λ r. ⌜ ((t : Conjuncts) (a : List ℕ) → r ≡ changesIn (q.Upper inclusive (v .0)) (columnOf t (numbered a c))) ⌝ }
 {
     if c.unsat {
         return false;
@@ -133,20 +127,18 @@ pub fn upper_changes(c: ColumnConstraints, v: Scalar, inclusive: bool) -> bool
 
 /// The first requirement stays; the opposite one makes the column impossible.
 pub fn require_nullability(c: ColumnConstraints, n: Nullability) -> ColumnConstraints
-    ensures { λ r. ⌜ ((t : Conjuncts) → columnOf t r ≡ q.requireNullability payload n (columnOf t c)) ⌝ }
-    ensures { λ r. ⌜ (r .marks ≡ c .marks) × (r .len ≡ c .len) ⌝ }
+    ensures { λ r. ⌜ ((t : Conjuncts) (a : List ℕ) → columnOf t (numbered a r) ≡ q.requireNullability payload n (columnOf t (numbered a c))) ⌝ }
+    ensures { λ r. ⌜ r .len ≡ c .len ⌝ }
 {
     if c.unsat {
         return c;
     }
     let low = c.lower;
     let upp = c.upper;
-    let mks = c.marks;
     let nul = c.nullability;
     ColumnConstraints {
         lower: low,
         upper: upp,
-        marks: mks,
         len: c.len,
         strict: c.strict,
         nullability: nullability_kept(nul, n),

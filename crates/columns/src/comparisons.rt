@@ -9,7 +9,7 @@ ghost use lib.ListN.{length};
 ghost use Rattle.constraints.specs.Bound.{ofBound};
 ghost use Rattle.constraints.specs.Comparisons.{IsLower, IsUpper, collectColumnComparisons};
 ghost use Rattle.constraints.specs.Payload.{payload};
-ghost use Rattle.columns.specs.Abstraction.{Conjuncts, columnOf, boundOf, excludedBy, comparedOf, Fine};
+ghost use Rattle.columns.specs.Abstraction.{Conjuncts, numbered, columnOf, boundOf, excludedBy, comparedOf, Fine};
 ghost use Rattle.columns.specs.Steps.{placedMark, placedFree, placedPoint, placed};
 use crate::bound::Bound;
 use crate::bound::is_absent;
@@ -62,9 +62,9 @@ fn at_mark(kinds: &[u8], values: &[u64], j: u8) -> Compared
 }
 
 // A column that no value pins.
-fn at_place(kinds: &[u8], values: &[u64], c: ColumnConstraints, p: usize) -> Compared
+fn at_place(kinds: &[u8], values: &[u64], marks: &[u8], c: ColumnConstraints, p: usize) -> Compared
     ensures { λ r. ⌜ ((t : Conjuncts) → t .kinds ≡ now (kinds .entry) → t .values ≡ now (values .entry) →
-        comparedOf r ≡ placedFree t c p) ⌝ }
+        comparedOf r ≡ placedFree t (numbered (now (marks .entry)) c) p) ⌝ }
 {
     if p == 0 {
         let low = c.lower;
@@ -74,18 +74,23 @@ fn at_place(kinds: &[u8], values: &[u64], c: ColumnConstraints, p: usize) -> Com
         let upp = c.upper;
         return at_upper(upp);
     }
-    let mks = c.marks;
-    at_mark(kinds, values, byte(&mks, p - 2))
+    at_mark(kinds, values, byte(marks, p - 2))
 }
 
 /// The comparison at place p. The places are those below `places`.
-pub fn comparison_at(kinds: &[u8], values: &[u64], c: ColumnConstraints, p: usize) -> Compared
+pub fn comparison_at(
+    kinds: &[u8],
+    values: &[u64],
+    marks: &[u8],
+    c: ColumnConstraints,
+    p: usize,
+) -> Compared
     ensures { λ r. ⌜ ((t : Conjuncts) → t .kinds ≡ now (kinds .entry) → t .values ≡ now (values .entry) →
-        comparedOf r ≡ placed t c p) ⌝ }
+        comparedOf r ≡ placed t (numbered (now (marks .entry)) c) p) ⌝ }
 {
     let f = fixed_value(c);
     match f {
-        FixedValue::Nothing => at_place(kinds, values, c, p),
+        FixedValue::Nothing => at_place(kinds, values, marks, c, p),
         FixedValue::At(v) => at_point(v, p),
     }
 }
@@ -122,18 +127,17 @@ fn counted(b: bool) -> usize
 }
 
 /// How many comparisons the column is written out as.
-pub fn comparison_count(kinds: &[u8], c: ColumnConstraints) -> usize
-    requires { ⌜ Fine (c .marks) (c .len) ⌝ }
+pub fn comparison_count(kinds: &[u8], marks: &[u8], c: ColumnConstraints) -> usize
+    requires { ⌜ Fine 128 (now marks) (c .len) ⌝ }
     ensures { λ r. ⌜ ((t : Conjuncts) → t .kinds ≡ now (kinds .entry) →
-        r ≡ length (collectColumnComparisons payload (columnOf t c))) ⌝ }
+        r ≡ length (collectColumnComparisons payload (columnOf t (numbered (now (marks .entry)) c)))) ⌝ }
 {
     let low = c.lower;
     let upp = c.upper;
-    let mks = c.marks;
     let f = fixed_value(c);
     match f {
         FixedValue::Nothing => {
-            let n = excluded_count(kinds, &mks, c.len);
+            let n = excluded_count(kinds, marks, c.len);
             counted(!is_absent(low)) + (counted(!is_absent(upp)) + n)
         }
         FixedValue::At(_) => 1,

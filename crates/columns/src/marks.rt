@@ -14,8 +14,8 @@ ghost use Rattle.constraints.specs.Values.{contains, subset};
 ghost use Rattle.constraints.specs.Column as q;
 ghost use Rattle.constraints.specs.Resolve.{isAllowed, isFeasible, anyFeasible, allowedFeasible};
 ghost use Rattle.constraints.specs.Payload.{payload};
-ghost use Rattle.columns.specs.Abstraction.{Conjuncts, conjuncts, columnOf, listOf, ofKind};
-ghost use Rattle.columns.specs.Abstraction.{excludedBy, allowedBy, disallowedBy, marked, Fine, pushed};
+ghost use Rattle.columns.specs.Abstraction.{Conjuncts, conjuncts, numbered, columnOf, listOf, ofKind};
+ghost use Rattle.columns.specs.Abstraction.{excludedBy, allowedBy, disallowedBy, marked, Fine, longer};
 ghost use Rattle.columns.specs.Steps.{Lists, outside, anyOf, changesIn, anyOfKind};
 use crate::bound::clears_lower;
 use crate::bound::clears_upper;
@@ -187,14 +187,29 @@ fn has_mark(marks: &[u8], n: usize, j: u8) -> bool
     false
 }
 
+/// A column's numbers in an array of their own, for a walk over them while its row is written anew.
+pub fn copied(marks: &[u8], n: usize) -> [u8; 128]
+    requires { ⌜ (n ≤ length (now marks)) × (n ≤ 128) ⌝ }
+    ensures { λ r. ⌜ ((i : ℕ) → i < n → getD r i 0 ≡ getD (now (marks .entry)) i 0) ⌝ }
+{
+    let mut r = [0u8; 128];
+    let mut i: usize = 0;
+    while i < n {
+        r[i] = marks[i];
+        i += 1;
+    }
+    r
+}
+
 // ---- adding
 
-fn push(mut c: ColumnConstraints, j: u8) -> ColumnConstraints
-    requires { ⌜ c .len < 128 ⌝ }
-    ensures { λ r. ⌜ r ≡ pushed c j ⌝ }
+fn push(marks: &mut [u8], mut c: ColumnConstraints, j: u8) -> ColumnConstraints
+    requires { ⌜ c .len < length (now marks) ⌝ }
+    ensures { λ _. ⌜ now (marks .exit) ≡ set (now (marks .entry)) (c .len) j ⌝ }
+    ensures { λ r. ⌜ r ≡ longer c ⌝ }
 {
     let n = c.len;
-    c.marks[n] = j;
+    marks[n] = j;
     c.len = n + 1;
     c
 }
@@ -203,95 +218,106 @@ fn push(mut c: ColumnConstraints, j: u8) -> ColumnConstraints
 pub fn insert_excluded(
     kinds: &[u8],
     values: &[u64],
+    marks: &mut [u8],
     c: ColumnConstraints,
     j: u8,
 ) -> ColumnConstraints
-    requires { ⌜ Fine (c .marks) (c .len) × (j < 128) × (getD (now kinds) j 0 ≡ 0) ⌝ }
+    requires { ⌜ Fine (length (now marks)) (now marks) (c .len) × (j < length (now marks)) × (getD (now kinds) j 0 ≡ 0) ⌝ }
     ensures { λ r. ⌜ ((t : Conjuncts) → t .kinds ≡ now (kinds .entry) → t .values ≡ now (values .entry) →
-        columnOf t r ≡ q.put payload (q.Exclude (getD (now (values .entry)) j 0)) (columnOf t c)) ⌝ }
-    ensures { λ r. ⌜ Fine (r .marks) (r .len) ⌝ }
+        columnOf t (numbered (now (marks .exit)) r) ≡ q.put payload (q.Exclude (getD (now (values .entry)) j 0)) (columnOf t (numbered (now (marks .entry)) c))) ⌝ }
+    ensures { λ r. ⌜ Fine (length (now (marks .entry))) (now (marks .exit)) (r .len) ⌝ }
 {
-    let mks = c.marks;
     let v = literal_at(values, j);
-    if excludes(kinds, values, &mks, c.len, v) {
+    if excludes(kinds, values, marks, c.len, v) {
         return c;
     }
-    push(c, j)
+    push(marks, c, j)
 }
 
-pub fn add_excluded(kinds: &[u8], values: &[u64], c: ColumnConstraints, j: u8) -> ColumnConstraints
-    requires { ⌜ Fine (c .marks) (c .len) × (j < 128) × (getD (now kinds) j 0 ≡ 0) ⌝ }
+pub fn add_excluded(
+    kinds: &[u8],
+    values: &[u64],
+    marks: &mut [u8],
+    c: ColumnConstraints,
+    j: u8,
+) -> ColumnConstraints
+    requires { ⌜ Fine (length (now marks)) (now marks) (c .len) × (j < length (now marks)) × (getD (now kinds) j 0 ≡ 0) ⌝ }
     ensures { λ r. ⌜ ((t : Conjuncts) → t .kinds ≡ now (kinds .entry) → t .values ≡ now (values .entry) →
-        columnOf t r ≡ q.addExcluded payload (getD (now (values .entry)) j 0) (columnOf t c)) ⌝ }
-    ensures { λ r. ⌜ Fine (r .marks) (r .len) ⌝ }
+        columnOf t (numbered (now (marks .exit)) r) ≡ q.addExcluded payload (getD (now (values .entry)) j 0) (columnOf t (numbered (now (marks .entry)) c))) ⌝ }
+    ensures { λ r. ⌜ Fine (length (now (marks .entry))) (now (marks .exit)) (r .len) ⌝ }
 {
     if c.unsat {
         return c;
     }
-    insert_excluded(kinds, values, c, j)
+    insert_excluded(kinds, values, marks, c, j)
 }
 
 /// The list of conjunct j, allowed or disallowed by its kind; to an impossible column too. No list is read.
-pub fn insert_list(c: ColumnConstraints, j: u8) -> ColumnConstraints
-    requires { ⌜ Fine (c .marks) (c .len) × (j < 128) ⌝ }
+pub fn insert_list(marks: &mut [u8], c: ColumnConstraints, j: u8) -> ColumnConstraints
+    requires { ⌜ Fine (length (now marks)) (now marks) (c .len) × (j < length (now marks)) ⌝ }
     ensures { λ r. ⌜ ((t : Conjuncts) → getD (t .kinds) j 0 ≡ 1 →
-        columnOf t r ≡ q.put payload (q.Allow (listOf (t .starts) (t .counts) (t .pool) j)) (columnOf t c)) ⌝ }
+        columnOf t (numbered (now (marks .exit)) r) ≡ q.put payload (q.Allow (listOf (t .starts) (t .counts) (t .pool) j)) (columnOf t (numbered (now (marks .entry)) c))) ⌝ }
     ensures { λ r. ⌜ ((t : Conjuncts) → getD (t .kinds) j 0 ≡ 2 →
-        columnOf t r ≡ q.put payload (q.Disallow false (listOf (t .starts) (t .counts) (t .pool) j))
-        (columnOf t c)) ⌝ }
-    ensures { λ r. ⌜ Fine (r .marks) (r .len) ⌝ }
+        columnOf t (numbered (now (marks .exit)) r) ≡ q.put payload (q.Disallow false (listOf (t .starts) (t .counts) (t .pool) j))
+        (columnOf t (numbered (now (marks .entry)) c))) ⌝ }
+    ensures { λ r. ⌜ Fine (length (now (marks .entry))) (now (marks .exit)) (r .len) ⌝ }
 {
-    let mks = c.marks;
-    if has_mark(&mks, c.len, j) {
+    if has_mark(marks, c.len, j) {
         return c;
     }
-    push(c, j)
+    push(marks, c, j)
 }
 
-pub fn add_allowed(c: ColumnConstraints, j: u8) -> ColumnConstraints
-    requires { ⌜ Fine (c .marks) (c .len) × (j < 128) ⌝ }
+pub fn add_allowed(marks: &mut [u8], c: ColumnConstraints, j: u8) -> ColumnConstraints
+    requires { ⌜ Fine (length (now marks)) (now marks) (c .len) × (j < length (now marks)) ⌝ }
     ensures { λ r. ⌜ ((t : Conjuncts) → getD (t .kinds) j 0 ≡ 1 →
-        columnOf t r ≡ q.addAllowed payload (listOf (t .starts) (t .counts) (t .pool) j) (columnOf t c)) ⌝ }
-    ensures { λ r. ⌜ Fine (r .marks) (r .len) ⌝ }
+        columnOf t (numbered (now (marks .exit)) r) ≡ q.addAllowed payload (listOf (t .starts) (t .counts) (t .pool) j) (columnOf t (numbered (now (marks .entry)) c))) ⌝ }
+    ensures { λ r. ⌜ Fine (length (now (marks .entry))) (now (marks .exit)) (r .len) ⌝ }
 {
     if c.unsat {
         return c;
     }
-    insert_list(c, j)
+    insert_list(marks, c, j)
 }
 
 /// `strict`: the negated is_in drops nulls, so that a value of it counts as a value constraint.
 pub fn add_disallowed(
     counts: &[u32],
+    marks: &mut [u8],
     c: ColumnConstraints,
     j: u8,
     strict: bool,
 ) -> ColumnConstraints
-    requires { ⌜ Fine (c .marks) (c .len) × (j < 128) ⌝ }
+    requires { ⌜ Fine (length (now marks)) (now marks) (c .len) × (j < length (now marks)) ⌝ }
     ensures { λ r. ⌜ ((t : Conjuncts) → t .counts ≡ now (counts .entry) → getD (t .kinds) j 0 ≡ 2 →
-        columnOf t r ≡ q.addDisallowed payload strict (listOf (t .starts) (t .counts) (t .pool) j) (columnOf t c)) ⌝ }
-    ensures { λ r. ⌜ Fine (r .marks) (r .len) ⌝ }
+        columnOf t (numbered (now (marks .exit)) r) ≡ q.addDisallowed payload strict (listOf (t .starts) (t .counts) (t .pool) j) (columnOf t (numbered (now (marks .entry)) c))) ⌝ }
+    ensures { λ r. ⌜ Fine (length (now (marks .entry))) (now (marks .exit)) (r .len) ⌝ }
 {
     if c.unsat {
         return c;
     }
-    let mut d = insert_list(c, j);
+    let mut d = insert_list(marks, c, j);
     d.strict = d.strict | (strict & (0 < number_at(counts, j as usize)));
     d
 }
 
 // ---- whether an addition changes the column
 
-pub fn excluded_changes(kinds: &[u8], values: &[u64], c: ColumnConstraints, j: u8) -> bool
+pub fn excluded_changes(
+    kinds: &[u8],
+    values: &[u64],
+    marks: &[u8],
+    c: ColumnConstraints,
+    j: u8,
+) -> bool
     ensures { λ r. ⌜ ((t : Conjuncts) → t .kinds ≡ now (kinds .entry) → t .values ≡ now (values .entry) →
-        r ≡ changesIn (q.Exclude (getD (now (values .entry)) j 0)) (columnOf t c)) ⌝ }
+        r ≡ changesIn (q.Exclude (getD (now (values .entry)) j 0)) (columnOf t (numbered (now (marks .entry)) c))) ⌝ }
 {
     if c.unsat {
         return false;
     }
-    let mks = c.marks;
     let v = literal_at(values, j);
-    !excludes(kinds, values, &mks, c.len, v)
+    !excludes(kinds, values, marks, c.len, v)
 }
 
 fn is_outside(
@@ -373,21 +399,21 @@ pub fn allowed_changes(
     starts: &[u32],
     counts: &[u32],
     pool: &[u8],
+    marks: &[u8],
     c: ColumnConstraints,
     j: u8,
 ) -> bool
     requires { ⌜ getD (now kinds) j 0 ≡ 1 ⌝ }
     ensures { λ r. ⌜ ((t : Conjuncts) → Lists t (now (kinds .entry)) (now (starts .entry)) (now (counts .entry))
-        (now (pool .entry)) → r ≡ changesIn (q.Allow (listOf (t .starts) (t .counts) (t .pool) j)) (columnOf t c)) ⌝ }
+        (now (pool .entry)) → r ≡ changesIn (q.Allow (listOf (t .starts) (t .counts) (t .pool) j)) (columnOf t (numbered (now (marks .entry)) c))) ⌝ }
 {
     if c.unsat {
         return false;
     }
-    let mks = c.marks;
-    if has_mark(&mks, c.len, j) {
+    if has_mark(marks, c.len, j) {
         return false;
     }
-    allowed_narrows(kinds, starts, counts, pool, &mks, c.len, j)
+    allowed_narrows(kinds, starts, counts, pool, marks, c.len, j)
 }
 
 // Has the list of j a value that is not disallowed yet.
@@ -422,22 +448,22 @@ pub fn disallowed_changes(
     starts: &[u32],
     counts: &[u32],
     pool: &[u8],
+    marks: &[u8],
     c: ColumnConstraints,
     j: u8,
 ) -> bool
     requires { ⌜ getD (now kinds) j 0 ≡ 2 ⌝ }
     ensures { λ r. ⌜ ((t : Conjuncts) → Lists t (now (kinds .entry)) (now (starts .entry)) (now (counts .entry))
         (now (pool .entry)) → r ≡ changesIn (q.Disallow false (listOf (t .starts) (t .counts) (t .pool) j))
-        (columnOf t c)) ⌝ }
+        (columnOf t (numbered (now (marks .entry)) c))) ⌝ }
 {
     if c.unsat {
         return false;
     }
-    let mks = c.marks;
-    if has_mark(&mks, c.len, j) {
+    if has_mark(marks, c.len, j) {
         return false;
     }
-    disallowed_widens(kinds, starts, counts, pool, &mks, c.len, j)
+    disallowed_widens(kinds, starts, counts, pool, marks, c.len, j)
 }
 
 // ---- feasible values
@@ -449,11 +475,12 @@ pub fn is_feasible(
     starts: &[u32],
     counts: &[u32],
     pool: &[u8],
+    marks: &[u8],
     c: ColumnConstraints,
     v: Scalar,
 ) -> bool
     ensures { λ r. ⌜ r ≡ isFeasible payload (columnOf (conjuncts (now (kinds .entry)) (now (values .entry))
-        (now (starts .entry)) (now (counts .entry)) (now (pool .entry))) c) (payload .key (v .0)) ⌝ }
+        (now (starts .entry)) (now (counts .entry)) (now (pool .entry))) (numbered (now (marks .entry)) c)) (payload .key (v .0)) ⌝ }
 {
     let low = c.lower;
     if !clears_lower(low, v) {
@@ -463,14 +490,13 @@ pub fn is_feasible(
     if !clears_upper(upp, v) {
         return false;
     }
-    let mks = c.marks;
-    if excludes(kinds, values, &mks, c.len, v) {
+    if excludes(kinds, values, marks, c.len, v) {
         return false;
     }
-    if !allows(kinds, starts, counts, pool, &mks, c.len, v) {
+    if !allows(kinds, starts, counts, pool, marks, c.len, v) {
         return false;
     }
-    !disallows(kinds, starts, counts, pool, &mks, c.len, v)
+    !disallows(kinds, starts, counts, pool, marks, c.len, v)
 }
 
 // Is some value of the list of f feasible.
@@ -480,11 +506,12 @@ fn any_feasible(
     starts: &[u32],
     counts: &[u32],
     pool: &[u8],
+    marks: &[u8],
     c: ColumnConstraints,
     f: u8,
 ) -> bool
     ensures { λ r. ⌜ r ≡ anyFeasible payload (columnOf (conjuncts (now (kinds .entry)) (now (values .entry))
-        (now (starts .entry)) (now (counts .entry)) (now (pool .entry))) c)
+        (now (starts .entry)) (now (counts .entry)) (now (pool .entry))) (numbered (now (marks .entry)) c))
         (listOf (now (starts .entry)) (now (counts .entry)) (now (pool .entry)) f) ⌝ }
 {
     let s = number_at(starts, f as usize) as usize;
@@ -492,7 +519,7 @@ fn any_feasible(
     let mut i: usize = 0;
     while i < m {
         let v = Scalar(value_at(pool, s + i));
-        if is_feasible(kinds, values, starts, counts, pool, c, v) {
+        if is_feasible(kinds, values, starts, counts, pool, marks, c, v) {
             return true;
         }
         i += 1;
@@ -507,19 +534,19 @@ pub fn any_allowed(
     starts: &[u32],
     counts: &[u32],
     pool: &[u8],
+    marks: &[u8],
     c: ColumnConstraints,
 ) -> bool
     ensures { λ r. ⌜ (let t = conjuncts (now (kinds .entry)) (now (values .entry)) (now (starts .entry))
-        (now (counts .entry)) (now (pool .entry)) in r ≡ allowedFeasible payload (columnOf t c)
-        (columnOf t c .allowed)) ⌝ }
+        (now (counts .entry)) (now (pool .entry)) in r ≡ allowedFeasible payload (columnOf t (numbered (now (marks .entry)) c))
+        (columnOf t (numbered (now (marks .entry)) c) .allowed)) ⌝ }
 {
-    let mks = c.marks;
     let n = c.len;
     let mut i: usize = 0;
     while i < n {
-        let f = byte(&mks, i);
+        let f = byte(marks, i);
         if byte(kinds, f as usize) == 1 {
-            return any_feasible(kinds, values, starts, counts, pool, c, f);
+            return any_feasible(kinds, values, starts, counts, pool, marks, c, f);
         }
         i += 1;
     }

@@ -1,11 +1,12 @@
 // Merging one column into another, across an equality of the two.
 ghost use mathlib.Core.Path.{_≡_};
 ghost use mathlib.Core.Bool.{false};
+ghost use mathlib.Core.List.{List};
 ghost use Prim.Native.Nat.{ℕ, _<_};
-ghost use lib.ListN.{getD};
+ghost use lib.ListN.{length, getD};
 ghost use Rattle.constraints.specs.Column as q;
 ghost use Rattle.constraints.specs.Payload.{payload};
-ghost use Rattle.columns.specs.Abstraction.{Conjuncts, conjuncts, columnOf, boundOf, listOf, Fine};
+ghost use Rattle.columns.specs.Abstraction.{Conjuncts, conjuncts, numbered, columnOf, boundOf, listOf, Fine};
 ghost use Rattle.columns.specs.Steps.{Lists, mergingOf, emitting, recording};
 ghost use Rattle.columns.specs.Steps.{takeLower, takeUpper, takeMark, takeMarks};
 use crate::bound::Bound;
@@ -31,8 +32,8 @@ pub struct Merged {
 }
 
 fn merge_lower_at(m: Merged, v: Scalar, inclusive: bool) -> Merged
-    ensures { λ r. ⌜ ((t : Conjuncts) → mergingOf t r ≡ emitting (q.Lower inclusive (v .0)) (mergingOf t m)) ⌝ }
-    ensures { λ r. ⌜ (r .column .marks ≡ m .column .marks) × (r .column .len ≡ m .column .len) ⌝ }
+    ensures { λ r. ⌜ ((t : Conjuncts) (a : List ℕ) → mergingOf t a r ≡ emitting (q.Lower inclusive (v .0)) (mergingOf t a m)) ⌝ }
+    ensures { λ r. ⌜ r .column .len ≡ m .column .len ⌝ }
 {
     let c = m.column;
     let changed = lower_changes(c, v, inclusive);
@@ -45,8 +46,8 @@ fn merge_lower_at(m: Merged, v: Scalar, inclusive: bool) -> Merged
 }
 
 fn merge_upper_at(m: Merged, v: Scalar, inclusive: bool) -> Merged
-    ensures { λ r. ⌜ ((t : Conjuncts) → mergingOf t r ≡ emitting (q.Upper inclusive (v .0)) (mergingOf t m)) ⌝ }
-    ensures { λ r. ⌜ (r .column .marks ≡ m .column .marks) × (r .column .len ≡ m .column .len) ⌝ }
+    ensures { λ r. ⌜ ((t : Conjuncts) (a : List ℕ) → mergingOf t a r ≡ emitting (q.Upper inclusive (v .0)) (mergingOf t a m)) ⌝ }
+    ensures { λ r. ⌜ r .column .len ≡ m .column .len ⌝ }
 {
     let c = m.column;
     let changed = upper_changes(c, v, inclusive);
@@ -59,8 +60,8 @@ fn merge_upper_at(m: Merged, v: Scalar, inclusive: bool) -> Merged
 }
 
 fn merge_lower(m: Merged, b: Bound) -> Merged
-    ensures { λ r. ⌜ ((t : Conjuncts) → mergingOf t r ≡ takeLower (boundOf b) (mergingOf t m)) ⌝ }
-    ensures { λ r. ⌜ (r .column .marks ≡ m .column .marks) × (r .column .len ≡ m .column .len) ⌝ }
+    ensures { λ r. ⌜ ((t : Conjuncts) (a : List ℕ) → mergingOf t a r ≡ takeLower (boundOf b) (mergingOf t a m)) ⌝ }
+    ensures { λ r. ⌜ r .column .len ≡ m .column .len ⌝ }
 {
     match b {
         Bound::Absent => m,
@@ -70,8 +71,8 @@ fn merge_lower(m: Merged, b: Bound) -> Merged
 }
 
 fn merge_upper(m: Merged, b: Bound) -> Merged
-    ensures { λ r. ⌜ ((t : Conjuncts) → mergingOf t r ≡ takeUpper (boundOf b) (mergingOf t m)) ⌝ }
-    ensures { λ r. ⌜ (r .column .marks ≡ m .column .marks) × (r .column .len ≡ m .column .len) ⌝ }
+    ensures { λ r. ⌜ ((t : Conjuncts) (a : List ℕ) → mergingOf t a r ≡ takeUpper (boundOf b) (mergingOf t a m)) ⌝ }
+    ensures { λ r. ⌜ r .column .len ≡ m .column .len ⌝ }
 {
     match b {
         Bound::Absent => m,
@@ -80,15 +81,15 @@ fn merge_upper(m: Merged, b: Bound) -> Merged
     }
 }
 
-fn merge_excluded(kinds: &[u8], values: &[u64], m: Merged, j: u8) -> Merged
-    requires { ⌜ Fine (m .column .marks) (m .column .len) × (j < 128) × (getD (now kinds) j 0 ≡ 0) ⌝ }
+fn merge_excluded(kinds: &[u8], values: &[u64], own: &mut [u8], m: Merged, j: u8) -> Merged
+    requires { ⌜ Fine (length (now own)) (now own) (m .column .len) × (j < length (now own)) × (getD (now kinds) j 0 ≡ 0) ⌝ }
     ensures { λ r. ⌜ ((t : Conjuncts) → t .kinds ≡ now (kinds .entry) → t .values ≡ now (values .entry) →
-        mergingOf t r ≡ emitting (q.Exclude (getD (now (values .entry)) j 0)) (mergingOf t m)) ⌝ }
-    ensures { λ r. ⌜ Fine (r .column .marks) (r .column .len) ⌝ }
+        mergingOf t (now (own .exit)) r ≡ emitting (q.Exclude (getD (now (values .entry)) j 0)) (mergingOf t (now (own .entry)) m)) ⌝ }
+    ensures { λ r. ⌜ Fine (length (now (own .entry))) (now (own .exit)) (r .column .len) ⌝ }
 {
     let c = m.column;
-    let changed = excluded_changes(kinds, values, c, j);
-    let d = add_excluded(kinds, values, c, j);
+    let changed = excluded_changes(kinds, values, own, c, j);
+    let d = add_excluded(kinds, values, own, c, j);
     Merged {
         column: d,
         emitted: m.emitted | changed,
@@ -101,18 +102,19 @@ fn merge_allowed(
     starts: &[u32],
     counts: &[u32],
     pool: &[u8],
+    own: &mut [u8],
     m: Merged,
     j: u8,
 ) -> Merged
-    requires { ⌜ Fine (m .column .marks) (m .column .len) × (j < 128) × (getD (now kinds) j 0 ≡ 1) ⌝ }
+    requires { ⌜ Fine (length (now own)) (now own) (m .column .len) × (j < length (now own)) × (getD (now kinds) j 0 ≡ 1) ⌝ }
     ensures { λ r. ⌜ ((t : Conjuncts) → Lists t (now (kinds .entry)) (now (starts .entry)) (now (counts .entry))
-        (now (pool .entry)) → mergingOf t r ≡ recording (q.Allow (listOf (t .starts) (t .counts) (t .pool) j))
-        (mergingOf t m)) ⌝ }
-    ensures { λ r. ⌜ Fine (r .column .marks) (r .column .len) ⌝ }
+        (now (pool .entry)) → mergingOf t (now (own .exit)) r ≡ recording (q.Allow (listOf (t .starts) (t .counts) (t .pool) j))
+        (mergingOf t (now (own .entry)) m)) ⌝ }
+    ensures { λ r. ⌜ Fine (length (now (own .entry))) (now (own .exit)) (r .column .len) ⌝ }
 {
     let c = m.column;
-    let changed = allowed_changes(kinds, starts, counts, pool, c, j);
-    let d = add_allowed(c, j);
+    let changed = allowed_changes(kinds, starts, counts, pool, own, c, j);
+    let d = add_allowed(own, c, j);
     Merged {
         column: d,
         emitted: m.emitted,
@@ -125,18 +127,19 @@ fn merge_disallowed(
     starts: &[u32],
     counts: &[u32],
     pool: &[u8],
+    own: &mut [u8],
     m: Merged,
     j: u8,
 ) -> Merged
-    requires { ⌜ Fine (m .column .marks) (m .column .len) × (j < 128) × (getD (now kinds) j 0 ≡ 2) ⌝ }
+    requires { ⌜ Fine (length (now own)) (now own) (m .column .len) × (j < length (now own)) × (getD (now kinds) j 0 ≡ 2) ⌝ }
     ensures { λ r. ⌜ ((t : Conjuncts) → Lists t (now (kinds .entry)) (now (starts .entry)) (now (counts .entry))
-        (now (pool .entry)) → mergingOf t r ≡ recording
-        (q.Disallow false (listOf (t .starts) (t .counts) (t .pool) j)) (mergingOf t m)) ⌝ }
-    ensures { λ r. ⌜ Fine (r .column .marks) (r .column .len) ⌝ }
+        (now (pool .entry)) → mergingOf t (now (own .exit)) r ≡ recording
+        (q.Disallow false (listOf (t .starts) (t .counts) (t .pool) j)) (mergingOf t (now (own .entry)) m)) ⌝ }
+    ensures { λ r. ⌜ Fine (length (now (own .entry))) (now (own .exit)) (r .column .len) ⌝ }
 {
     let c = m.column;
-    let changed = disallowed_changes(kinds, starts, counts, pool, c, j);
-    let d = add_disallowed(counts, c, j, false);
+    let changed = disallowed_changes(kinds, starts, counts, pool, own, c, j);
+    let d = add_disallowed(counts, own, c, j, false);
     Merged {
         column: d,
         emitted: m.emitted,
@@ -151,23 +154,24 @@ fn merge_mark(
     starts: &[u32],
     counts: &[u32],
     pool: &[u8],
+    own: &mut [u8],
     m: Merged,
     j: u8,
 ) -> Merged
-    requires { ⌜ Fine (m .column .marks) (m .column .len) × (j < 128) ⌝ }
+    requires { ⌜ Fine (length (now own)) (now own) (m .column .len) × (j < length (now own)) ⌝ }
     ensures { λ r. ⌜ (let t = conjuncts (now (kinds .entry)) (now (values .entry)) (now (starts .entry))
-        (now (counts .entry)) (now (pool .entry)) in mergingOf t r ≡ takeMark t j (mergingOf t m)) ⌝ }
-    ensures { λ r. ⌜ Fine (r .column .marks) (r .column .len) ⌝ }
+        (now (counts .entry)) (now (pool .entry)) in mergingOf t (now (own .exit)) r ≡ takeMark t j (mergingOf t (now (own .entry)) m)) ⌝ }
+    ensures { λ r. ⌜ Fine (length (now (own .entry))) (now (own .exit)) (r .column .len) ⌝ }
 {
     let k = byte(kinds, j as usize);
     if k == 0 {
-        return merge_excluded(kinds, values, m, j);
+        return merge_excluded(kinds, values, own, m, j);
     }
     if k == 1 {
-        return merge_allowed(kinds, starts, counts, pool, m, j);
+        return merge_allowed(kinds, starts, counts, pool, own, m, j);
     }
     if k == 2 {
-        return merge_disallowed(kinds, starts, counts, pool, m, j);
+        return merge_disallowed(kinds, starts, counts, pool, own, m, j);
     }
     m
 }
@@ -178,47 +182,49 @@ fn merge_marks(
     starts: &[u32],
     counts: &[u32],
     pool: &[u8],
+    own: &mut [u8],
     m0: Merged,
     marks: &[u8],
     n: usize,
 ) -> Merged
-    requires { ⌜ Fine (m0 .column .marks) (m0 .column .len) × Fine (now marks) n ⌝ }
+    requires { ⌜ Fine (length (now own)) (now own) (m0 .column .len) × Fine (length (now own)) (now marks) n ⌝ }
     ensures { λ r. ⌜ (let t = conjuncts (now (kinds .entry)) (now (values .entry)) (now (starts .entry))
-        (now (counts .entry)) (now (pool .entry)) in mergingOf t r ≡ takeMarks t (now (marks .entry)) n
-        (mergingOf t m0)) ⌝ }
-    ensures { λ r. ⌜ Fine (r .column .marks) (r .column .len) ⌝ }
+        (now (counts .entry)) (now (pool .entry)) in mergingOf t (now (own .exit)) r ≡ takeMarks t (now (marks .entry)) n
+        (mergingOf t (now (own .entry)) m0)) ⌝ }
+    ensures { λ r. ⌜ Fine (length (now (own .entry))) (now (own .exit)) (r .column .len) ⌝ }
 {
     let mut m = m0;
     let mut i: usize = 0;
     while i < n {
         let j = byte(marks, i);
-        m = merge_mark(kinds, values, starts, counts, pool, m, j);
+        m = merge_mark(kinds, values, starts, counts, pool, own, m, j);
         i += 1;
     }
     m
 }
 
-/// All that the column d says, put into c.
+/// All that the column d says, its numbers in `marks`, put into c, its numbers in `own`.
 pub fn merge_from(
     kinds: &[u8],
     values: &[u64],
     starts: &[u32],
     counts: &[u32],
     pool: &[u8],
+    own: &mut [u8],
     c: ColumnConstraints,
+    marks: &[u8],
     d: ColumnConstraints,
 ) -> Merged
-    requires { ⌜ Fine (c .marks) (c .len) × Fine (d .marks) (d .len) ⌝ }
+    requires { ⌜ Fine (length (now own)) (now own) (c .len) × Fine (length (now own)) (now marks) (d .len) ⌝ }
     ensures { λ r. ⌜ (let t = conjuncts (now (kinds .entry)) (now (values .entry)) (now (starts .entry))
         (now (counts .entry)) (now (pool .entry)) in
-        (columnOf t (r .column) ≡ q.mergeFrom payload (columnOf t c) (columnOf t d)) ×
-        (r .emitted ≡ q.mergeEmitted payload (columnOf t c) (columnOf t d)) ×
-        (r .any ≡ q.mergeAny payload (columnOf t c) (columnOf t d))) ⌝ }
-    ensures { λ r. ⌜ Fine (r .column .marks) (r .column .len) ⌝ }
+        (columnOf t (numbered (now (own .exit)) (r .column)) ≡ q.mergeFrom payload (columnOf t (numbered (now (own .entry)) c)) (columnOf t (numbered (now (marks .entry)) d))) ×
+        (r .emitted ≡ q.mergeEmitted payload (columnOf t (numbered (now (own .entry)) c)) (columnOf t (numbered (now (marks .entry)) d))) ×
+        (r .any ≡ q.mergeAny payload (columnOf t (numbered (now (own .entry)) c)) (columnOf t (numbered (now (marks .entry)) d)))) ⌝ }
+    ensures { λ r. ⌜ Fine (length (now (own .entry))) (now (own .exit)) (r .column .len) ⌝ }
 {
     let low = d.lower;
     let upp = d.upper;
-    let mks = d.marks;
     let m0 = Merged {
         column: c,
         emitted: false,
@@ -226,7 +232,7 @@ pub fn merge_from(
     };
     let m1 = merge_lower(m0, low);
     let m2 = merge_upper(m1, upp);
-    let mut m = merge_marks(kinds, values, starts, counts, pool, m2, &mks, d.len);
+    let mut m = merge_marks(kinds, values, starts, counts, pool, own, m2, marks, d.len);
     m.any = m.emitted | m.any;
     m
 }

@@ -1,15 +1,16 @@
 // Resolving the excluded values, the allowed lists and the disallowed values against the final bounds.
 ghost use mathlib.Core.Path.{_≡_};
 ghost use mathlib.Core.Bool.{true, false, cond};
+ghost use mathlib.Core.List.{List};
 ghost use mathlib.Core.Option.{none, some};
-ghost use Prim.Native.Nat.{_<_};
-ghost use lib.ListN.{getD};
+ghost use Prim.Native.Nat.{ℕ, _≤_, _<_};
+ghost use lib.ListN.{length, getD};
 ghost use Rattle.truth.specs.Order.{isEqual};
 ghost use Rattle.constraints.specs.Bound.{at};
 ghost use Rattle.constraints.specs.Column as q;
 ghost use Rattle.constraints.specs.Resolve as z;
 ghost use Rattle.constraints.specs.Payload.{payload};
-ghost use Rattle.columns.specs.Abstraction.{Conjuncts, conjuncts, columnOf, boundOf, fixedOf, Fine};
+ghost use Rattle.columns.specs.Abstraction.{Conjuncts, conjuncts, numbered, columnOf, boundOf, fixedOf, Fine};
 ghost use Rattle.columns.specs.Steps.{Lists, applyExcluded, stepExcluded, stepMark, stepMarks, begun};
 ghost use Rattle.constraints.specs.declared.column.ExcludedResolution.the-variants.{Keep};
 ghost use Rattle.constraints.specs.declared.column.ExcludedResolution.the-variants.{TightenLower};
@@ -21,6 +22,7 @@ use crate::column::ColumnConstraints;
 use crate::column::check_bound_consistency;
 use crate::column::is_null;
 use crate::marks::any_allowed;
+use crate::marks::copied;
 use crate::marks::disallows;
 use crate::marks::has_kind;
 use crate::marks::insert_excluded;
@@ -132,7 +134,7 @@ fn fixed_at(l: Bound, u: Bound) -> FixedValue
 
 /// The value that the bounds pin the column to.
 pub fn fixed_value(c: ColumnConstraints) -> FixedValue
-    ensures { λ r. ⌜ ((t : Conjuncts) → fixedOf r ≡ z.fixedValue payload (columnOf t c)) ⌝ }
+    ensures { λ r. ⌜ ((t : Conjuncts) (a : List ℕ) → fixedOf r ≡ z.fixedValue payload (columnOf t (numbered a c))) ⌝ }
 {
     let low = c.lower;
     let upp = c.upper;
@@ -141,7 +143,7 @@ pub fn fixed_value(c: ColumnConstraints) -> FixedValue
 
 /// What becomes of the excluded value e under the column's bounds.
 pub fn classify_excluded(c: ColumnConstraints, e: Scalar) -> ExcludedResolution
-    ensures { λ r. ⌜ ((t : Conjuncts) → r ≡ z.classifyExcluded payload (columnOf t c) (e .0)) ⌝ }
+    ensures { λ r. ⌜ ((t : Conjuncts) (a : List ℕ) → r ≡ z.classifyExcluded payload (columnOf t (numbered a c)) (e .0)) ⌝ }
 {
     let low = c.lower;
     let upp = c.upper;
@@ -149,16 +151,14 @@ pub fn classify_excluded(c: ColumnConstraints, e: Scalar) -> ExcludedResolution
 }
 
 fn open_lower(c: ColumnConstraints, v: Scalar) -> ColumnConstraints
-    ensures { λ r. ⌜ ((t : Conjuncts) → columnOf t r ≡ q.setLower (at false (v .0)) (columnOf t c)) ⌝ }
-    ensures { λ r. ⌜ (r .marks ≡ c .marks) × (r .len ≡ c .len) ⌝ }
+    ensures { λ r. ⌜ ((t : Conjuncts) (a : List ℕ) → columnOf t (numbered a r) ≡ q.setLower (at false (v .0)) (columnOf t (numbered a c))) ⌝ }
+    ensures { λ r. ⌜ r .len ≡ c .len ⌝ }
 {
     let upp = c.upper;
-    let mks = c.marks;
     let nul = c.nullability;
     ColumnConstraints {
         lower: Bound::Open(v),
         upper: upp,
-        marks: mks,
         len: c.len,
         strict: c.strict,
         nullability: nul,
@@ -167,16 +167,14 @@ fn open_lower(c: ColumnConstraints, v: Scalar) -> ColumnConstraints
 }
 
 fn open_upper(c: ColumnConstraints, v: Scalar) -> ColumnConstraints
-    ensures { λ r. ⌜ ((t : Conjuncts) → columnOf t r ≡ q.setUpper (at false (v .0)) (columnOf t c)) ⌝ }
-    ensures { λ r. ⌜ (r .marks ≡ c .marks) × (r .len ≡ c .len) ⌝ }
+    ensures { λ r. ⌜ ((t : Conjuncts) (a : List ℕ) → columnOf t (numbered a r) ≡ q.setUpper (at false (v .0)) (columnOf t (numbered a c))) ⌝ }
+    ensures { λ r. ⌜ r .len ≡ c .len ⌝ }
 {
     let low = c.lower;
-    let mks = c.marks;
     let nul = c.nullability;
     ColumnConstraints {
         lower: low,
         upper: Bound::Open(v),
-        marks: mks,
         len: c.len,
         strict: c.strict,
         nullability: nul,
@@ -184,67 +182,83 @@ fn open_upper(c: ColumnConstraints, v: Scalar) -> ColumnConstraints
     }
 }
 
-fn apply_excluded(kinds: &[u8], values: &[u64], c: ColumnConstraints, j: u8) -> ColumnConstraints
-    requires { ⌜ Fine (c .marks) (c .len) × (j < 128) × (getD (now kinds) j 0 ≡ 0) ⌝ }
+fn apply_excluded(
+    kinds: &[u8],
+    values: &[u64],
+    own: &mut [u8],
+    c: ColumnConstraints,
+    j: u8,
+) -> ColumnConstraints
+    requires { ⌜ Fine (length (now own)) (now own) (c .len) × (j < length (now own)) × (getD (now kinds) j 0 ≡ 0) ⌝ }
     ensures { λ r. ⌜ ((t : Conjuncts) → t .kinds ≡ now (kinds .entry) → t .values ≡ now (values .entry) →
-        columnOf t r ≡ applyExcluded (getD (now (values .entry)) j 0) (columnOf t c)) ⌝ }
-    ensures { λ r. ⌜ Fine (r .marks) (r .len) ⌝ }
+        columnOf t (numbered (now (own .exit)) r) ≡ applyExcluded (getD (now (values .entry)) j 0) (columnOf t (numbered (now (own .entry)) c))) ⌝ }
+    ensures { λ r. ⌜ Fine (length (now (own .entry))) (now (own .exit)) (r .len) ⌝ }
 {
     let v = literal_at(values, j);
     let f = classify_excluded(c, v);
     match f {
         ExcludedResolution::Drop => c,
-        ExcludedResolution::Keep => insert_excluded(kinds, values, c, j),
+        ExcludedResolution::Keep => insert_excluded(kinds, values, own, c, j),
         ExcludedResolution::TightenLower => open_lower(c, v),
         ExcludedResolution::TightenUpper => open_upper(c, v),
     }
 }
 
 // One excluded value. A range found empty takes no further one.
-fn step_excluded(kinds: &[u8], values: &[u64], c: ColumnConstraints, j: u8) -> ColumnConstraints
-    requires { ⌜ Fine (c .marks) (c .len) × (j < 128) × (getD (now kinds) j 0 ≡ 0) ⌝ }
+fn step_excluded(
+    kinds: &[u8],
+    values: &[u64],
+    own: &mut [u8],
+    c: ColumnConstraints,
+    j: u8,
+) -> ColumnConstraints
+    requires { ⌜ Fine (length (now own)) (now own) (c .len) × (j < length (now own)) × (getD (now kinds) j 0 ≡ 0) ⌝ }
     ensures { λ r. ⌜ ((t : Conjuncts) → t .kinds ≡ now (kinds .entry) → t .values ≡ now (values .entry) →
-        columnOf t r ≡ stepExcluded (getD (now (values .entry)) j 0) (columnOf t c)) ⌝ }
-    ensures { λ r. ⌜ Fine (r .marks) (r .len) ⌝ }
+        columnOf t (numbered (now (own .exit)) r) ≡ stepExcluded (getD (now (values .entry)) j 0) (columnOf t (numbered (now (own .entry)) c))) ⌝ }
+    ensures { λ r. ⌜ Fine (length (now (own .entry))) (now (own .exit)) (r .len) ⌝ }
 {
     if c.unsat {
         return c;
     }
-    let d = apply_excluded(kinds, values, c, j);
+    let d = apply_excluded(kinds, values, own, c, j);
     check_bound_consistency(d)
 }
 
-fn step_mark(kinds: &[u8], values: &[u64], c: ColumnConstraints, j: u8) -> ColumnConstraints
-    requires { ⌜ Fine (c .marks) (c .len) × (j < 128) ⌝ }
+fn step_mark(
+    kinds: &[u8],
+    values: &[u64],
+    own: &mut [u8],
+    c: ColumnConstraints,
+    j: u8,
+) -> ColumnConstraints
+    requires { ⌜ Fine (length (now own)) (now own) (c .len) × (j < length (now own)) ⌝ }
     ensures { λ r. ⌜ ((t : Conjuncts) → t .kinds ≡ now (kinds .entry) → t .values ≡ now (values .entry) →
-        columnOf t r ≡ stepMark t j (columnOf t c)) ⌝ }
-    ensures { λ r. ⌜ Fine (r .marks) (r .len) ⌝ }
+        columnOf t (numbered (now (own .exit)) r) ≡ stepMark t j (columnOf t (numbered (now (own .entry)) c))) ⌝ }
+    ensures { λ r. ⌜ Fine (length (now (own .entry))) (now (own .exit)) (r .len) ⌝ }
 {
     let k = byte(kinds, j as usize);
     if k == 0 {
-        return step_excluded(kinds, values, c, j);
+        return step_excluded(kinds, values, own, c, j);
     }
     if k == 1 {
-        return insert_list(c, j);
+        return insert_list(own, c, j);
     }
     if k == 2 {
-        return insert_list(c, j);
+        return insert_list(own, c, j);
     }
     c
 }
 
 fn begin_walk(c: ColumnConstraints) -> ColumnConstraints
-    ensures { λ r. ⌜ ((t : Conjuncts) → columnOf t r ≡ begun (columnOf t c)) ⌝ }
+    ensures { λ r. ⌜ ((t : Conjuncts) (a : List ℕ) → columnOf t (numbered a r) ≡ begun (columnOf t (numbered a c))) ⌝ }
     ensures { λ r. ⌜ r .len ≡ 0 ⌝ }
 {
     let low = c.lower;
     let upp = c.upper;
-    let mks = c.marks;
     let nul = c.nullability;
     ColumnConstraints {
         lower: low,
         upper: upp,
-        marks: mks,
         len: 0,
         strict: c.strict,
         nullability: nul,
@@ -256,54 +270,54 @@ fn begin_walk(c: ColumnConstraints) -> ColumnConstraints
 fn step_marks(
     kinds: &[u8],
     values: &[u64],
+    own: &mut [u8],
     c0: ColumnConstraints,
     marks: &[u8],
     n: usize,
 ) -> ColumnConstraints
-    requires { ⌜ Fine (c0 .marks) (c0 .len) × Fine (now marks) n ⌝ }
+    requires { ⌜ Fine (length (now own)) (now own) (c0 .len) × Fine (length (now own)) (now marks) n ⌝ }
     ensures { λ r. ⌜ ((t : Conjuncts) → t .kinds ≡ now (kinds .entry) → t .values ≡ now (values .entry) →
-        columnOf t r ≡ stepMarks t (now (marks .entry)) n (columnOf t c0)) ⌝ }
-    ensures { λ r. ⌜ Fine (r .marks) (r .len) ⌝ }
+        columnOf t (numbered (now (own .exit)) r) ≡ stepMarks t (now (marks .entry)) n (columnOf t (numbered (now (own .entry)) c0))) ⌝ }
+    ensures { λ r. ⌜ Fine (length (now (own .entry))) (now (own .exit)) (r .len) ⌝ }
 {
     let mut c = c0;
     let mut i: usize = 0;
     while i < n {
         let j = byte(marks, i);
-        c = step_mark(kinds, values, c, j);
+        c = step_mark(kinds, values, own, c, j);
         i += 1;
     }
     c
 }
 
-pub fn has_value_constraint(kinds: &[u8], c: ColumnConstraints) -> bool
-    ensures { λ r. ⌜ ((t : Conjuncts) → t .kinds ≡ now (kinds .entry) → r ≡ z.hasValueConstraint (columnOf t c)) ⌝ }
+pub fn has_value_constraint(kinds: &[u8], marks: &[u8], c: ColumnConstraints) -> bool
+    ensures { λ r. ⌜ ((t : Conjuncts) → t .kinds ≡ now (kinds .entry) → r ≡ z.hasValueConstraint (columnOf t (numbered (now (marks .entry)) c))) ⌝ }
 {
     let low = c.lower;
     let upp = c.upper;
-    let mks = c.marks;
     if !is_absent(low) {
         return true;
     }
     if !is_absent(upp) {
         return true;
     }
-    if has_kind(kinds, &mks, c.len, 0) {
+    if has_kind(kinds, marks, c.len, 0) {
         return true;
     }
-    if has_kind(kinds, &mks, c.len, 1) {
+    if has_kind(kinds, marks, c.len, 1) {
         return true;
     }
     c.strict
 }
 
-fn null_conflict(kinds: &[u8], c: ColumnConstraints) -> bool
-    ensures { λ r. ⌜ ((t : Conjuncts) → t .kinds ≡ now (kinds .entry) → r ≡ z.nullConflict (columnOf t c)) ⌝ }
+fn null_conflict(kinds: &[u8], marks: &[u8], c: ColumnConstraints) -> bool
+    ensures { λ r. ⌜ ((t : Conjuncts) → t .kinds ≡ now (kinds .entry) → r ≡ z.nullConflict (columnOf t (numbered (now (marks .entry)) c))) ⌝ }
 {
     let nul = c.nullability;
     if !is_null(nul) {
         return false;
     }
-    has_value_constraint(kinds, c)
+    has_value_constraint(kinds, marks, c)
 }
 
 fn fixed_disallowed(
@@ -311,16 +325,16 @@ fn fixed_disallowed(
     starts: &[u32],
     counts: &[u32],
     pool: &[u8],
+    marks: &[u8],
     c: ColumnConstraints,
 ) -> bool
     ensures { λ r. ⌜ ((t : Conjuncts) → Lists t (now (kinds .entry)) (now (starts .entry)) (now (counts .entry))
-        (now (pool .entry)) → r ≡ z.fixedDisallowed payload (columnOf t c) (z.fixedValue payload (columnOf t c))) ⌝ }
+        (now (pool .entry)) → r ≡ z.fixedDisallowed payload (columnOf t (numbered (now (marks .entry)) c)) (z.fixedValue payload (columnOf t (numbered (now (marks .entry)) c)))) ⌝ }
 {
-    let mks = c.marks;
     let f = fixed_value(c);
     match f {
         FixedValue::Nothing => false,
-        FixedValue::At(v) => disallows(kinds, starts, counts, pool, &mks, c.len, v),
+        FixedValue::At(v) => disallows(kinds, starts, counts, pool, marks, c.len, v),
     }
 }
 
@@ -331,17 +345,18 @@ fn with_lists(
     starts: &[u32],
     counts: &[u32],
     pool: &[u8],
+    marks: &[u8],
     mut c: ColumnConstraints,
 ) -> ColumnConstraints
     ensures { λ r. ⌜ (let t = conjuncts (now (kinds .entry)) (now (values .entry)) (now (starts .entry))
-        (now (counts .entry)) (now (pool .entry)) in columnOf t r ≡ z.withLists payload (columnOf t c)) ⌝ }
-    ensures { λ r. ⌜ (r .marks ≡ c .marks) × (r .len ≡ c .len) ⌝ }
+        (now (counts .entry)) (now (pool .entry)) in columnOf t (numbered (now (marks .entry)) r) ≡ z.withLists payload (columnOf t (numbered (now (marks .entry)) c))) ⌝ }
+    ensures { λ r. ⌜ r .len ≡ c .len ⌝ }
 {
     if c.unsat {
         return c;
     }
-    let a = any_allowed(kinds, values, starts, counts, pool, c);
-    let p = fixed_disallowed(kinds, starts, counts, pool, c);
+    let a = any_allowed(kinds, values, starts, counts, pool, marks, c);
+    let p = fixed_disallowed(kinds, starts, counts, pool, marks, c);
     c.unsat = !a | p;
     c
 }
@@ -352,17 +367,18 @@ pub fn resolve_deferred(
     starts: &[u32],
     counts: &[u32],
     pool: &[u8],
+    own: &mut [u8],
     c: ColumnConstraints,
 ) -> ColumnConstraints
-    requires { ⌜ Fine (c .marks) (c .len) ⌝ }
+    requires { ⌜ Fine (length (now own)) (now own) (c .len) × (length (now own) ≤ 128) ⌝ }
     ensures { λ r. ⌜ (let t = conjuncts (now (kinds .entry)) (now (values .entry)) (now (starts .entry))
-        (now (counts .entry)) (now (pool .entry)) in columnOf t r ≡ z.resolveDeferred payload (columnOf t c)) ⌝ }
-    ensures { λ r. ⌜ Fine (r .marks) (r .len) ⌝ }
+        (now (counts .entry)) (now (pool .entry)) in columnOf t (numbered (now (own .exit)) r) ≡ z.resolveDeferred payload (columnOf t (numbered (now (own .entry)) c))) ⌝ }
+    ensures { λ r. ⌜ Fine (length (now (own .entry))) (now (own .exit)) (r .len) ⌝ }
 {
-    let conflict = null_conflict(kinds, c);
-    let mks = c.marks;
+    let conflict = null_conflict(kinds, own, c);
+    let old = copied(own, c.len);
     let w = begin_walk(c);
-    let mut d = step_marks(kinds, values, w, &mks, c.len);
+    let mut d = step_marks(kinds, values, own, w, &old, c.len);
     d.unsat = c.unsat | (conflict | d.unsat);
-    with_lists(kinds, values, starts, counts, pool, d)
+    with_lists(kinds, values, starts, counts, pool, own, d)
 }

@@ -8,14 +8,15 @@ use native.Mathlib.Numerals.{add-one}
 use lib.ListN.{length, getD, set, length-set, length-append}
 use lib.Seq.{getD-set-same, getD-set-other}
 use lib.Dec.{eqb}
-use borrow.Author.Tests.{eqb-true, eqb-false}
+use borrow.Author.Tests.{eqb-true, eqb-false, ne-eqb}
 use Rattle.records.proofs.Laws.{by-test, cond-yes}
 use Rattle.constraints.specs.Column as q
-use Rattle.columns.specs.Abstraction.{Conjuncts, columnOf, Fine}
+use Rattle.columns.specs.Abstraction.{Conjuncts, numbered, columnOf, Fine}
 use Rattle.columns.specs.declared.column.ColumnConstraints.{ColumnConstraints}
 use Rattle.merge.specs.Collect.{isIn, enter, update}
 use Rattle.rewrite.specs.Walk.{firstOf}
-use Rattle.filter_constraint.specs.State.{pastColumn, Shows, Entered, Keeps, Edges, edgesOf}
+use Rattle.stages.specs.Rows.{stride, rowOf, RowsKept}
+use Rattle.filter_constraint.specs.State.{pastColumn, columnAt, Shows, Entered, Keeps, Edges, edgesOf}
 
 -- ---- the first entries of an array
 pub first-kept : (a : List ℕ) (i v n : ℕ) → n ≤ i → firstOf (set a i v) n ≡ firstOf a n
@@ -130,19 +131,20 @@ module _ (order : List ℕ) (columns : ℕ) (seen : List Bool) (l : List ℕ) (a
 
 -- ---- a column stored
 pub shows-set :
-    (t : Conjuncts) (table : List ColumnConstraints) (T : ℕ → q.ColumnConstraints ℕ) (a : ℕ) (c : ColumnConstraints)
-    (x : q.ColumnConstraints ℕ) → Shows t table T → a < 64 → columnOf t c ≡ x → Fine (c .marks) (c .len) →
-    Shows t (set table a c) (update T a x)
-shows-set t table T a c x S la e f =
+    (t : Conjuncts) (table : List ColumnConstraints) (ms ms′ : List ℕ) (T : ℕ → q.ColumnConstraints ℕ) (a : ℕ)
+    (c : ColumnConstraints) (x : q.ColumnConstraints ℕ) → Shows t table ms T → a < 64 → RowsKept ms ms′ a
+    → columnOf t (numbered (rowOf ms′ a) c) ≡ x → Fine (stride ms′) (rowOf ms′ a) (c .len)
+    → Shows t (set table a c) ms′ (update T a x)
+shows-set t table ms ms′ T a c x S la K e f =
     record {
       size = length-set table a c ∙ S .size;
       column = λ b lb. by-test (eqb a b)
-          (λ h. ap (λ d. columnOf t (getD (set table a c) d pastColumn)) (sym (eqb-true a b h)) ∙ ap (columnOf t) same
-          ∙ e ∙ sym (cond-yes (eqb a b) x (T b) h))
-          (λ h. rw (other b h, h) (S .column b lb));
+          (λ h. ap (λ d. columnOf t (columnAt (set table a c) ms′ d)) (sym (eqb-true a b h))
+          ∙ ap (λ d. columnOf t (numbered (rowOf ms′ a) d)) same ∙ e ∙ sym (cond-yes (eqb a b) x (T b) h))
+          (λ h. rw (other b h, h, K .others b lb h) (S .column b lb));
       fine = λ b lb. by-test (eqb a b)
           (λ h. rw (← eqb-true a b h, same) f)
-          (λ h. rw (other b h) (S .fine b lb));
+          (λ h. rw (other b h, K .others b lb h, K .size) (S .fine b lb));
     }
   where
     same : getD (set table a c) a pastColumn ≡ c
@@ -151,6 +153,11 @@ shows-set t table T a c x S la e f =
     other : (b : ℕ) → eqb a b ≡ false → getD (set table a c) b pastColumn ≡ getD table b pastColumn
     other b h =
         let d : (b ≡ a → ⊥) = λ p. eqb-false a b h (sym p) in getD-set-other table a b c pastColumn d
+
+-- The other columns' numbers, once a row was written.
+pub rows-fine : (ms ms′ : List ℕ) (y x n : ℕ) → RowsKept ms ms′ y → x < 64 → (y ≡ x → ⊥)
+    → Fine (stride ms) (rowOf ms x) n → Fine (stride ms′) (rowOf ms′ x) n
+rows-fine ms ms′ y x n K l h f = rw (K .others x l (ne-eqb y x h), K .size) f
 
 -- ---- an edge more
 edges-kept : (x y z : List ℕ) (i a b n m : ℕ) → m ≤ i

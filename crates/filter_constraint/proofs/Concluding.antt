@@ -29,7 +29,8 @@ use Rattle.rewrite.specs.Walk.{firstOf}
 use Rattle.rewrite.specs.Written.{chainAt, andsTo}
 use Rattle.stages.specs.Reckon.{reckoned, reckonedAnswer}
 use Rattle.stages.specs.Rewritten.{isRewritten}
-use Rattle.filter_constraint.specs.State.{pastColumn, Table, Shows, Entered, Keeps, Edges, edgesOf, Collects, collectTo}
+use Rattle.stages.specs.Rows.{stride, rowOf}
+use Rattle.filter_constraint.specs.State.{pastColumn, columnAt, Table, Shows, Entered, Keeps, Edges, edgesOf, Collects, collectTo}
 use Rattle.filter_constraint.specs.State.{Passed, Kept, resolveAll, resolvedIn, Resolved, shown, Written}
 use Rattle.stages.proofs.Answers.{chain-written, chain-unwritten}
 use Rattle.rewrite.proofs.Walks.{first-length}
@@ -80,30 +81,30 @@ ended-stopped R nodes i n b l e h y =
     conclude-stopped R nodes n b (e ∙ ap (λ s. s .unsat) (collect-end R nodes i n b l e h)) y
 
 -- ---- The ends of the loops behind collecting.
-module _ (t : Conjuncts) (table₁ table₂ table₃ : List ColumnConstraints) (seen : List Bool) (order : List ℕ)
+module _ (t : Conjuncts) (table₁ table₂ table₃ : List ColumnConstraints) (ms₁ ms₂ ms₃ : List ℕ) (seen : List Bool) (order : List ℕ)
     (columns : ℕ) (kept₁ : List ℕ) (keeps₁ : ℕ) (kept : List ℕ) (keeps : ℕ) (lefts rights equals : List ℕ)
     (edges bounds : ℕ) (stop : Bool) (s : Collected ℕ)
-    (C : Collects t table₁ seen order columns kept₁ keeps₁ lefts rights equals edges bounds stop s)
+    (C : Collects t table₁ ms₁ seen order columns kept₁ keeps₁ lefts rights equals edges bounds stop s)
     (p : ℕ) (emitted going : Bool)
-    (passed : (T : Table) → Shows t table₁ T
-    → Passed t table₂ (edgesOf lefts rights equals edges) columns p emitted going T)
+    (passed : (T : Table) → Shows t table₁ ms₁ T
+    → Passed t table₂ ms₂ (edgesOf lefts rights equals edges) columns p emitted going T)
     (lp : p ≤ columns) (tp : (ltb p columns && going) ≡ false) (e : ℕ) (dropped : Bool) (ee : e ≡ edges)
-    (keeping : (T : Table) (l rights : List ℕ) → Shows t table₂ T → Keeps kept₁ keeps₁ l
+    (keeping : (T : Table) (l rights : List ℕ) → Shows t table₂ ms₂ T → Keeps kept₁ keeps₁ l
     → Kept T (edgesOf lefts rights equals e) kept keeps dropped l)
     (o : ℕ) (unsat : Bool) (total : ℕ) (eo : o ≡ columns)
-    (resolving : (T : Table) → Shows t table₂ T → Resolved t table₃ (firstOf order o) stop unsat total T) where
+    (resolving : (T : Table) → Shows t table₂ ms₂ T → Resolved t table₃ ms₃ (firstOf order o) stop unsat total T) where
   columns-are : columns ≡ length (s .order)
   columns-are = sym (first-length order columns) ∙ ap length (C .entered .listed)
 
-  at-end : Shows t table₂ (propagate payload columns (edgesOf lefts rights equals edges) (s .constraints))
+  at-end : Shows t table₂ ms₂ (propagate payload columns (edgesOf lefts rights equals edges) (s .constraints))
       × (emitted ≡ propagateEmitted payload columns (edgesOf lefts rights equals edges) (s .constraints))
   at-end =
-      passed-end t table₂ (edgesOf lefts rights equals edges) columns p emitted going (s .constraints) lp tp
+      passed-end t table₂ ms₂ (edgesOf lefts rights equals edges) columns p emitted going (s .constraints) lp tp
       (passed (s .constraints) (C .shows))
 
-  spread-shown : Shows t table₂ (propagated payload s)
+  spread-shown : Shows t table₂ ms₂ (propagated payload s)
   spread-shown =
-      subst (Shows t table₂)
+      subst (Shows t table₂ ms₂)
       (ap (λ k. propagate payload k (edgesOf lefts rights equals edges) (s .constraints)) columns-are
       ∙ ap (λ es. propagate payload (length (s .order)) es (s .constraints)) (C .linked .listed)) (at-end .0)
 
@@ -116,7 +117,7 @@ module _ (t : Conjuncts) (table₁ table₂ table₃ : List ColumnConstraints) (
   K : Kept (propagated payload s) (edgesOf lefts rights equals e) kept keeps dropped (s .opaque)
   K = keeping (propagated payload s) (s .opaque) rights spread-shown (C .keeping)
 
-  Q : Resolved t table₃ (firstOf order o) stop unsat total (propagated payload s)
+  Q : Resolved t table₃ ms₃ (firstOf order o) stop unsat total (propagated payload s)
   Q = resolving (propagated payload s) spread-shown
 
   edges-are : edgesOf lefts rights equals e ≡ s .edges
@@ -138,10 +139,10 @@ module _ (t : Conjuncts) (table₁ table₂ table₃ : List ColumnConstraints) (
 
   -- what the array of resolved columns is written out as
   written-comparisons :
-      comparisons payload (firstOf order columns) (shown t table₃) ≡
+      comparisons payload (firstOf order columns) (shown t table₃ ms₃) ≡
       comparisons payload (s .order) (resolved payload s)
   written-comparisons =
-      comparisons-agree order (shown t table₃) (resolved payload s) columns
+      comparisons-agree order (shown t table₃ ms₃) (resolved payload s) columns
       (λ w h. Q .shows .column (getD order w 0) (C .entered .low w h)
       ∙ ap (λ b. cond b (resolved payload s (getD order w 0)) (propagated payload s (getD order w 0)))
       (in-first order w o (rw eo h)))
@@ -150,10 +151,10 @@ module _ (t : Conjuncts) (table₁ table₂ table₃ : List ColumnConstraints) (
   resolved-count : total ≡ length (comparisons payload (s .order) (resolved payload s))
   resolved-count = Q .counted ∙ ap (λ l. length (comparisons payload l (resolved payload s))) order-is
 
-  pub total-is : total ≡ length (comparisons payload (firstOf order columns) (shown t table₃))
+  pub total-is : total ≡ length (comparisons payload (firstOf order columns) (shown t table₃ ms₃))
   total-is = resolved-count ∙ ap length (sym written-comparisons)
 
-  pub resolved-fine : (a : ℕ) → a < 64 → Fine (getD table₃ a pastColumn .marks) (getD table₃ a pastColumn .len)
+  pub resolved-fine : (a : ℕ) → a < 64 → Fine (stride ms₃) (rowOf ms₃ a) (getD table₃ a pastColumn .len)
   resolved-fine = Q .shows .fine
 
   rewrites-is : (ltb total bounds || (emitted || dropped)) ≡ rewrites payload s
@@ -177,7 +178,7 @@ module _ (t : Conjuncts) (table₁ table₂ table₃ : List ColumnConstraints) (
 
   pub conclude-rebuilt : unsat ≡ false → not (ltb total bounds || (emitted || dropped)) ≡ false
       → conclude payload s ≡
-      Rebuilt (firstOf kept keeps) (comparisons payload (firstOf order columns) (shown t table₃))
+      Rebuilt (firstOf kept keeps) (comparisons payload (firstOf order columns) (shown t table₃ ms₃))
   conclude-rebuilt h r =
       outcome-by s false true (sym unsat-is ∙ h)
       (sym rewrites-is ∙ not-false (ltb total bounds || (emitted || dropped)) r)
@@ -253,18 +254,18 @@ column-room t used order w columns T sent rs u total keeps l W et room =
 -- What `write_column` asks for the column at place x of the array.
 pub column-asked :
     (t : List ℕ) (used : ℕ) (order : List ℕ) (w columns : ℕ) (s : Conjuncts) (table : List ColumnConstraints)
-    (sent rs : List ℕ) (u total keeps x : ℕ)
+    (ms sent rs : List ℕ) (u total keeps x : ℕ)
     → w < columns → getD order w 0 < 64 → x ≡ getD order w 0 % 64
-    → Written t used sent (comparisons payload (firstOf order w) (shown s table)) u rs
-    → total ≡ length (comparisons payload (firstOf order columns) (shown s table))
+    → Written t used sent (comparisons payload (firstOf order w) (shown s table ms)) u rs
+    → total ≡ length (comparisons payload (firstOf order columns) (shown s table ms))
     → (used + 3 * total + (keeps + total - 1) ≤ 4096) × (16 * (used + 3 * total + (keeps + total - 1)) ≤ length sent)
     × (0 < keeps + total)
     → (u ≤ 4096) × ((s′ : Conjuncts) → s′ .kinds ≡ s .kinds → s′ .values ≡ s .values
-    → 16 * (u + 3 * length (collectColumnComparisons payload (columnOf s′ (getD table x pastColumn)))) ≤ length rs)
-column-asked t used order w columns s table sent rs u total keeps x l la ex W et room =
-    let r = column-room t used order w columns (shown s table) sent rs u total keeps l W et room in
+    → 16 * (u + 3 * length (collectColumnComparisons payload (columnOf s′ (columnAt table ms x)))) ≤ length rs)
+column-asked t used order w columns s table ms sent rs u total keeps x l la ex W et room =
+    let r = column-room t used order w columns (shown s table ms) sent rs u total keeps l W et room in
     let p : x ≡ getD order w 0 = low-slot (getD order w 0) x la ex in
-    (r .0, λ s′ ek ev. rw (p, same-comparisons s′ s (getD table (getD order w 0) pastColumn) ek ev) (r .1))
+    (r .0, λ s′ ek ev. rw (p, same-comparisons s′ s (columnAt table ms (getD order w 0)) ek ev) (r .1))
 
 -- All columns written.
 pub written-all : (t : List ℕ) (used : ℕ) (order : List ℕ) (w columns : ℕ) (T : Table) (sent rs : List ℕ) (u : ℕ)

@@ -17,22 +17,23 @@ use Rattle.constraints.specs.Comparisons.{ColumnComparison, IsLower, IsUpper, I
 use Rattle.constraints.specs.Comparisons.{collectBy, collectColumnComparisons}
 use Rattle.constraints.specs.Payload.{payload}
 use Rattle.constraints.specs.Resolve.{fixedAt, resolveDeferred}
-use Rattle.columns.specs.Abstraction.{Conjuncts, columnOf, excludedBy, gather, ofKind, Fine}
+use Rattle.columns.specs.Abstraction.{Conjuncts, Numbered, numbered, columnOf, excludedBy, gather, ofKind, Fine}
 use Rattle.columns.specs.declared.column.ColumnConstraints.{ColumnConstraints}
 use Rattle.columns.proofs.Pigeon.{few}
 use Rattle.merge.specs.Collect.{isIn, update}
 use Rattle.merge.specs.Emit.{ofColumn, anyUnsat, comparisons}
 use Rattle.merge.specs.Write.{writeComparison, writeComparisons}
 use Rattle.rewrite.specs.Walk.{firstOf}
-use Rattle.filter_constraint.specs.State.{pastColumn, Table, Shows, resolveAll, resolvedIn, Resolved, shown, Written}
+use Rattle.stages.specs.Rows.{stride, rowOf, RowsKept}
+use Rattle.filter_constraint.specs.State.{pastColumn, columnAt, Table, Shows, resolveAll, resolvedIn, Resolved, shown, Written}
 use Rattle.stages.proofs.Emitting.{of-column-length, write-append}
 use Rattle.filter_constraint.proofs.Arrays.{shows-set, is-in-snoc, low-slot}
 use Rattle.filter_constraint.proofs.Propagating.{or-assoc}
 
 -- a table that agrees on the columns
-shows-agree : (t : Conjuncts) (table : List ColumnConstraints) (T U : Table) → ((a : ℕ) → T a ≡ U a) → Shows t table T
-    → Shows t table U
-shows-agree t table T U e S = record { size = S .size; column = λ a h. S .column a h ∙ e a; fine = S .fine }
+shows-agree : (t : Conjuncts) (table : List ColumnConstraints) (ms : List ℕ) (T U : Table) → ((a : ℕ) → T a ≡ U a)
+    → Shows t table ms T → Shows t table ms U
+shows-agree t table ms T U e S = record { size = S .size; column = λ a h. S .column a h ∙ e a; fine = S .fine }
 
 -- ---- a column behind the others
 unsat-snoc : (l : List ℕ) (a : ℕ) (T : Table) → anyUnsat (l ++ (a ∷ [])) T ≡ (anyUnsat l T || T a .unsat)
@@ -132,9 +133,9 @@ upper-few : (x : b.Bound ℕ) → length (ofBound IsUpper x) ≤ 1
 upper-few b.absent = omega arith
 upper-few (b.at i v) = omega arith
 
-pub column-few : (t : Conjuncts) (c : ColumnConstraints) → Fine (c .marks) (c .len)
+pub column-few : (t : Conjuncts) (c : Numbered) (k : ℕ) → Fine k (c .marks) (c .len) → k ≤ 128
     → length (collectColumnComparisons payload (columnOf t c)) ≤ 130
-column-few t c f = go (fixedAt payload (columnOf t c .lower) (columnOf t c .upper))
+column-few t c k f l128 = go (fixedAt payload (columnOf t c .lower) (columnOf t c .upper))
   where
     go : (o : Option ℕ) → length (collectBy o (columnOf t c)) ≤ 130
     go (some v) = omega arith
@@ -144,29 +145,30 @@ column-few t c f = go (fixedAt payload (columnOf t c .lower) (columnOf t c .uppe
         let r = length-append (ofBound IsUpper (columnOf t c .upper)) (map IsNotEq (columnOf t c .excluded)) in
         let e = excluded-length (columnOf t c .excluded) in
         let x = excluded-few (t .kinds) (t .values) (c .marks) (c .len) in
-        let n = few (c .marks) (c .len) f in
+        let n = few k (c .marks) (c .len) f in
         let l = lower-few (columnOf t c .lower) in
         let u = upper-few (columnOf t c .upper) in
-        omega (arith, p, r, e, x, n, l, u)
+        omega (arith, p, r, e, x, n, l, u, l128)
 
 -- ---- resolving, column by column
-pub resolved-none : (t : Conjuncts) (table : List ColumnConstraints) (order : List ℕ) (held : Bool) (T : Table)
-    → Shows t table T → Resolved t table (firstOf order 0) held held 0 T
+pub resolved-none : (t : Conjuncts) (table : List ColumnConstraints) (ms : List ℕ) (order : List ℕ) (held : Bool)
+    (T : Table) → Shows t table ms T → Resolved t table ms (firstOf order 0) held held 0 T
 unfolding firstOf
-resolved-none t table order held T S = record { shows = S; stops = sym (or-false held); counted = refl }
+resolved-none t table ms order held T S = record { shows = S; stops = sym (or-false held); counted = refl }
 
-module _ (t : Conjuncts) (table : List ColumnConstraints) (order : List ℕ) (o : ℕ) (held unsat : Bool) (total : ℕ)
-    (T : Table) (P : Resolved t table (firstOf order o) held unsat total T) where
+module _ (t : Conjuncts) (table : List ColumnConstraints) (ms ms′ : List ℕ) (order : List ℕ) (o : ℕ)
+    (held unsat : Bool) (total : ℕ) (T : Table) (P : Resolved t table ms (firstOf order o) held unsat total T) where
   abbrev a : ℕ
   a = getD order o 0
 
   at-a : (c : ColumnConstraints) (k : ℕ) → a < 64 → isIn a (firstOf order o) ≡ false
-      → columnOf t c ≡ resolveDeferred payload (columnOf t (getD table a pastColumn)) → Fine (c .marks) (c .len)
-      → k ≡ length (collectColumnComparisons payload (columnOf t c))
-      → Resolved t (set table a c) (firstOf order (o + 1)) held (unsat || c .unsat) (total + k) T
+      → columnOf t (numbered (rowOf ms′ a) c) ≡ resolveDeferred payload (columnOf t (columnAt table ms a))
+      → Fine (stride ms′) (rowOf ms′ a) (c .len) → RowsKept ms ms′ a
+      → k ≡ length (collectColumnComparisons payload (columnOf t (numbered (rowOf ms′ a) c)))
+      → Resolved t (set table a c) ms′ (firstOf order (o + 1)) held (unsat || c .unsat) (total + k) T
   unfolding firstOf
-  at-a c k la new ec f ek =
-      let e : columnOf t c ≡ resolveDeferred payload (T a) =
+  at-a c k la new ec f K ek =
+      let e : columnOf t (numbered (rowOf ms′ a) c) ≡ resolveDeferred payload (T a) =
       ec ∙ ap (resolveDeferred payload) (P .shows .column a la
       ∙ ap (λ x. cond x (resolveDeferred payload (T a)) (T a)) new) in
       let m : length (comparisons payload (firstOf order (o + 1)) (resolveAll T)) ≡
@@ -177,10 +179,10 @@ module _ (t : Conjuncts) (table : List ColumnConstraints) (order : List ℕ) (o 
       ek ∙ ap (λ x. length (collectColumnComparisons payload x)) e in
       let p = P .counted in
       record {
-        shows = subst (λ l. Shows t (set table a c) (resolvedIn l T)) (ap (firstOf order) (sym (add-one o)))
-            (shows-agree t (set table a c) (update (resolvedIn (firstOf order o) T) a (resolveDeferred payload (T a)))
+        shows = subst (λ l. Shows t (set table a c) ms′ (resolvedIn l T)) (ap (firstOf order) (sym (add-one o)))
+            (shows-agree t (set table a c) ms′ (update (resolvedIn (firstOf order o) T) a (resolveDeferred payload (T a)))
             (resolvedIn (firstOf order o ++ (a ∷ [])) T) agree
-            (shows-set t table (resolvedIn (firstOf order o) T) a c (resolveDeferred payload (T a)) (P .shows) la e f));
+            (shows-set t table ms ms′ (resolvedIn (firstOf order o) T) a c (resolveDeferred payload (T a)) (P .shows) la K e f));
         stops =
             ap (λ x. x || c .unsat) (P .stops)
             ∙ ap (λ x. (held || anyUnsat (firstOf order o) (resolveAll T)) || x) (ap (λ x. x .unsat) e)
@@ -205,12 +207,13 @@ module _ (t : Conjuncts) (table : List ColumnConstraints) (order : List ℕ) (o 
           eq-self n = by-test (eqb n n) (λ h. h) (λ h. absurd (eqb-false n n h refl))
 
   pub resolved-more : (x : ℕ) (c : ColumnConstraints) (k : ℕ) → a < 64 → isIn a (firstOf order o) ≡ false → x ≡ a % 64
-      → columnOf t c ≡ resolveDeferred payload (columnOf t (getD table x pastColumn)) → Fine (c .marks) (c .len)
-      → k ≡ length (collectColumnComparisons payload (columnOf t c))
-      → Resolved t (set table x c) (firstOf order (o + 1)) held (unsat || c .unsat) (total + k) T
-  resolved-more x c k la new ex ec f ek =
+      → columnOf t (numbered (rowOf ms′ x) c) ≡ resolveDeferred payload (columnOf t (columnAt table ms x))
+      → Fine (stride ms′) (rowOf ms′ x) (c .len) → RowsKept ms ms′ x
+      → k ≡ length (collectColumnComparisons payload (columnOf t (numbered (rowOf ms′ x) c)))
+      → Resolved t (set table x c) ms′ (firstOf order (o + 1)) held (unsat || c .unsat) (total + k) T
+  resolved-more x c k la new ex ec f K ek =
       let p : x ≡ a = low-slot a x la ex in
-      rw p (at-a c k la new (rw p at ec) f ek)
+      rw p (at-a c k la new (rw p at ec) (rw p at f) (rw p at K) (rw p at ek))
 
 -- ---- writing, column by column
 pub written-none : (t : List ℕ) (used : ℕ) (order : List ℕ) (T : Table) (rs : List ℕ)
@@ -219,28 +222,29 @@ unfolding firstOf
 written-none t used order T rs = record { end = omega arith; bytes = refl; size = refl }
 
 pub written-more :
-    (t : List ℕ) (used : ℕ) (order : List ℕ) (w : ℕ) (s : Conjuncts) (table : List ColumnConstraints) (x u u′ : ℕ)
+    (t : List ℕ) (used : ℕ) (order : List ℕ) (w : ℕ) (s : Conjuncts) (table : List ColumnConstraints) (ms : List ℕ)
+    (x u u′ : ℕ)
     (rs₀ rs rs′ : List ℕ)
-    → Written t used rs₀ (comparisons payload (firstOf order w) (shown s table)) u rs
+    → Written t used rs₀ (comparisons payload (firstOf order w) (shown s table ms)) u rs
     → getD order w 0 < 64 → x ≡ getD order w 0 % 64
-    → u′ ≡ u + 3 * length (collectColumnComparisons payload (columnOf s (getD table x pastColumn)))
+    → u′ ≡ u + 3 * length (collectColumnComparisons payload (columnOf s (columnAt table ms x)))
     → rs′ ≡ writeComparisons t u (ofColumn (getD order w 0) (collectColumnComparisons payload
-    (columnOf s (getD table x pastColumn)))) rs
+    (columnOf s (columnAt table ms x)))) rs
     → length rs′ ≡ length rs
-    → Written t used rs₀ (comparisons payload (firstOf order (w + 1)) (shown s table)) u′ rs′
+    → Written t used rs₀ (comparisons payload (firstOf order (w + 1)) (shown s table ms)) u′ rs′
 unfolding firstOf
-written-more t used order w s table x u u′ rs₀ rs rs′ W la ex eu er el =
+written-more t used order w s table ms x u u′ rs₀ rs rs′ W la ex eu er el =
     let p : x ≡ a = low-slot a x la ex in
-    let m = comparisons-more order w (shown s table) in
+    let m = comparisons-more order w (shown s table ms) in
     let e = W .end in
-    let g : u′ ≡ u + 3 * length (collectColumnComparisons payload (shown s table a)) = rw p at eu in
+    let g : u′ ≡ u + 3 * length (collectColumnComparisons payload (shown s table ms a)) = rw p at eu in
     record {
       end = omega (arith, m, e, g);
       bytes = (rw p at er)
-          ∙ ap (λ v. writeComparisons t v (ofColumn a (collectColumnComparisons payload (shown s table a))) rs) (W .end)
-          ∙ ap (writeComparisons t (used + 3 * length cs) (ofColumn a (collectColumnComparisons payload (shown s table a))))
+          ∙ ap (λ v. writeComparisons t v (ofColumn a (collectColumnComparisons payload (shown s table ms a))) rs) (W .end)
+          ∙ ap (writeComparisons t (used + 3 * length cs) (ofColumn a (collectColumnComparisons payload (shown s table ms a))))
           (W .bytes)
-          ∙ sym (write-append t used cs (ofColumn a (collectColumnComparisons payload (shown s table a))) rs₀)
+          ∙ sym (write-append t used cs (ofColumn a (collectColumnComparisons payload (shown s table ms a))) rs₀)
           ∙ ap (λ l. writeComparisons t used l rs₀) (sym snoc-at);
       size = el ∙ W .size;
     }
@@ -249,14 +253,14 @@ written-more t used order w s table x u u′ rs₀ rs rs′ W la ex eu er el =
     a = getD order w 0
 
     cs : List (ℕ × ColumnComparison ℕ)
-    cs = comparisons payload (firstOf order w) (shown s table)
+    cs = comparisons payload (firstOf order w) (shown s table ms)
 
-    snoc-at : comparisons payload (firstOf order (w + 1)) (shown s table) ≡
-        cs ++ ofColumn a (collectColumnComparisons payload (shown s table a))
-    snoc-at = rw (add-one) (comparisons-snoc (firstOf order w) a (shown s table))
+    snoc-at : comparisons payload (firstOf order (w + 1)) (shown s table ms) ≡
+        cs ++ ofColumn a (collectColumnComparisons payload (shown s table ms a))
+    snoc-at = rw (add-one) (comparisons-snoc (firstOf order w) a (shown s table ms))
 
 -- the comparisons read kinds and values only
-pub same-comparisons : (s s′ : Conjuncts) (c : ColumnConstraints) → s .kinds ≡ s′ .kinds → s .values ≡ s′ .values
+pub same-comparisons : (s s′ : Conjuncts) (c : Numbered) → s .kinds ≡ s′ .kinds → s .values ≡ s′ .values
     → collectColumnComparisons payload (columnOf s c) ≡ collectColumnComparisons payload (columnOf s′ c)
 same-comparisons s s′ c ek ev = go (fixedAt payload (columnOf s c .lower) (columnOf s c .upper))
   where

@@ -12,7 +12,7 @@ use Rattle.constraints.specs.Comparisons.{ColumnComparison}
 use Rattle.constraints.specs.Payload.{payload}
 use Rattle.constraints.specs.Resolve.{resolveDeferred}
 use Rattle.constraints.specs.declared.column.Nullability.the-variants.{Unconstrained}
-use Rattle.columns.specs.Abstraction.{Conjuncts, columnOf, Fine}
+use Rattle.columns.specs.Abstraction.{Conjuncts, Numbered, numbered, columnOf, Fine}
 use Rattle.columns.specs.declared.bound.Bound.the-variants.{Absent}
 use Rattle.columns.specs.declared.column.ColumnConstraints.{ColumnConstraints}
 use Rattle.merge.specs.Collect.{Collected, begin, collect, isIn}
@@ -20,6 +20,7 @@ use Rattle.merge.specs.Propagate.{pass, passAny, passEmitted, propagate, propag
 use Rattle.merge.specs.Emit.{keptEqualities, droppedEquality, anyUnsat, comparisons}
 use Rattle.merge.specs.Write.{writeComparisons}
 use Rattle.rewrite.specs.Walk.{firstOf}
+use Rattle.stages.specs.Rows.{stride, rowOf}
 
 -- What a read past an array of columns gives.
 abbrev pub pastColumn : ColumnConstraints
@@ -27,7 +28,6 @@ pastColumn =
     record {
       lower = Absent;
       upper = Absent;
-      marks = [];
       len = 0;
       strict = false;
       nullability = Unconstrained;
@@ -37,11 +37,16 @@ pastColumn =
 abbrev pub Table : Type 0
 Table = ℕ → q.ColumnConstraints ℕ
 
--- The array stands for the table T, by column numbers.
-pub record Shows (t : Conjuncts) (table : List ColumnConstraints) (T : ℕ → q.ColumnConstraints ℕ) : Type 0 where
+-- The column at place a of the array, with its row of numbers.
+abbrev pub columnAt : List ColumnConstraints → List ℕ → ℕ → Numbered
+columnAt table marks a = numbered (rowOf marks a) (getD table a pastColumn)
+
+-- The two arrays stand for the table T, by column numbers.
+pub record Shows (t : Conjuncts) (table : List ColumnConstraints) (marks : List ℕ) (T : ℕ → q.ColumnConstraints ℕ)
+    : Type 0 where
   pub size : length table ≡ 64
-  pub column : (a : ℕ) → a < 64 → columnOf t (getD table a pastColumn) ≡ T a
-  pub fine : (a : ℕ) → a < 64 → Fine (getD table a pastColumn .marks) (getD table a pastColumn .len)
+  pub column : (a : ℕ) → a < 64 → columnOf t (columnAt table marks a) ≡ T a
+  pub fine : (a : ℕ) → a < 64 → Fine (stride marks) (rowOf marks a) (getD table a pastColumn .len)
 
 -- The columns that entered, in their order, and a flag for each that did.
 pub record Entered (order : List ℕ) (columns : ℕ) (seen : List Bool) (l : List ℕ) : Type 0 where
@@ -72,10 +77,10 @@ pub record Edges (lefts rights equals : List ℕ) (edges : ℕ) (l : List (ℕ �
   pub low-right : (e : ℕ) → e < edges → getD rights e 0 < 64
 
 -- ---- Collect: the arrays stand for what was collected.
-pub record Collects (t : Conjuncts) (table : List ColumnConstraints) (seen : List Bool) (order : List ℕ) (columns : ℕ)
+pub record Collects (t : Conjuncts) (table : List ColumnConstraints) (marks : List ℕ) (seen : List Bool) (order : List ℕ) (columns : ℕ)
     (kept : List ℕ) (keeps : ℕ) (lefts rights equals : List ℕ) (edges bounds : ℕ) (unsat : Bool)
     (s : Collected ℕ) : Type 0 where
-  pub shows : Shows t table (s .constraints)
+  pub shows : Shows t table marks (s .constraints)
   pub entered : Entered order columns seen (s .order)
   pub keeping : Keeps kept keeps (s .opaque)
   pub linked : Edges lefts rights equals edges (s .edges)
@@ -87,16 +92,16 @@ unfoldable pub collectTo : (ℕ → AExpr ℕ) → List ℕ → ℕ → Collecte
 collectTo R nodes i = collect payload (map (classify R) (firstOf nodes i)) begin
 
 -- ---- Propagate: a pass as far as its edges es, over the table that the array stood for when it began.
-pub record Merged (t : Conjuncts) (table : List ColumnConstraints) (es : List (ℕ × ℕ × ℕ)) (held emitted any : Bool)
+pub record Merged (t : Conjuncts) (table : List ColumnConstraints) (marks : List ℕ) (es : List (ℕ × ℕ × ℕ)) (held emitted any : Bool)
     (T : ℕ → q.ColumnConstraints ℕ) : Type 0 where
-  pub shows : Shows t table (pass payload es T)
+  pub shows : Shows t table marks (pass payload es T)
   pub emits : emitted ≡ (held || passEmitted payload es T)
   pub changes : any ≡ passAny payload es T
 
 -- After p passes of at most n; what is left to do gives what all give.
-pub record Passed (t : Conjuncts) (table : List ColumnConstraints) (es : List (ℕ × ℕ × ℕ)) (n p : ℕ)
+pub record Passed (t : Conjuncts) (table : List ColumnConstraints) (marks : List ℕ) (es : List (ℕ × ℕ × ℕ)) (n p : ℕ)
     (emitted going : Bool) (T : ℕ → q.ColumnConstraints ℕ) : Type 0 where
-  pub shows : Shows t table (passTimes payload p es T)
+  pub shows : Shows t table marks (passTimes payload p es T)
   pub left :
       cond going (propagate payload (n - p) es (passTimes payload p es T)) (passTimes payload p es T) ≡
       propagate payload n es T
@@ -118,16 +123,16 @@ resolveAll T a = resolveDeferred payload (T a)
 abbrev pub resolvedIn : List ℕ → Table → Table
 resolvedIn l T a = cond (isIn a l) (resolveDeferred payload (T a)) (T a)
 
-pub record Resolved (t : Conjuncts) (table : List ColumnConstraints) (l : List ℕ) (held unsat : Bool) (total : ℕ)
+pub record Resolved (t : Conjuncts) (table : List ColumnConstraints) (marks : List ℕ) (l : List ℕ) (held unsat : Bool) (total : ℕ)
     (T : ℕ → q.ColumnConstraints ℕ) : Type 0 where
-  pub shows : Shows t table (resolvedIn l T)
+  pub shows : Shows t table marks (resolvedIn l T)
   pub stops : unsat ≡ (held || anyUnsat l (resolveAll T))
   pub counted : total ≡ length (comparisons payload l (resolveAll T))
 
 -- ---- Write: the table that an array of resolved columns stands for, and the records' bytes with its comparisons cs
 -- written from record `used` on.
-abbrev pub shown : Conjuncts → List ColumnConstraints → Table
-shown t table a = columnOf t (getD table a pastColumn)
+abbrev pub shown : Conjuncts → List ColumnConstraints → List ℕ → Table
+shown t table marks a = columnOf t (columnAt table marks a)
 
 pub record Written (t : List ℕ) (used : ℕ) (sent : List ℕ) (cs : List (ℕ × ColumnComparison ℕ)) (u : ℕ)
     (rs : List ℕ) : Type 0 where

@@ -15,11 +15,9 @@ ghost use Rattle.rewrite.specs.Walk.{firstOf};
 ghost use Rattle.rewrite.specs.Told.{ToldConjunct};
 ghost use Rattle.stages.specs.Columns.{ColumnsBelow};
 ghost use Rattle.stages.specs.Reckon.{reckonedAnswer};
+ghost use Rattle.stages.specs.Rows.{stride};
 use columns::column::empty;
 use columns::column::require_nullability;
-use columns::comparisons::comparison_count;
-use columns::merging::merge_from;
-use columns::resolve::resolve_deferred;
 use constraints::column::Nullability;
 use merge::rewrite::RewriteAnswer;
 use records::record::Column;
@@ -27,31 +25,35 @@ use records::record::Node;
 use rewrite::classify::Conjunct;
 use rewrite::classify::classify;
 use rewrite::write::write_ands;
-use stages::add::add_says;
 use stages::emit::is_fixed;
-use stages::emit::write_column;
 use stages::fields::bump;
 use stages::fields::is_rewritten;
 use stages::fields::slot;
 use stages::reckon::nothing_passes;
 use stages::reckon::rebuilt_answer;
+use stages::rows::add_in_row;
+use stages::rows::count_row;
+use stages::rows::merge_rows;
+use stages::rows::resolve_row;
+use stages::rows::write_row;
 
 /// The first n of `nodes` are the screen's conjuncts; kinds, values, starts and counts are their tables, `trees` the
-/// tree counts of the used records.
+/// tree counts of the records up to the root. `marks` has room for the columns' numbers: 64 rows, n of them in each.
 pub fn merge_filter_constraints(
     t: &[u8],
     rs: &mut [u8],
     p: &[u8],
     used: u32,
-    trees: &[u16; 4096],
-    nodes: &[u32; 128],
+    trees: &[u16],
+    nodes: &[u32],
     n: usize,
-    kinds: &[u8; 128],
-    values: &[u64; 128],
-    starts: &[u32; 128],
-    counts: &[u32; 128],
+    kinds: &[u8],
+    values: &[u64],
+    starts: &[u32],
+    counts: &[u32],
+    marks: &mut [u8],
 ) -> RewriteAnswer
-    requires { ⌜ (n ≤ 128) × (used ≤ 4096) ⌝ }
+    requires { ⌜ (n ≤ stride (now marks)) × (stride (now marks) ≤ 128) × (used ≤ 4096) × (n ≤ length (now nodes)) ⌝ }
     requires { ⌜ ((i : ℕ) → i < n → ToldConjunct (conjuncts (now kinds) (now values) (now starts) (now counts) (now p)) i
         (classify (aexprOf (now rs) (now p)) (getD (now nodes) i 0))) ⌝ }
     requires { ⌜ ((i : ℕ) → i < n → ColumnsBelow 64 (classify (aexprOf (now rs) (now p)) (getD (now nodes) i 0))) ⌝ }
@@ -86,7 +88,7 @@ pub fn merge_filter_constraints(
                 order[columns] = a.0;
                 columns = bump(seen[x], columns);
                 seen[x] = true;
-                let c = add_says(kinds, values, starts, counts, p, table[x], j, s);
+                let c = add_in_row(kinds, values, starts, counts, p, marks, x, table[x], j, s);
                 table[x] = c;
                 unsat = c.unsat;
                 bounds += 1;
@@ -116,7 +118,7 @@ pub fn merge_filter_constraints(
                 order[columns] = a.0;
                 columns = bump(seen[x], columns);
                 seen[x] = true;
-                let c = add_says(kinds, values, starts, counts, p, table[x], j, s);
+                let c = add_in_row(kinds, values, starts, counts, p, marks, x, table[x], j, s);
                 table[x] = c;
                 unsat = stops & c.unsat;
                 kept[keeps] = node;
@@ -164,10 +166,10 @@ pub fn merge_filter_constraints(
                 continue;
             }
             let c = table[x];
-            let right = merge_from(kinds, values, starts, counts, p, table[y], c);
+            let right = merge_rows(kinds, values, starts, counts, p, marks, y, table[y], x, c);
             let d = right.column;
             table[y] = d;
-            let left = merge_from(kinds, values, starts, counts, p, c, d);
+            let left = merge_rows(kinds, values, starts, counts, p, marks, x, c, y, d);
             let f = left.column;
             table[x] = f;
             emitted = emitted | (right.emitted | left.emitted);
@@ -191,10 +193,10 @@ pub fn merge_filter_constraints(
     let mut o: usize = 0;
     while o < columns {
         let x = slot(Column(order[o]));
-        let c = resolve_deferred(kinds, values, starts, counts, p, table[x]);
+        let c = resolve_row(kinds, values, starts, counts, p, marks, x, table[x]);
         table[x] = c;
         unsat = unsat | c.unsat;
-        total = total + comparison_count(kinds, c);
+        total = total + count_row(kinds, marks, x, c);
         o += 1;
     }
     if unsat {
@@ -212,7 +214,7 @@ pub fn merge_filter_constraints(
     while w < columns {
         let a = Column(order[w]);
         let x = slot(a);
-        u = write_column(t, rs, u, a, kinds, values, table[x]);
+        u = write_row(t, rs, u, a, kinds, values, marks, x, table[x]);
         w += 1;
     }
     write_ands(rs, &kept, keeps, used, keeps + total, u);

@@ -226,3 +226,32 @@ pub fn inputs_of(r: Record) -> Inputs
         Record::IsIn(_, x, list) => Inputs::Two(x, list),
     }
 }
+
+// The inputs of record n, whose sixteen bytes are there: only the words that its kind names are read.
+fn inputs_in(rs: &[u8], n: Node) -> Inputs
+    requires { ⌜ 16 * n .0 + 15 < length (now rs) ⌝ }
+    ensures { λ i. ⌜ listOf i ≡ inputs (recordAt (now (rs .entry)) n) ⌝ }
+{
+    let at = 16 * (n.0 as usize);
+    let kind = rs[at];
+    match kind {
+        4 | 10 => Inputs::Two(Node(word_in(rs, at + 4)), Node(word_in(rs, at + 8))),
+        5 | 6 | 7 => Inputs::One(Node(word_in(rs, at + 4))),
+        8 => Inputs::Three(
+            Node(word_in(rs, at + 4)),
+            Node(word_in(rs, at + 8)),
+            Node(word_in(rs, at + 12)),
+        ),
+        _ => Inputs::Zero,
+    }
+}
+
+// The inputs of record n, without decoding the rest of it.
+pub fn inputs_at(rs: &[u8], n: Node) -> Inputs
+    ensures { λ i. ⌜ listOf i ≡ inputs (recordAt (now (rs .entry)) n) ⌝ }
+{
+    if 16 * (n.0 as usize) + 15 < rs.len() {
+        return inputs_in(rs, n);
+    }
+    inputs_of(record_at(rs, n))
+}

@@ -39,7 +39,7 @@ pub list-long : (p : List ℕ) (start count : ℕ) → 100 < count
     → Other ≡ cond (leb (length (valuesFrom p start count)) 100) (AList (valuesFrom p start count)) Other
 list-long p start count h = rw (values-length p start count, lt-leb count 100 h)
 
-no-operand : (o : Operator) (x y : ℕ) → Other ≡ operand (binaryExpr o x y)
+pub no-operand : (o : Operator) (x y : ℕ) → Other ≡ operand (binaryExpr o x y)
 no-operand operator.Eq x y = refl
 no-operand operator.EqValidity x y = refl
 no-operand operator.NotEq x y = refl

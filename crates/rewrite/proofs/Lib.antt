@@ -1,4 +1,5 @@
 pub mod Walks
 pub mod Classifying
+pub mod Reading
 pub mod Writing
 pub mod Telling

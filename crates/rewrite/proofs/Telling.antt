@@ -1,25 +1,34 @@
 -- The tables say what the conjuncts say.
 use mathlib.Core.Path.{_≡_, refl, sym, _∙_, ap, subst}
-use mathlib.Core.Bool.{Bool, true, false}
+use mathlib.Core.Bool.{Bool, true, false, not, _&&_, true≢false}
 use mathlib.Core.List.{List, [], _∷_}
-use Prim.Native.Nat.{ℕ, _+_, _≤_, _<_}
+use Prim.Native.Nat.{ℕ, zero, suc, _+_, _*_, _≤_, _<_}
 use native.Mathlib.Omega.{arith}
 use lib.Dec.{eqb}
-use lib.ListN.{length, getD, set}
+use lib.ListN.{length, getD, set, drop}
 use lib.Seq.{getD-set-same, getD-set-other}
-use borrow.Author.Tests.{eqb-true, eqb-false}
-use Rattle.records.proofs.Laws.{by-test}
+use borrow.Author.Tests.{eqb-true, eqb-false, not-true}
+use Rattle.records.specs.Bytes.{word}
+use Rattle.records.specs.Operator.{operators, operatorAt}
+use Rattle.records.specs.declared.operator.Operator.{Operator}
+use Rattle.records.specs.declared.operator.Operator.the-variants as operator
+use Rattle.records.specs.declared.record.Node.{Node}
+use Rattle.records.proofs.Laws.{by-test, and-left, and-right}
 use Rattle.truth.specs.FromBytes.{valuesFrom, aexprOf}
 use Rattle.constraints.specs.Column.{Constraint, Lower, Upper, Exclude, Allow, Disallow, Require}
 use Rattle.columns.specs.Abstraction.{Conjuncts, conjuncts, listOf, marked, Fine}
 use Rattle.merge.specs.Classify as c
-use Rattle.rewrite.specs.Read.{saysIn, conjunctIn}
+use Rattle.rewrite.specs.Read.{saysIn, conjunctIn, operationOf, compared, columnLiteral, columnColumn}
+use Rattle.rewrite.specs.Read.{swappedOperation}
 use Rattle.rewrite.specs.Told.{saidBy, kindOf, literalOf, startOf, countOf, Holds, Told, ToldConjunct}
 use Rattle.rewrite.specs.declared.classify.Comparison.the-variants.{Eq, NotEq, Lt, LtEq, Gt, GtEq}
+use Rattle.rewrite.specs.declared.classify.Operation.{Operation}
+use Rattle.rewrite.specs.declared.classify.Operation.the-variants as operation
 use Rattle.rewrite.specs.declared.classify.Says.{Says}
 use Rattle.rewrite.specs.declared.classify.Says.the-variants as says
 use Rattle.rewrite.specs.declared.classify.Conjunct.{Conjunct}
 use Rattle.rewrite.specs.declared.classify.Conjunct.the-variants as conjunct
+use Rattle.rewrite.proofs.Reading.{binary-read}
 
 list-told : (ss cs p : List ℕ) (j start count : ℕ) → getD ss j 0 ≡ start → getD cs j 0 ≡ count
     → listOf ss cs p j ≡ valuesFrom p start count
@@ -88,15 +97,15 @@ filled-none rs nodes ks vs ss cs p m h = absurd (omega arith)
 
 -- One node more.
 pub filled-more : (rs nodes ks vs ss cs : List ℕ) (i : ℕ) (k : Conjunct) (s : Says) (a b d e : ℕ)
-    → length ks ≡ 128 → length vs ≡ 128 → length ss ≡ 128 → length cs ≡ 128 → i < 128
+    → i < length ks → i < length vs → i < length ss → i < length cs
     → ((p : List ℕ) → conjunctIn p (getD nodes i 0) k ≡ c.classify (aexprOf rs p) (getD nodes i 0))
     → s ≡ saidBy k → a ≡ kindOf s → b ≡ literalOf s → d ≡ startOf s → e ≡ countOf s → Filled rs nodes ks vs ss cs i
     → Filled rs nodes (set ks i a) (set vs i b) (set ss i d) (set cs i e) (i + 1)
-filled-more rs nodes ks vs ss cs i k s a b d e lk lv ls lc h ek es ea eb ed ee f p m w =
+filled-more rs nodes ks vs ss cs i k s a b d e lk lv ls lc ek es ea eb ed ee f p m w =
     by-test (eqb m i) here-now before
   where
-    at : (l : List ℕ) (x : ℕ) → length l ≡ 128 → getD (set l i x) i 0 ≡ x
-    at l x q = let r : i < length l = omega (arith, q, h) in getD-set-same l i x 0 r
+    at : (l : List ℕ) (x : ℕ) → i < length l → getD (set l i x) i 0 ≡ x
+    at l x q = getD-set-same l i x 0 q
 
     here-now : eqb m i ≡ true → ToldConjunct (conjuncts (set ks i a) (set vs i b) (set ss i d) (set cs i e) p) m
         (c.classify (aexprOf rs p) (getD nodes m 0))
@@ -116,6 +125,97 @@ filled-more rs nodes ks vs ss cs i k s a b d e lk lv ls lc h ek es ea eb ed ee f
         (getD-set-other ks i m a 0 z) (getD-set-other vs i m b 0 z) (getD-set-other ss i m d 0 z)
         (getD-set-other cs i m e 0 z) (c.classify (aexprOf rs p) (getD nodes m 0)) (f p m (omega (arith, z, w)))
 
--- A column with the same numbers.
-pub fine-same : (a b : List ℕ) (n m : ℕ) → (b ≡ a) × (m ≡ n) → Fine a n → Fine b m
-fine-same a b n m e f = subst (λ l. Fine l m) (sym (e .0)) (subst (Fine a) (sym (e .1)) f)
+-- ---- A binary record whose operator is not != excludes no value and has no list: its place in the tables may hold
+-- anything.
+abbrev excludes : Operation → Bool
+excludes (operation.Compare Eq) = false
+excludes (operation.Compare NotEq) = true
+excludes (operation.Compare Lt) = false
+excludes (operation.Compare LtEq) = false
+excludes (operation.Compare Gt) = false
+excludes (operation.Compare GtEq) = false
+excludes operation.Other = false
+excludes operation.Missing = false
+
+abbrev noneExcludes : List Operator → Bool
+noneExcludes [] = true
+noneExcludes (o ∷ l) = not (excludes (operationOf o)) && noneExcludes l
+
+quiet-in : (l : List Operator) (n : ℕ) → noneExcludes l ≡ true → excludes (operationOf (getD l n operator.Eq)) ≡ false
+quiet-in [] n h = refl
+quiet-in (o ∷ l) zero h = not-true (excludes (operationOf o)) (and-left (not (excludes (operationOf o))) (noneExcludes l) h)
+quiet-in (o ∷ l) (suc n) h = quiet-in l n (and-right (not (excludes (operationOf o))) (noneExcludes l) h)
+
+quiet-code : (code : ℕ) → (code ≡ 2 → ⊥) → excludes (operationOf (operatorAt code)) ≡ false
+unfolding operatorAt
+quiet-code zero h = refl
+quiet-code (suc zero) h = refl
+quiet-code (suc (suc zero)) h = absurd (h refl)
+quiet-code (suc (suc (suc n))) h = quiet-in (drop 3 operators) n refl
+
+module _ (t : Conjuncts) (j n : ℕ) where
+  quiet-literal : (a v : ℕ) (op : Operation) → excludes op ≡ false → ToldConjunct t j (columnLiteral n a v op)
+  quiet-literal a v (operation.Compare Eq) h = (tt, (tt, tt))
+  quiet-literal a v (operation.Compare NotEq) h = absurd (true≢false h)
+  quiet-literal a v (operation.Compare Lt) h = (tt, tt)
+  quiet-literal a v (operation.Compare LtEq) h = (tt, tt)
+  quiet-literal a v (operation.Compare Gt) h = (tt, tt)
+  quiet-literal a v (operation.Compare GtEq) h = (tt, tt)
+  quiet-literal a v operation.Other h = tt
+  quiet-literal a v operation.Missing h = tt
+
+  quiet-columns : (a b : ℕ) (op : Operation) → ToldConjunct t j (columnColumn n a b op)
+  quiet-columns a b (operation.Compare Eq) = tt
+  quiet-columns a b (operation.Compare NotEq) = tt
+  quiet-columns a b (operation.Compare Lt) = tt
+  quiet-columns a b (operation.Compare LtEq) = tt
+  quiet-columns a b (operation.Compare Gt) = tt
+  quiet-columns a b (operation.Compare GtEq) = tt
+  quiet-columns a b operation.Other = tt
+  quiet-columns a b operation.Missing = tt
+
+  quiet-swapped : (op : Operation) → excludes op ≡ false → excludes (swappedOperation op) ≡ false
+  quiet-swapped (operation.Compare Eq) h = refl
+  quiet-swapped (operation.Compare NotEq) h = h
+  quiet-swapped (operation.Compare Lt) h = refl
+  quiet-swapped (operation.Compare LtEq) h = refl
+  quiet-swapped (operation.Compare Gt) h = refl
+  quiet-swapped (operation.Compare GtEq) h = refl
+  quiet-swapped operation.Other h = refl
+  quiet-swapped operation.Missing h = refl
+
+  quiet-compared : (op : Operation) (x y : c.Operand ℕ) → excludes op ≡ false → ToldConjunct t j (compared n op x y)
+  quiet-compared op (c.AColumn a) (c.AColumn b) h = quiet-columns a b op
+  quiet-compared op (c.AColumn a) (c.ALiteral v) h = quiet-literal a v op h
+  quiet-compared op (c.AColumn a) (c.AList l) h = tt
+  quiet-compared op (c.AColumn a) c.Other h = tt
+  quiet-compared op (c.ALiteral v) (c.AColumn a) h = quiet-literal a v (swappedOperation op) (quiet-swapped op h)
+  quiet-compared op (c.ALiteral v) (c.ALiteral w) h = tt
+  quiet-compared op (c.ALiteral v) (c.AList l) h = tt
+  quiet-compared op (c.ALiteral v) c.Other h = tt
+  quiet-compared op (c.AList l) y h = tt
+  quiet-compared op c.Other y h = tt
+
+pub quiet-told : (rs p : List ℕ) (n : Node) (t : Conjuncts) (j : ℕ) → getD rs (16 * n .0) 0 ≡ 4
+    → (getD rs (16 * n .0 + 1) 0 ≡ 2 → ⊥) → ToldConjunct t j (c.classify (aexprOf rs p) (n .0))
+quiet-told rs p n t j e h =
+    subst (ToldConjunct t j)
+    (binary-read rs n p (operationOf (operatorAt (getD rs (16 * n .0 + 1) 0))) (word rs (16 * n .0 + 4))
+    (word rs (16 * n .0 + 8)) (c.operand (aexprOf rs p (word rs (16 * n .0 + 4))))
+    (c.operand (aexprOf rs p (word rs (16 * n .0 + 8)))) e refl refl refl refl refl)
+    (quiet-compared t j (n .0) (operationOf (operatorAt (getD rs (16 * n .0 + 1) 0)))
+    (c.operand (aexprOf rs p (word rs (16 * n .0 + 4)))) (c.operand (aexprOf rs p (word rs (16 * n .0 + 8))))
+    (quiet-code (getD rs (16 * n .0 + 1) 0) h))
+
+-- One node more, whose place may hold anything.
+pub filled-skip : (rs nodes ks vs ss cs : List ℕ) (i : ℕ)
+    → ((t : Conjuncts) (p : List ℕ) (j : ℕ) → ToldConjunct t j (c.classify (aexprOf rs p) (getD nodes i 0)))
+    → Filled rs nodes ks vs ss cs i → Filled rs nodes ks vs ss cs (i + 1)
+filled-skip rs nodes ks vs ss cs i q f p m w = by-test (eqb m i)
+    (λ e. subst (λ k. ToldConjunct (conjuncts ks vs ss cs p) m (c.classify (aexprOf rs p) (getD nodes k 0)))
+    (sym (eqb-true m i e)) (q (conjuncts ks vs ss cs p) p m))
+    (λ e. let d = eqb-false m i e in f p m (omega (arith, w, d)))
+
+-- A column with as many numbers.
+pub fine-same : (k : ℕ) (a : List ℕ) (n m : ℕ) → m ≡ n → Fine k a n → Fine k a m
+fine-same k a n m e f = subst (Fine k a) (sym e) f

@@ -1,84 +1,31 @@
--- The walk in code: the table of counts, and the stack. The walk reads no pool, and no record past the root.
+-- The walk in code, and its stack. The walk reads no pool, and no record past the root.
 use mathlib.Core.Path.{_≡_, refl, sym, _∙_, ap, subst}
 use mathlib.Core.Bool.{Bool, true, false, cond}
 use mathlib.Core.List.{List, [], _∷_, _++_, append-assoc}
 use mathlib.Core.Option.{Option, none, some, Option·none-ne-some}
-use Prim.Native.Nat.{ℕ, zero, suc, _+_, _-_, _≤_, _<_, min}
+use Prim.Native.Nat.{ℕ, zero, suc, _+_, _-_, _≤_, _<_}
 use native.Mathlib.Omega.{arith}
 use native.Mathlib.Numerals.{add-one}
 use lib.ListN.{length, getD, set, length-append}
 use lib.Seq.{getD-set-same, getD-set-other}
-use lib.Dec.{ltb, eqb}
-use borrow.Author.Tests.{ltb-true, ltb-false, lt-ltb}
+use lib.Dec.{eqb}
+use borrow.Author.Tests.{lt-ltb}
 use Rattle.records.specs.Course.{upTo, course}
 use Rattle.records.specs.Record.{node, recordAt}
 use Rattle.records.specs.declared.record.Record.{Record}
 use Rattle.records.specs.declared.record.Record.the-variants as kind
-use Rattle.records.proofs.Courses.{course-top, upTo-below, upTo-off, course-map, course-agree}
-use Rattle.checking.proofs.Tables.{Filled}
-use Rattle.records.proofs.Laws.{by-test}
+use Rattle.records.proofs.Courses.{course-agree}
 use Rattle.truth.specs.AExpr.{AExpr, Inputs, Column, Literal, Null, BinaryExpr, Not, IsNull, IsNotNull, IsBetween}
 use Rattle.truth.specs.AExpr.{ListLiteral, IsIn, Missing}
 use Rattle.truth.specs.AExpr.{Compare, EqValidity, NotEqValidity, And, Or, Xor, LogicalAnd, LogicalOr}
 use Rattle.truth.specs.FromBytes.{toAExpr, aexprOf, aexprAt}
 use Rattle.merge.specs.Minterms.{andSides, minterms, mintermsBy, pending}
-use Rattle.rewrite.specs.Walk.{recordSides, walked, firstOf, stackOf, InputsBelow, countBy, countBelow}
+use Rattle.rewrite.specs.Walk.{recordSides, walked, firstOf, stackOf, InputsBelow}
 use Rattle.merge.proofs.Chains.{pending-and, pending-one}
-
--- ---- The count of conjuncts, by course of values.
-abbrev countRule : (ℕ → AExpr ℕ) → (ℕ → ℕ) → ℕ → ℕ
-countRule R below i = countBy below (andSides (R i))
-
-pub count-law : (R : ℕ → AExpr ℕ) (n : ℕ) → length (minterms R n) ≡ course (λ a. 1) (countRule R) n
-count-law R n =
-    course-map length (λ a. a ∷ []) (λ a. 1) (λ below i. mintermsBy i below (andSides (R i))) (countRule R) (suc n)
-    (λ a. refl) (λ m h C D e. go m C D e (andSides (R m))) n (omega arith)
-  where
-    go : (m : ℕ) (C : ℕ → List ℕ) (D : ℕ → ℕ) → ((a : ℕ) → length (C a) ≡ D a) → (o : Option (ℕ × ℕ))
-        → length (mintermsBy m C o) ≡ countBy D o
-    go m C D e none = refl
-    go m C D e (some s) = length-append (C (s .0)) (C (s .1)) ∙ rw (e (s .0), e (s .1))
-
--- What the table holds below n.
-count-below : (f : (ℕ → ℕ) → ℕ → ℕ) (l : List ℕ) (n : ℕ) → Filled (λ a. min (course (λ b. 1) f a) 129) l n
-    → (x : ℕ) → countBelow l n x ≡ min (upTo (λ b. 1) f n x) 129
-count-below f l n t x = by-test (ltb x n) low high
-  where
-    low : ltb x n ≡ true → countBelow l n x ≡ min (upTo (λ b. 1) f n x) 129
-    low e = rw (e, upTo-below (λ b. 1) f n x (ltb-true x n e)) (t x (ltb-true x n e))
-
-    high : ltb x n ≡ false → countBelow l n x ≡ min (upTo (λ b. 1) f n x) 129
-    high e = rw (e, upTo-off (λ b. 1) f n x (ltb-false x n e))
-
-count-cut : (C D : ℕ → ℕ) → ((x : ℕ) → D x ≡ min (C x) 129) → (o : Option (ℕ × ℕ))
-    → min (countBy D o) 129 ≡ min (countBy C o) 129
-count-cut C D h none = refl
-count-cut C D h (some s) =
-    let a : D (s .0) ≡ min (C (s .0)) 129 = h (s .0) in
-    let b : D (s .1) ≡ min (C (s .1)) 129 = h (s .1) in
-    omega (arith, a, b)
 
 pub walked-sides : (rs : List ℕ) (n : ℕ) → andSides (walked rs n) ≡ recordSides (recordAt rs (node n))
 unfolding aexprOf
 walked-sides rs n = refl
-
-filled-same : (g h : ℕ → ℕ) (l : List ℕ) (n : ℕ) → ((a : ℕ) → g a ≡ h a) → Filled g l n → Filled h l n
-filled-same g h l n e f a k = f a k ∙ e a
-
--- One turn of the loop over the counts.
-pub count-turn : (rs l : List ℕ) (n v : ℕ) → Filled (λ a. min (length (minterms (walked rs) a)) 129) l n
-    → v ≡ min (countBy (countBelow l n) (recordSides (recordAt rs (node n)))) 129
-    → v ≡ min (length (minterms (walked rs) n)) 129
-count-turn rs l n v t e =
-    e
-    ∙ count-cut (λ i. upTo (λ a. 1) (countRule (walked rs)) n i) (countBelow l n)
-    (count-below (countRule (walked rs)) l n
-    (filled-same (λ a. min (length (minterms (walked rs) a)) 129)
-    (λ a. min (course (λ b. 1) (countRule (walked rs)) a) 129) l n
-    (λ a. ap (λ k. min k 129) (count-law (walked rs) a)) t))
-    (recordSides (recordAt rs (node n)))
-    ∙ ap (λ o. min (countBy (λ i. upTo (λ a. 1) (countRule (walked rs)) n i) o) 129) (sym (walked-sides rs n))
-    ∙ ap (λ s. min s 129) (sym (course-top (λ a. 1) (countRule (walked rs)) n) ∙ sym (count-law (walked rs) n))
 
 -- ---- The walk is that of the used records.
 any-pool : (p : List ℕ) (r : Record) → andSides (toAExpr p r) ≡ recordSides r
@@ -281,36 +228,61 @@ depth-low R st depth room few =
     let d = stack-length st depth in
     omega (arith, c, d, few)
 
--- ---- `minterms`: those found, and what the stack still gives, are the root's.
-pub walk-begin : (R : ℕ → AExpr ℕ) (st nd : List ℕ) → (firstOf nd 0 ++ pending R (stackOf st 1)) ≡
-    minterms R (getD st 0 0)
+-- ---- `minterms`: those found, and what the top and the stack still give, are the root's.
+pub walk-begin : (R : ℕ → AExpr ℕ) (st nd : List ℕ) (root : ℕ)
+    → (firstOf nd 0 ++ pending R (root ∷ stackOf st 0)) ≡ minterms R root
 unfolding firstOf stackOf
-walk-begin R st nd = append-nil (minterms R (getD st 0 0))
+walk-begin R st nd root = append-nil (minterms R root)
 
-pub below-begin : (R : ℕ → AExpr ℕ) (st : List ℕ) → ((n : ℕ) → n ≤ getD st 0 0 → Inputs n (R n))
-    → InputsBelow R (stackOf st 1)
+pub below-begin : (R : ℕ → AExpr ℕ) (st : List ℕ) (root : ℕ) → ((n : ℕ) → n ≤ root → Inputs n (R n))
+    → InputsBelow R (root ∷ stackOf st 0)
 unfolding stackOf
-below-begin R st h = (h, tt)
+below-begin R st root h = (h, tt)
 
--- those found and those to come are at most 128
-pub walk-few : (R : ℕ → AExpr ℕ) (l st nd : List ℕ) (depth len : ℕ)
-    → (firstOf nd len ++ pending R (stackOf st depth)) ≡ l → length l ≤ 128
-    → len + length (pending R (stackOf st depth)) ≤ 128
-walk-few R l st nd depth len e few =
-    let a = length-append (firstOf nd len) (pending R (stackOf st depth)) in
-    let b : length (firstOf nd len ++ pending R (stackOf st depth)) ≡ length l = ap length e in
+-- Those found, and one at least of each node still to visit, are no more than the root's.
+walk-many : (R : ℕ → AExpr ℕ) (l nd s : List ℕ) (len : ℕ) → (firstOf nd len ++ pending R s) ≡ l
+    → len + length s ≤ length l
+walk-many R l nd s len e =
+    let a = length-append (firstOf nd len) (pending R s) in
+    let b : length (firstOf nd len ++ pending R s) ≡ length l = ap length e in
     let f = first-length nd len in
-    omega (arith, a, b, f, few)
+    let g = pending-long R s in
+    omega (arith, a, b, f, g)
 
-pub walk-turn : (l nd p q : List ℕ) (len n : ℕ) → len < length nd → (firstOf nd len ++ p) ≡ l → p ≡ (n ∷ q)
-    → (firstOf (set nd len n) (len + 1) ++ q) ≡ l
-walk-turn l nd p q len n room e f =
-    rw (first-more nd len n room)
-    (append-assoc (firstOf nd len) (n ∷ []) q ∙ ap (λ m. firstOf nd len ++ m) (sym f) ∙ e)
+module _ (rs st nd l : List ℕ) (depth len top : ℕ) (below : InputsBelow (walked rs) (top ∷ stackOf st depth))
+    (found : (firstOf nd len ++ pending (walked rs) (top ∷ stackOf st depth)) ≡ l) where
+  -- a conjunct at the top
+  module _ (room : len < length nd) (one : none ≡ recordSides (recordAt rs (node top))) where
+    walk-one : (firstOf (set nd len top) (len + 1) ++ pending (walked rs) (stackOf st depth)) ≡ l
+    walk-one =
+        rw (first-more nd len top room)
+        (append-assoc (firstOf nd len) (top ∷ []) (pending (walked rs) (stackOf st depth))
+        ∙ ap (λ m. firstOf nd len ++ m) (sym (turn-one rs top (stackOf st depth) below one)) ∙ found)
 
-pub walk-end : (R : ℕ → AExpr ℕ) (l st nd : List ℕ) (depth len : ℕ) → depth ≡ 0
-    → (firstOf nd len ++ pending R (stackOf st depth)) ≡ l → firstOf nd len ≡ l
-unfolding stackOf
-walk-end R l st nd depth len z e =
-    sym (append-nil (firstOf nd len))
-    ∙ ap (λ d. firstOf nd len ++ pending R (stackOf st d)) (sym z) ∙ e
+    pub walk-on : 0 < depth
+        → (firstOf (set nd len top) (len + 1)
+        ++ pending (walked rs) (getD st (depth - 1) 0 ∷ stackOf st (depth - 1))) ≡ l
+    walk-on live =
+        ap (λ m. firstOf (set nd len top) (len + 1) ++ m) (top-pending (walked rs) st depth live) ∙ walk-one
+
+    pub walk-end : depth ≡ 0 → firstOf (set nd len top) (len + 1) ≡ l
+    unfolding stackOf
+    walk-end z =
+        sym (append-nil (firstOf (set nd len top) (len + 1)))
+        ∙ ap (λ d. firstOf (set nd len top) (len + 1) ++ pending (walked rs) (stackOf st d)) (sym z) ∙ walk-one
+
+    pub walk-count : depth ≡ 0 → length l ≡ len + 1
+    walk-count z = sym (ap length (walk-end z)) ∙ first-length (set nd len top) (len + 1)
+
+  -- an And at the top
+  module _ (x y : ℕ) (both : some (x, y) ≡ recordSides (recordAt rs (node top))) where
+    pub walk-down : depth < length st
+        → (firstOf nd len ++ pending (walked rs) (x ∷ stackOf (set st depth y) (depth + 1))) ≡ l
+    walk-down room = ap (λ m. firstOf nd len ++ m) (turn-pending rs top x y st depth below both room) ∙ found
+
+    pub walk-over : 127 ≤ depth + len → 129 ≤ length l
+    walk-over full =
+        let e = ap (λ m. firstOf nd len ++ m) (sym (turn-two rs top x y st depth below both)) ∙ found in
+        let a = walk-many (walked rs) l nd (x ∷ (y ∷ stackOf st depth)) len e in
+        let b = stack-length st depth in
+        omega (arith, a, b, full)

@@ -1,10 +1,8 @@
--- What the code's arrays hold during the walk, and the count of conjuncts for number 9.
-use mathlib.Core.Bool.{cond}
+-- What the code's arrays hold during the walk.
 use mathlib.Core.List.{List, [], _∷_, _++_}
 use mathlib.Core.Option.{Option, none, some}
-use Prim.Native.Nat.{ℕ, zero, suc, _+_, _≤_}
+use Prim.Native.Nat.{ℕ, zero, suc, _≤_}
 use lib.ListN.{getD}
-use lib.Dec.{ltb}
 use Rattle.records.specs.declared.record.Record.{Record}
 use Rattle.truth.specs.AExpr.{AExpr, Inputs}
 use Rattle.truth.specs.FromBytes.{toAExpr, aexprOf}
@@ -39,12 +37,3 @@ stackOf a (suc n) = getD a n 0 ∷ stackOf a n
 abbrev pub InputsBelow : (ℕ → AExpr ℕ) → List ℕ → Type 0
 InputsBelow R [] = Unit {0}
 InputsBelow R (top ∷ stack) = ((n : ℕ) → n ≤ top → Inputs n (R n)) × InputsBelow R stack
-
--- One conjunct, or those of both sides.
-abbrev pub countBy : (ℕ → ℕ) → Option (ℕ × ℕ) → ℕ
-countBy below none = 1
-countBy below (some sides) = below (sides .0) + below (sides .1)
-
--- The counts below n of a table; a side that is not below its record is one conjunct.
-abbrev pub countBelow : List ℕ → ℕ → ℕ → ℕ
-countBelow table n x = cond (ltb x n) (getD table x 0) 1

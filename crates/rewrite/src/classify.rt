@@ -4,16 +4,20 @@ ghost use mathlib.Core.Path.{_≡_};
 ghost use mathlib.Core.Bool.{Bool, not, _&&_, cond};
 ghost use mathlib.Core.List.{List, [], _∷_};
 ghost use mathlib.Core.Option.{some};
-ghost use Prim.Native.Nat.{ℕ};
+ghost use Prim.Native.Nat.{ℕ, _+_, _*_, _<_};
 ghost use lib.Dec.{leb};
-ghost use lib.ListN.{length};
+ghost use lib.ListN.{length, getD};
+ghost use Rattle.records.specs.Operator.{operatorAt};
 ghost use Rattle.truth.specs.FromBytes.{valuesFrom, toAExpr, aexprOf, closesLow, closesHigh};
 ghost use Rattle.merge.specs.Classify as c;
 ghost use Rattle.rewrite.specs.Read.{operationOf, operandIn, listingIn, saysIn, conjunctIn, comparisonIn, swapped};
 ghost use Rattle.rewrite.specs.Read.{swappedOperation, columnLiteral, columnColumn, columnFirst, literalFirst};
 ghost use Rattle.rewrite.specs.Read.{compared};
 use constraints::column::Nullability;
+use records::bytes::value_in;
+use records::bytes::word_in;
 use records::operator::Operator;
+use records::operator::operator_at;
 use records::record::ClosedInterval;
 use records::record::Column;
 use records::record::Node;
@@ -102,6 +106,21 @@ fn operation_of(o: Operator) -> Operation
     }
 }
 
+// The operation of a binary record's code.
+fn operation_at(code: u8) -> Operation
+    ensures { λ r. ⌜ r ≡ operationOf (operatorAt code) ⌝ }
+{
+    match code {
+        0 => Operation::Compare(Comparison::Eq),
+        2 => Operation::Compare(Comparison::NotEq),
+        4 => Operation::Compare(Comparison::Lt),
+        5 => Operation::Compare(Comparison::LtEq),
+        6 => Operation::Compare(Comparison::Gt),
+        7 => Operation::Compare(Comparison::GtEq),
+        _ => operation_of(operator_at(code)),
+    }
+}
+
 fn list_operand(marked: bool, start: u32, count: u32) -> Operand
     ensures { λ r. ⌜ ((p : List ℕ) → operandIn p r ≡ cond (not marked && leb (length (valuesFrom p start count)) 100)
         (c.AList (valuesFrom p start count)) c.Other) ⌝ }
@@ -133,9 +152,32 @@ fn operand_of(r: Record) -> Operand
     }
 }
 
+// Sixteen bytes that are there: three kinds matter, so no record is made. A literal's value is B and C, the eight bytes
+// at 16 n + 8.
+fn operand_in(rs: &[u8], n: Node) -> Operand
+    requires { ⌜ 16 * n .0 + 15 < length (now rs) ⌝ }
+    ensures { λ o. ⌜ ((p : List ℕ) → operandIn p o ≡ c.operand (aexprOf (now (rs .entry)) p (n .0))) ⌝ }
+{
+    let at = 16 * (n.0 as usize);
+    let kind = rs[at];
+    if kind == 1 {
+        return Operand::Column(Column(word_in(rs, at + 4)));
+    }
+    if kind == 2 {
+        return Operand::Literal(Scalar(value_in(rs, 2 * (n.0 as usize) + 1)));
+    }
+    if kind == 9 {
+        return list_operand(rs[at + 1] == 1, word_in(rs, at + 4), word_in(rs, at + 8));
+    }
+    Operand::Other
+}
+
 fn operand_at(rs: &[u8], n: Node) -> Operand
     ensures { λ o. ⌜ ((p : List ℕ) → operandIn p o ≡ c.operand (aexprOf (now (rs .entry)) p (n .0))) ⌝ }
 {
+    if 16 * (n.0 as usize) + 15 < rs.len() {
+        return operand_in(rs, n);
+    }
     operand_of(record_at(rs, n))
 }
 
@@ -377,9 +419,30 @@ fn classify_record(rs: &[u8], r: Record) -> Conjunct
     }
 }
 
-/// What the conjunct at node n says.
+// A binary record whose sixteen bytes are there.
+fn classify_binary(rs: &[u8], n: Node) -> Conjunct
+    requires there { ⌜ 16 * n .0 + 15 < length (now rs) ⌝ }
+    requires binary { ⌜ getD (now rs) (16 * n .0) 0 ≡ 4 ⌝ }
+    ensures { λ s. ⌜ ((p : List ℕ) → conjunctIn p (n .0) s ≡ c.classify (aexprOf (now (rs .entry)) p) (n .0)) ⌝ }
+{
+    let at = 16 * (n.0 as usize);
+    classify_comparison(
+        operation_at(rs[at + 1]),
+        operand_at(rs, Node(word_in(rs, at + 4))),
+        operand_at(rs, Node(word_in(rs, at + 8))),
+    )
+}
+
+/// What the conjunct at node n says. Comparisons, the usual case, are read without building a record.
 pub fn classify(rs: &[u8], n: Node) -> Conjunct
     ensures { λ s. ⌜ ((p : List ℕ) → conjunctIn p (n .0) s ≡ c.classify (aexprOf (now (rs .entry)) p) (n .0)) ⌝ }
 {
+    let at = 16 * (n.0 as usize);
+    if at + 15 < rs.len() {
+        if rs[at] == 4 {
+            return classify_binary(rs, n);
+        }
+        return classify_record(rs, record_at(rs, n));
+    }
     classify_record(rs, record_at(rs, n))
 }

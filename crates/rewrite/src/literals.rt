@@ -1,11 +1,12 @@
 // The literals and lists of the conjuncts, each decoded once: a column's sets hold numbers of conjuncts, and these
 // tables say which values the numbers stand for.
 ghost use mathlib.Core.Path.{_≡_};
+ghost use mathlib.Core.Bool.{true};
 ghost use mathlib.Core.List.{List};
 ghost use Prim.Native.Nat.{ℕ, _≤_, _<_};
 ghost use lib.ListN.{length, getD};
 ghost use Rattle.truth.specs.FromBytes.{aexprOf};
-ghost use Rattle.columns.specs.Abstraction.{conjuncts};
+ghost use Rattle.columns.specs.Abstraction.{Conjuncts, conjuncts};
 ghost use Rattle.merge.specs.Classify as c;
 ghost use Rattle.rewrite.specs.Told.{saidBy, comparisonKind, kindOf, literalOf, startOf, countOf};
 ghost use Rattle.rewrite.specs.Told.{ToldConjunct};
@@ -14,15 +15,6 @@ use crate::classify::Conjunct;
 use crate::classify::Says;
 use crate::classify::classify;
 use records::record::Node;
-
-/// By conjunct: its kind (0 an excluded literal, 1 an is_in list, 2 a negated one, 3 none of these), its literal, its
-/// list's start and count in the pool.
-pub struct Literals {
-    pub kinds: [u8; 128],
-    pub values: [u64; 128],
-    pub starts: [u32; 128],
-    pub counts: [u32; 128],
-}
 
 fn said_by(k: Conjunct) -> Says
     ensures { λ r. ⌜ r ≡ saidBy k ⌝ }
@@ -101,30 +93,53 @@ fn count_of(s: Says) -> u32
     }
 }
 
-/// The tables of the first n nodes.
-pub fn read_literals(rs: &[u8], nodes: &[u32], n: usize) -> Literals
-    requires { ⌜ (n ≤ 128) × (n ≤ length (now nodes)) ⌝ }
-    ensures { λ r. ⌜ ((p : List ℕ) (i : ℕ) → i < n → ToldConjunct (conjuncts (r .kinds) (r .values) (r .starts)
-        (r .counts) p) i (c.classify (aexprOf (now (rs .entry)) p) (getD (now (nodes .entry)) i 0))) ⌝ }
+// A comparison other than `!=` excludes no value and has no list, so the tables need not say anything of it. Most
+// conjuncts are such, and two bytes tell.
+fn tells_nothing(rs: &[u8], n: Node) -> bool
+    ensures { λ r. ⌜ (r ≡ true → (t : Conjuncts) (p : List ℕ) (j : ℕ) →
+        ToldConjunct t j (c.classify (aexprOf (now (rs .entry)) p) (n .0))) ⌝ }
 {
-    let mut kinds = [0u8; 128];
-    let mut values = [0u64; 128];
-    let mut starts = [0u32; 128];
-    let mut counts = [0u32; 128];
+    let at = 16 * (n.0 as usize);
+    if at + 15 < rs.len() {
+        if rs[at] == 4 {
+            return rs[at + 1] != 2;
+        }
+        return false;
+    }
+    false
+}
+
+/// The tables of the first n nodes, by conjunct: its kind (0 an excluded literal, 1 an is_in list, 2 a negated one, 3 none
+/// of these), its literal, its list's start and count in the pool. The caller lends them: returned, they would be copied.
+pub fn read_literals(
+    rs: &[u8],
+    nodes: &[u32],
+    n: usize,
+    kinds: &mut [u8],
+    values: &mut [u64],
+    starts: &mut [u32],
+    counts: &mut [u32],
+)
+    requires { ⌜ n ≤ length (now nodes) ⌝ }
+    requires { ⌜ (n ≤ length (now kinds)) × (n ≤ length (now values)) × (n ≤ length (now starts))
+        × (n ≤ length (now counts)) ⌝ }
+    ensures { λ _. ⌜ ((p : List ℕ) (i : ℕ) → i < n → ToldConjunct (conjuncts (now (kinds .exit)) (now (values .exit))
+        (now (starts .exit)) (now (counts .exit)) p) i (c.classify (aexprOf (now (rs .entry)) p) (getD (now
+        (nodes .entry)) i 0))) ⌝ }
+{
     let mut i: usize = 0;
     while i < n {
-        let k = classify(rs, Node(nodes[i]));
+        let node = Node(nodes[i]);
+        if tells_nothing(rs, node) {
+            i += 1;
+            continue;
+        }
+        let k = classify(rs, node);
         let s = said_by(k);
         kinds[i] = kind_of(s);
         values[i] = literal_of(s);
         starts[i] = start_of(s);
         counts[i] = count_of(s);
         i += 1;
-    }
-    Literals {
-        kinds: kinds,
-        values: values,
-        starts: starts,
-        counts: counts,
     }
 }

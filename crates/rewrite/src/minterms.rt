@@ -1,14 +1,14 @@
 // `MintermIter`: the conjuncts of a record, left to right through And and LogicalAnd.
 ghost use mathlib.Core.Path.{_≡_};
 ghost use mathlib.Core.List.{[], _∷_};
-ghost use Prim.Native.Nat.{ℕ, _≤_, _<_, min};
+ghost use Prim.Native.Nat.{ℕ, _+_, _*_, _≤_, _<_, min};
 ghost use lib.ListN.{length};
 ghost use Rattle.records.specs.Record.{recordAt};
 ghost use Rattle.truth.specs.AExpr.{Inputs};
 ghost use Rattle.truth.specs.FromBytes.{binaryExpr};
 ghost use Rattle.merge.specs.Minterms.{andSides, minterms, pending};
 ghost use Rattle.rewrite.specs.Walk.{sidesIn, recordSides, walked, firstOf, stackOf, InputsBelow};
-ghost use Rattle.rewrite.specs.Walk.{countBy, countBelow};
+use records::bytes::word_in;
 use records::operator::Operator;
 use records::record::Node;
 use records::record::Record;
@@ -18,12 +18,6 @@ use records::record::record_at;
 pub enum Sides {
     One,
     Both(Node, Node),
-}
-
-/// The conjuncts of a screen, at most 128.
-pub struct Chain {
-    pub nodes: [u32; 128],
-    pub len: usize,
 }
 
 /// A conjunct, and how many nodes of the stack are left.
@@ -77,66 +71,30 @@ fn record_sides(r: Record) -> Sides
     }
 }
 
+// Sixteen bytes that are there: the walk wants the kind, the code and A and B, so no record is made. And has the code 15,
+// LogicalAnd 18.
+fn sides_in(rs: &[u8], n: Node) -> Sides
+    requires { ⌜ 16 * n .0 + 15 < length (now rs) ⌝ }
+    ensures { λ s. ⌜ sidesIn s ≡ recordSides (recordAt (now (rs .entry)) n) ⌝ }
+{
+    let at = 16 * (n.0 as usize);
+    if rs[at] != 4 {
+        return Sides::One;
+    }
+    let code = rs[at + 1];
+    if (code == 15) | (code == 18) {
+        return Sides::Both(Node(word_in(rs, at + 4)), Node(word_in(rs, at + 8)));
+    }
+    Sides::One
+}
+
 fn sides_at(rs: &[u8], n: Node) -> Sides
     ensures { λ s. ⌜ sidesIn s ≡ recordSides (recordAt (now (rs .entry)) n) ⌝ }
 {
+    if 16 * (n.0 as usize) + 15 < rs.len() {
+        return sides_in(rs, n);
+    }
     record_sides(record_at(rs, n))
-}
-
-fn wide(x: u8) -> u32
-    ensures same { λ r. ⌜ r ≡ x ⌝ }
-    ensures bounded { λ r. ⌜ r < 256 ⌝ }
-{
-    x as u32
-}
-
-fn count_at(counts: &[u8; 4096], n: Node, x: Node) -> u32
-    requires { ⌜ n .0 < 4096 ⌝ }
-    ensures counted { λ r. ⌜ r ≡ countBelow (now (counts .entry)) (n .0) (x .0) ⌝ }
-    ensures bounded { λ r. ⌜ r < 256 ⌝ }
-{
-    if x.0 < n.0 {
-        let at = x.0 as usize;
-        return wide(counts[at]);
-    }
-    1
-}
-
-fn count_sides(counts: &[u8; 4096], n: Node, s: Sides) -> u32
-    requires { ⌜ n .0 < 4096 ⌝ }
-    ensures counted { λ r. ⌜ r ≡ countBy (countBelow (now (counts .entry)) (n .0)) (sidesIn s) ⌝ }
-    ensures bounded { λ r. ⌜ r < 512 ⌝ }
-{
-    match s {
-        Sides::One => 1,
-        Sides::Both(x, y) => count_at(counts, n, x) + count_at(counts, n, y),
-    }
-}
-
-// One record's count, 129 for every count above 128.
-fn count_step(counts: &[u8; 4096], rs: &[u8], n: Node) -> u8
-    requires { ⌜ n .0 < 4096 ⌝ }
-    ensures { λ r. ⌜ r ≡ min (countBy (countBelow (now (counts .entry)) (n .0)) (recordSides (recordAt (now
-        (rs .entry)) n))) 129 ⌝ }
-{
-    let s = count_sides(counts, n, sides_at(rs, n));
-    if s < 129 { s as u8 } else { 129 }
-}
-
-/// How many conjuncts the root has, 129 if more than 128. Records are shared, so the counts stand in a table: a walk
-/// could take exponential time before it met the 129th.
-pub fn minterm_count(rs: &[u8], root: Node) -> u8
-    requires { ⌜ root .0 < 4096 ⌝ }
-    ensures { λ r. ⌜ r ≡ min (length (minterms (walked (now (rs .entry))) (root .0))) 129 ⌝ }
-{
-    let mut counts = [0u8; 4096];
-    let mut i: u32 = 0;
-    while i <= root.0 {
-        let s = count_step(&counts, rs, Node(i));
-        counts[i as usize] = s;
-        i += 1;
-    }
-    counts[root.0 as usize]
 }
 
 /// `MintermIter`'s `next` on the stack of the nodes still to visit, the next one on top: down the left sides of Ands to
@@ -170,26 +128,41 @@ pub fn next_minterm(rs: &[u8], stack: &mut [u32], depth: usize) -> Minterm
     }
 }
 
-/// The conjuncts of the root.
-pub fn minterms(rs: &[u8], root: Node) -> Chain
+/// The conjuncts of the root, into `nodes`; how many they are, 129 if more than 128. Each node on the stack gives at
+/// least one conjunct, so the walk ends after at most 255 steps, however records are shared.
+pub fn minterms(rs: &[u8], root: Node, nodes: &mut [u32]) -> usize
     requires below { ⌜ ((n : ℕ) → n ≤ root .0 → Inputs n (walked (now rs) n)) ⌝ }
-    requires few { ⌜ length (minterms (walked (now rs)) (root .0)) ≤ 128 ⌝ }
-    ensures all { λ r. ⌜ firstOf (r .nodes) (r .len) ≡ minterms (walked (now (rs .entry))) (root .0) ⌝ }
-    ensures bounded { λ r. ⌜ r .len ≤ 128 ⌝ }
+    requires room { ⌜ 128 ≤ length (now nodes) ⌝ }
+    ensures counted { λ r. ⌜ r ≡ min (length (minterms (walked (now (rs .entry))) (root .0))) 129 ⌝ }
+    ensures all { λ r. ⌜ (length (minterms (walked (now (rs .entry))) (root .0)) ≤ 128
+        → firstOf (now (nodes .exit)) r ≡ minterms (walked (now (rs .entry))) (root .0)) ⌝ }
 {
     let mut stack = [0u32; 128];
-    let mut nodes = [0u32; 128];
-    let mut depth: usize = 1;
+    let mut depth: usize = 0;
     let mut len: usize = 0;
-    stack[0] = root.0;
-    while 0 < depth {
-        let m = next_minterm(rs, &mut stack, depth);
-        nodes[len] = m.node.0;
-        len += 1;
-        depth = m.depth;
-    }
-    Chain {
-        nodes: nodes,
-        len: len,
+    let mut top = root.0;
+    loop {
+        let s = sides_at(rs, Node(top));
+        match s {
+            Sides::One => {
+                nodes[len] = top;
+                len += 1;
+                if depth == 0 {
+                    return len;
+                }
+                depth -= 1;
+                top = stack[depth];
+                continue;
+            }
+            Sides::Both(x, y) => {
+                if 127 <= depth + len {
+                    return 129;
+                }
+                stack[depth] = y.0;
+                depth += 1;
+                top = x.0;
+                continue;
+            }
+        }
     }
 }

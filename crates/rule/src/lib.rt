@@ -1,20 +1,121 @@
 // Rewriting a screen: the checks in 01's order, 8 and 9 among them, then the merging.
 ghost use mathlib.Core.Path.{_≡_};
-ghost use Prim.Native.Nat.{ℕ, _≤_, min};
-ghost use lib.ListN.{getD};
+ghost use Prim.Native.Nat.{ℕ, _≤_, _<_, min};
+ghost use lib.ListN.{length, getD};
 ghost use Rattle.checking.specs.Check.{checkAnswer};
 ghost use Rattle.checking.specs.Tree.{treeCount};
 ghost use Rattle.checking.specs.declared.check.CheckAnswer.the-variants as check;
+ghost use Rattle.merge.specs.Minterms.{minterms};
 ghost use Rattle.merge.specs.Rewrite.{rewriteAnswer, rewriteBytes};
+ghost use Rattle.rewrite.specs.Walk.{walked, firstOf};
 use checking::check::CheckAnswer;
 use checking::check::check_screen;
-use checking::tree::tree_step;
+use checking::tree::fill_trees;
 use filter_constraint::merge_filter_constraints;
 use merge::rewrite::RewriteAnswer;
 use records::record::Node;
 use rewrite::literals::read_literals;
-use rewrite::minterms::minterm_count;
 use rewrite::minterms::minterms;
+
+// The merging of the first n nodes, the conjuncts of an accepted screen. Most screens have few: then the tables and rows for
+// 128 need not be cleared.
+fn merge_few(
+    t: &[u8],
+    rs: &mut [u8],
+    p: &[u8],
+    used: u32,
+    root: Node,
+    trees: &[u16],
+    nodes: &[u32],
+    n: usize,
+) -> RewriteAnswer
+    requires accepted { ⌜ checkAnswer (now t) (now rs) (now p) used (root .0) ≡ check.Accepted ⌝ }
+    requires counted { ⌜ ((a : ℕ) → a ≤ root .0 → getD (now trees) a 0 ≡ min (treeCount (now rs) a) 4097) ⌝ }
+    requires small { ⌜ treeCount (now rs) (root .0) ≤ 4096 ⌝ }
+    requires walked { ⌜ firstOf (now nodes) n ≡ minterms (walked (now rs)) (root .0) ⌝ }
+    requires there { ⌜ (n ≤ 16) × (n ≤ length (now nodes)) ⌝ }
+    ensures answer { λ r. ⌜ r ≡ rewriteAnswer (now (t .entry)) (now (rs .entry)) (now (p .entry)) used (root .0) ⌝ }
+    ensures bytes { λ _. ⌜ now (rs .exit) ≡ rewriteBytes (now (t .entry)) (now (rs .entry)) (now (p .entry)) used
+        (root .0) ⌝ }
+{
+    let mut kinds = [0u8; 16];
+    let mut values = [0u64; 16];
+    let mut starts = [0u32; 16];
+    let mut counts = [0u32; 16];
+    let mut marks = [0u8; 1024];
+    read_literals(
+        rs,
+        nodes,
+        n,
+        &mut kinds,
+        &mut values,
+        &mut starts,
+        &mut counts,
+    );
+    merge_filter_constraints(
+        t,
+        rs,
+        p,
+        used,
+        trees,
+        nodes,
+        n,
+        &kinds,
+        &values,
+        &starts,
+        &counts,
+        &mut marks,
+    )
+}
+
+fn merge_many(
+    t: &[u8],
+    rs: &mut [u8],
+    p: &[u8],
+    used: u32,
+    root: Node,
+    trees: &[u16],
+    nodes: &[u32],
+    n: usize,
+) -> RewriteAnswer
+    requires accepted { ⌜ checkAnswer (now t) (now rs) (now p) used (root .0) ≡ check.Accepted ⌝ }
+    requires counted { ⌜ ((a : ℕ) → a ≤ root .0 → getD (now trees) a 0 ≡ min (treeCount (now rs) a) 4097) ⌝ }
+    requires small { ⌜ treeCount (now rs) (root .0) ≤ 4096 ⌝ }
+    requires walked { ⌜ firstOf (now nodes) n ≡ minterms (walked (now rs)) (root .0) ⌝ }
+    requires there { ⌜ (n ≤ 128) × (n ≤ length (now nodes)) ⌝ }
+    ensures answer { λ r. ⌜ r ≡ rewriteAnswer (now (t .entry)) (now (rs .entry)) (now (p .entry)) used (root .0) ⌝ }
+    ensures bytes { λ _. ⌜ now (rs .exit) ≡ rewriteBytes (now (t .entry)) (now (rs .entry)) (now (p .entry)) used
+        (root .0) ⌝ }
+{
+    let mut kinds = [0u8; 128];
+    let mut values = [0u64; 128];
+    let mut starts = [0u32; 128];
+    let mut counts = [0u32; 128];
+    let mut marks = [0u8; 8192];
+    read_literals(
+        rs,
+        nodes,
+        n,
+        &mut kinds,
+        &mut values,
+        &mut starts,
+        &mut counts,
+    );
+    merge_filter_constraints(
+        t,
+        rs,
+        p,
+        used,
+        trees,
+        nodes,
+        n,
+        &kinds,
+        &values,
+        &starts,
+        &counts,
+        &mut marks,
+    )
+}
 
 // An accepted screen with a tree of at most 4,096 records: 9, then the merging of its conjuncts. `trees` has the tree
 // counts of the records up to the root.
@@ -24,7 +125,7 @@ fn rewrite_counted(
     p: &[u8],
     used: u32,
     root: Node,
-    trees: &[u16; 4096],
+    trees: &[u16],
 ) -> RewriteAnswer
     requires accepted { ⌜ checkAnswer (now t) (now rs) (now p) used (root .0) ≡ check.Accepted ⌝ }
     requires counted { ⌜ ((a : ℕ) → a ≤ root .0 → getD (now trees) a 0 ≡ min (treeCount (now rs) a) 4097) ⌝ }
@@ -33,50 +134,54 @@ fn rewrite_counted(
     ensures bytes { λ _. ⌜ now (rs .exit) ≡ rewriteBytes (now (t .entry)) (now (rs .entry)) (now (p .entry)) used
         (root .0) ⌝ }
 {
-    if 128 < minterm_count(rs, root) {
+    let mut nodes = [0u32; 128];
+    let n = minterms(rs, root, &mut nodes);
+    if 128 < n {
         return RewriteAnswer::Refused(9);
     }
-    let chain = minterms(rs, root);
-    let nodes = chain.nodes;
-    let literals = read_literals(rs, &nodes, chain.len);
-    let kinds = literals.kinds;
-    let values = literals.values;
-    let starts = literals.starts;
-    let counts = literals.counts;
-    merge_filter_constraints(
-        t,
-        rs,
-        p,
-        used,
-        trees,
-        &nodes,
-        chain.len,
-        &kinds,
-        &values,
-        &starts,
-        &counts,
-    )
+    if n <= 16 {
+        return merge_few(t, rs, p, used, root, trees, &nodes, n);
+    }
+    merge_many(t, rs, p, used, root, trees, &nodes, n)
 }
 
 // An accepted screen: 8, and the rest. Records are shared, so the tree counts stand in a table; the merging adds up
 // those of the nodes that it keeps.
+fn rewrite_within(
+    t: &[u8],
+    rs: &mut [u8],
+    p: &[u8],
+    used: u32,
+    root: Node,
+    trees: &mut [u16],
+) -> RewriteAnswer
+    requires { ⌜ checkAnswer (now t) (now rs) (now p) used (root .0) ≡ check.Accepted ⌝ }
+    requires { ⌜ root .0 < length (now trees) ⌝ }
+    ensures answer { λ r. ⌜ r ≡ rewriteAnswer (now (t .entry)) (now (rs .entry)) (now (p .entry)) used (root .0) ⌝ }
+    ensures bytes { λ _. ⌜ now (rs .exit) ≡ rewriteBytes (now (t .entry)) (now (rs .entry)) (now (p .entry)) used
+        (root .0) ⌝ }
+{
+    fill_trees(trees, rs, root);
+    let top = trees[root.0 as usize];
+    if 4096 < top {
+        return RewriteAnswer::Refused(8);
+    }
+    rewrite_counted(t, rs, p, used, root, trees)
+}
+
+// The table of tree counts is as long as the screen needs: most have few records.
 fn rewrite_checked(t: &[u8], rs: &mut [u8], p: &[u8], used: u32, root: Node) -> RewriteAnswer
     requires { ⌜ checkAnswer (now t) (now rs) (now p) used (root .0) ≡ check.Accepted ⌝ }
     ensures answer { λ r. ⌜ r ≡ rewriteAnswer (now (t .entry)) (now (rs .entry)) (now (p .entry)) used (root .0) ⌝ }
     ensures bytes { λ _. ⌜ now (rs .exit) ≡ rewriteBytes (now (t .entry)) (now (rs .entry)) (now (p .entry)) used
         (root .0) ⌝ }
 {
+    if root.0 < 64 {
+        let mut small = [0u16; 64];
+        return rewrite_within(t, rs, p, used, root, &mut small);
+    }
     let mut trees = [0u16; 4096];
-    let mut i: u32 = 0;
-    while i <= root.0 {
-        let s = tree_step(&trees, rs, Node(i));
-        trees[i as usize] = s;
-        i += 1;
-    }
-    if 4096 < trees[root.0 as usize] {
-        return RewriteAnswer::Refused(8);
-    }
-    rewrite_counted(t, rs, p, used, root, &trees)
+    rewrite_within(t, rs, p, used, root, &mut trees)
 }
 
 /// The answer of rewriting; `rs` is written only if it is `NothingPasses` or `Rewritten`.

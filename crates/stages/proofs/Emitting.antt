@@ -9,7 +9,7 @@ use Rattle.constraints.specs.Comparisons.{ColumnComparison, collectColumnCompar
 use Rattle.constraints.specs.Payload.{payload}
 use Rattle.columns.specs.Abstraction.{Conjuncts, columnOf, comparedOf}
 use Rattle.columns.specs.Steps.{placed, placedTo}
-use Rattle.columns.specs.declared.column.ColumnConstraints.{ColumnConstraints}
+use Rattle.columns.specs.Abstraction.{Numbered}
 use Rattle.columns.specs.declared.comparisons.Compared.{Compared}
 use Rattle.columns.specs.declared.comparisons.Compared.the-variants as place
 use Rattle.columns.proofs.Written.{places-law}
@@ -55,35 +55,35 @@ written-append t u a l m rs =
     ap (λ n. writeComparisons t (u + 3 * n) (ofColumn a m) (writeComparisons t u (ofColumn a l) rs))
     (of-column-length a l)
 
-placed-none : (s : Conjuncts) (c : ColumnConstraints) → placedTo s c 0 ≡ []
+placed-none : (s : Conjuncts) (c : Numbered) → placedTo s c 0 ≡ []
 unfolding placedTo
 placed-none s c = refl
 
-placed-more : (s : Conjuncts) (c : ColumnConstraints) (p : ℕ) → placedTo s c (p + 1) ≡
+placed-more : (s : Conjuncts) (c : Numbered) (p : ℕ) → placedTo s c (p + 1) ≡
     placedTo s c p ++ placed s c p
 unfolding placedTo
 placed-more s c p = rw add-one
 
-pub begin-at : (s : Conjuncts) (c : ColumnConstraints) (u : ℕ) → u ≡ u + 3 * length (placedTo s c 0)
+pub begin-at : (s : Conjuncts) (c : Numbered) (u : ℕ) → u ≡ u + 3 * length (placedTo s c 0)
 begin-at s c u = rw (placed-none s c) (place-none u)
 
-pub begin-written : (t : List ℕ) (s : Conjuncts) (c : ColumnConstraints) (u a : ℕ) (rs : List ℕ) →
+pub begin-written : (t : List ℕ) (s : Conjuncts) (c : Numbered) (u a : ℕ) (rs : List ℕ) →
     rs ≡ writeComparisons t u (ofColumn a (placedTo s c 0)) rs
 begin-written t s c u a rs = rw (placed-none s c)
 
 -- ---- one place more
-count-more : (s : Conjuncts) (c : ColumnConstraints) (p : ℕ) (k : Compared) → comparedOf k ≡ placed s c p →
+count-more : (s : Conjuncts) (c : Numbered) (p : ℕ) (k : Compared) → comparedOf k ≡ placed s c p →
     length (placedTo s c (p + 1)) ≡ length (placedTo s c p) + length (comparedOf k)
 count-more s c p k e = rw (placed-more s c p, e) (length-append (placedTo s c p) (placed s c p))
 
-pub at-more : (s : Conjuncts) (c : ColumnConstraints) (u at p r : ℕ) (k : Compared) → comparedOf k ≡ placed s c p
+pub at-more : (s : Conjuncts) (c : Numbered) (u at p r : ℕ) (k : Compared) → comparedOf k ≡ placed s c p
     → at ≡ u + 3 * length (placedTo s c p) → r ≡ at + 3 * length (comparedOf k)
     → r ≡ u + 3 * length (placedTo s c (p + 1))
 at-more s c u at p r k e ea er =
     let h : length (placedTo s c (p + 1)) ≡ length (placedTo s c p) + length (comparedOf k) = count-more s c p k e in
     omega (arith, h, ea, er)
 
-pub written-more : (t : List ℕ) (s : Conjuncts) (c : ColumnConstraints) (u a at p : ℕ) (k : Compared)
+pub written-more : (t : List ℕ) (s : Conjuncts) (c : Numbered) (u a at p : ℕ) (k : Compared)
     (rs₀ rs out : List ℕ) → comparedOf k ≡ placed s c p → at ≡ u + 3 * length (placedTo s c p)
     → rs ≡ writeComparisons t u (ofColumn a (placedTo s c p)) rs₀
     → out ≡ writeComparisons t at (ofColumn a (comparedOf k)) rs
@@ -94,7 +94,7 @@ written-more t s c u a at p k rs₀ rs out e ea er eo =
     written-append t u a (placedTo s c p) (placed s c p) rs₀))
 
 -- ---- room, and the end
-count-up : (s : Conjuncts) (c : ColumnConstraints) (p d : ℕ) → length (placedTo s c p) ≤ length (placedTo s c (p + d))
+count-up : (s : Conjuncts) (c : Numbered) (p d : ℕ) → length (placedTo s c p) ≤ length (placedTo s c (p + d))
 count-up s c p zero = let e : p + 0 ≡ p = omega arith in rw e (omega arith)
 count-up s c p (suc d) =
     let e : p + suc d ≡ p + d + 1 = omega arith in
@@ -103,13 +103,13 @@ count-up s c p (suc d) =
     let g : length (placedTo s c p) ≤ length (placedTo s c (p + d)) = count-up s c p d in
     rw e (omega (arith, h, g))
 
-pub placed-all : (s : Conjuncts) (c : ColumnConstraints) (p : ℕ) → p ≡ c .len + 2 →
+pub placed-all : (s : Conjuncts) (c : Numbered) (p : ℕ) → p ≡ c .len + 2 →
     placedTo s c p ≡ collectColumnComparisons payload (columnOf s c)
 placed-all s c p e =
     let h : p ≡ 2 + c .len = omega (arith, e) in ap (λ (n : ℕ). placedTo s c n) h ∙ places-law s c
 
 -- What a place takes is there when the whole column has room.
-pub place-room : (s : Conjuncts) (c : ColumnConstraints) (u at p room : ℕ) (k : Compared)
+pub place-room : (s : Conjuncts) (c : Numbered) (u at p room : ℕ) (k : Compared)
     → comparedOf k ≡ placed s c p → at ≡ u + 3 * length (placedTo s c p) → p < c .len + 2
     → 16 * (u + 3 * length (collectColumnComparisons payload (columnOf s c))) ≤ room
     → 16 * (at + 3 * length (comparedOf k)) ≤ room

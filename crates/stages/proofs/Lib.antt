@@ -2,6 +2,7 @@ pub mod Adding
 pub mod Answers
 pub mod Chains
 pub mod Emitting
+pub mod Lending
 pub mod Reckoning
 pub mod Reckons
 pub mod Screens

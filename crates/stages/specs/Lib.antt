@@ -1,3 +1,4 @@
 pub mod Columns
 pub mod Reckon
 pub mod Rewritten
+pub mod Rows

@@ -1,12 +1,13 @@
 // What a conjunct says, taken into its column.
 ghost use mathlib.Core.Path.{_≡_};
 ghost use mathlib.Core.Bool.{true};
-ghost use mathlib.Core.List.{[]};
-ghost use Prim.Native.Nat.{_<_};
+ghost use mathlib.Core.List.{List, []};
+ghost use Prim.Native.Nat.{ℕ, _<_};
+ghost use lib.ListN.{length};
 ghost use Rattle.truth.specs.FromBytes.{closesLow, closesHigh};
 ghost use Rattle.constraints.specs.Column as q;
 ghost use Rattle.constraints.specs.Payload.{payload};
-ghost use Rattle.columns.specs.Abstraction.{Conjuncts, conjuncts, columnOf, Fine};
+ghost use Rattle.columns.specs.Abstraction.{Conjuncts, conjuncts, numbered, columnOf, Fine};
 ghost use Rattle.merge.specs.Classify.{comparisonConstraints};
 ghost use Rattle.rewrite.specs.Read.{saysIn, comparisonIn};
 ghost use Rattle.rewrite.specs.Told.{Told};
@@ -24,9 +25,9 @@ use truth::scalar::Scalar;
 
 // `==` is a lower and an upper bound, both inclusive.
 fn add_equal(c: ColumnConstraints, v: Scalar) -> ColumnConstraints
-    ensures { λ r. ⌜ ((t : Conjuncts) → columnOf t r ≡ q.addUpper payload (v .0) true
-        (q.addLower payload (v .0) true (columnOf t c))) ⌝ }
-    ensures { λ r. ⌜ (r .marks ≡ c .marks) × (r .len ≡ c .len) ⌝ }
+    ensures { λ r. ⌜ ((t : Conjuncts) (a : List ℕ) → columnOf t (numbered a r) ≡ q.addUpper payload (v .0) true
+        (q.addLower payload (v .0) true (columnOf t (numbered a c)))) ⌝ }
+    ensures { λ r. ⌜ r .len ≡ c .len ⌝ }
 {
     let d = add_lower(c, v, true);
     add_upper(d, v, true)
@@ -36,20 +37,21 @@ fn add_equal(c: ColumnConstraints, v: Scalar) -> ColumnConstraints
 fn add_comparison(
     kinds: &[u8],
     values: &[u64],
+    marks: &mut [u8],
     c: ColumnConstraints,
     j: u8,
     k: Comparison,
     v: Scalar,
 ) -> ColumnConstraints
-    requires { ⌜ Fine (c .marks) (c .len) × (j < 128) × Told (conjuncts (now kinds) (now values) [] [] []) j
+    requires { ⌜ Fine (length (now marks)) (now marks) (c .len) × (j < length (now marks)) × Told (conjuncts (now kinds) (now values) [] [] []) j
         (comparisonConstraints (comparisonIn k) (v .0)) ⌝ }
     ensures { λ r. ⌜ ((t : Conjuncts) → t .kinds ≡ now (kinds .entry) → t .values ≡ now (values .entry) →
-        columnOf t r ≡ q.addAll payload (comparisonConstraints (comparisonIn k) (v .0)) (columnOf t c)) ⌝ }
-    ensures { λ r. ⌜ Fine (r .marks) (r .len) ⌝ }
+        columnOf t (numbered (now (marks .exit)) r) ≡ q.addAll payload (comparisonConstraints (comparisonIn k) (v .0)) (columnOf t (numbered (now (marks .entry)) c))) ⌝ }
+    ensures { λ r. ⌜ Fine (length (now (marks .entry))) (now (marks .exit)) (r .len) ⌝ }
 {
     match k {
         Comparison::Eq => add_equal(c, v),
-        Comparison::NotEq => add_excluded(kinds, values, c, j),
+        Comparison::NotEq => add_excluded(kinds, values, marks, c, j),
         Comparison::Lt => add_upper(c, v, false),
         Comparison::LtEq => add_upper(c, v, true),
         Comparison::Gt => add_lower(c, v, false),
@@ -85,38 +87,39 @@ fn add_between(
     v: Scalar,
     w: Scalar,
 ) -> ColumnConstraints
-    ensures { λ r. ⌜ ((t : Conjuncts) → columnOf t r ≡ q.addUpper payload (w .0) (closesHigh ends)
-        (q.addLower payload (v .0) (closesLow ends) (columnOf t c))) ⌝ }
-    ensures { λ r. ⌜ (r .marks ≡ c .marks) × (r .len ≡ c .len) ⌝ }
+    ensures { λ r. ⌜ ((t : Conjuncts) (a : List ℕ) → columnOf t (numbered a r) ≡ q.addUpper payload (w .0) (closesHigh ends)
+        (q.addLower payload (v .0) (closesLow ends) (columnOf t (numbered a c)))) ⌝ }
+    ensures { λ r. ⌜ r .len ≡ c .len ⌝ }
 {
     let d = add_lower(c, v, closes_low(ends));
     add_upper(d, w, closes_high(ends))
 }
 
-/// What conjunct j says of its column.
+/// What conjunct j says of its column, whose numbers are in `marks`.
 pub fn add_says(
     kinds: &[u8],
     values: &[u64],
     starts: &[u32],
     counts: &[u32],
     pool: &[u8],
+    marks: &mut [u8],
     c: ColumnConstraints,
     j: u8,
     s: Says,
 ) -> ColumnConstraints
-    requires { ⌜ Fine (c .marks) (c .len) × (j < 128) × Told (conjuncts (now kinds) (now values) (now starts)
+    requires { ⌜ Fine (length (now marks)) (now marks) (c .len) × (j < length (now marks)) × Told (conjuncts (now kinds) (now values) (now starts)
         (now counts) (now pool)) j (saysIn (now pool) s) ⌝ }
     ensures { λ r. ⌜ (let t = conjuncts (now (kinds .entry)) (now (values .entry)) (now (starts .entry))
         (now (counts .entry)) (now (pool .entry)) in
-        columnOf t r ≡ q.addAll payload (saysIn (now (pool .entry)) s) (columnOf t c)) ⌝ }
-    ensures { λ r. ⌜ Fine (r .marks) (r .len) ⌝ }
+        columnOf t (numbered (now (marks .exit)) r) ≡ q.addAll payload (saysIn (now (pool .entry)) s) (columnOf t (numbered (now (marks .entry)) c))) ⌝ }
+    ensures { λ r. ⌜ Fine (length (now (marks .entry))) (now (marks .exit)) (r .len) ⌝ }
 {
     match s {
         Says::Nothing => c,
-        Says::Compare(k, v) => add_comparison(kinds, values, c, j, k, v),
+        Says::Compare(k, v) => add_comparison(kinds, values, marks, c, j, k, v),
         Says::Between(ends, v, w) => add_between(c, ends, v, w),
-        Says::Allow(_, _) => add_allowed(c, j),
-        Says::Disallow(strict, _, _) => add_disallowed(counts, c, j, strict),
+        Says::Allow(_, _) => add_allowed(marks, c, j),
+        Says::Disallow(strict, _, _) => add_disallowed(counts, marks, c, j, strict),
         Says::Require(n) => require_nullability(c, n),
     }
 }

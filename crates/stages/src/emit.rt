@@ -1,11 +1,12 @@
 // The comparisons of a resolved column, written out.
 ghost use mathlib.Core.Path.{_≡_};
-ghost use Prim.Native.Nat.{_+_, _*_, _≤_, _<_, _^_};
+ghost use mathlib.Core.List.{List};
+ghost use Prim.Native.Nat.{ℕ, _+_, _*_, _≤_, _<_, _^_};
 ghost use lib.ListN.{length};
 ghost use Rattle.constraints.specs.Comparisons.{collectColumnComparisons};
 ghost use Rattle.constraints.specs.Payload.{payload};
 ghost use Rattle.constraints.specs.Resolve.{fixedAt};
-ghost use Rattle.columns.specs.Abstraction.{Conjuncts, columnOf, comparedOf, Fine};
+ghost use Rattle.columns.specs.Abstraction.{Conjuncts, numbered, columnOf, comparedOf, Fine};
 ghost use Rattle.merge.specs.Emit.{ofColumn, isFixed};
 ghost use Rattle.merge.specs.Write.{writeComparisons};
 ghost use Rattle.rewrite.specs.Read.{comparisonIn};
@@ -22,7 +23,8 @@ use truth::scalar::Scalar;
 
 /// Whether the bounds pin the column to one value.
 pub fn is_fixed(c: ColumnConstraints) -> bool
-    ensures { λ r. ⌜ ((t : Conjuncts) → r ≡ isFixed (fixedAt payload (columnOf t c .lower) (columnOf t c .upper))) ⌝ }
+    ensures { λ r. ⌜ ((t : Conjuncts) (a : List ℕ) → r ≡ isFixed (fixedAt payload (columnOf t (numbered a c) .lower)
+        (columnOf t (numbered a c) .upper))) ⌝ }
 {
     let f = fixed_value(c);
     match f {
@@ -67,22 +69,23 @@ pub fn write_column(
     a: Column,
     kinds: &[u8],
     values: &[u64],
+    marks: &[u8],
     c: ColumnConstraints,
 ) -> u32
-    requires { ⌜ Fine (c .marks) (c .len) × (u ≤ 4096) × ((s : Conjuncts) → s .kinds ≡ now kinds →
+    requires { ⌜ Fine 128 (now marks) (c .len) × (u ≤ 4096) × ((s : Conjuncts) → s .kinds ≡ now kinds →
         s .values ≡ now values →
-        16 * (u + 3 * length (collectColumnComparisons payload (columnOf s c))) ≤ length (now rs)) ⌝ }
+        16 * (u + 3 * length (collectColumnComparisons payload (columnOf s (numbered (now marks) c)))) ≤ length (now rs)) ⌝ }
     ensures { λ r. ⌜ ((s : Conjuncts) → s .kinds ≡ now (kinds .entry) → s .values ≡ now (values .entry) →
-        r ≡ u + 3 * length (collectColumnComparisons payload (columnOf s c))) ⌝ }
+        r ≡ u + 3 * length (collectColumnComparisons payload (columnOf s (numbered (now (marks .entry)) c)))) ⌝ }
     ensures { λ _. ⌜ ((s : Conjuncts) → s .kinds ≡ now (kinds .entry) → s .values ≡ now (values .entry) →
         now (rs .exit) ≡ writeComparisons (now (t .entry)) u
-        (ofColumn (a .0) (collectColumnComparisons payload (columnOf s c))) (now (rs .entry))) ⌝ }
+        (ofColumn (a .0) (collectColumnComparisons payload (columnOf s (numbered (now (marks .entry)) c)))) (now (rs .entry))) ⌝ }
 {
     let places = c.len + 2;
     let mut at = u;
     let mut p: usize = 0;
     while p < places {
-        let k = comparison_at(kinds, values, c, p);
+        let k = comparison_at(kinds, values, marks, c, p);
         at = write_place(t, rs, at, a, k);
         p += 1;
     }

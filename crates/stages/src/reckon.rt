@@ -66,7 +66,7 @@ fn room_for(len: usize, used: usize) -> bool
 /// The answer for a chain of the first `kept` nodes and `total` comparisons.
 pub fn rebuilt_answer(
     len: usize,
-    trees: &[u16; 4096],
+    trees: &[u16],
     nodes: &[u32],
     kept: usize,
     used: u32,

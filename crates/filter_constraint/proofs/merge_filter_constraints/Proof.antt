@@ -4,20 +4,19 @@ use Rattle.filter_constraint.proofs.merge_filter_constraints.Reads as r
 use Rattle.filter_constraint.proofs.merge_filter_constraints.Lts as lts
 use Rattle.columns.proofs.column.empty.Reads as empty-reads
 use Rattle.columns.proofs.column.require_nullability.Reads as require-nullability-reads
-use Rattle.columns.proofs.comparisons.comparison_count.Reads as comparison-count-reads
-use Rattle.columns.proofs.merging.merge_from.Reads as merge-from-reads
-use Rattle.columns.proofs.resolve.resolve_deferred.Reads as resolve-deferred-reads
 use Rattle.rewrite.proofs.classify.classify.Reads as classify-reads
 use Rattle.rewrite.proofs.write.write_ands.Reads as write-ands-reads
-use Rattle.stages.proofs.add.add_says.Reads as add-says-reads
 use Rattle.stages.proofs.emit.is_fixed.Reads as is-fixed-reads
-use Rattle.stages.proofs.emit.write_column.Reads as write-column-reads
 use Rattle.stages.proofs.fields.bump.Reads as bump-reads
 use Rattle.stages.proofs.fields.is_rewritten.Reads as is-rewritten-reads
 use Rattle.stages.proofs.fields.slot.Reads as slot-reads
 use Rattle.stages.proofs.reckon.nothing_passes.Reads as nothing-passes-reads
 use Rattle.stages.proofs.reckon.rebuilt_answer.Reads as rebuilt-answer-reads
-use borrow.Author.Needs.{needs}
+use Rattle.stages.proofs.rows.add_in_row.Reads as add-in-row-reads
+use Rattle.stages.proofs.rows.count_row.Reads as count-row-reads
+use Rattle.stages.proofs.rows.merge_rows.Reads as merge-rows-reads
+use Rattle.stages.proofs.rows.resolve_row.Reads as resolve-row-reads
+use Rattle.stages.proofs.rows.write_row.Reads as write-row-reads
 use Prim.Native.Nat.{ℕ, _+_, _*_, _-_, _≤_, _<_}
 use mathlib.Core.Path.{_≡_, refl, sym, _∙_, ap, subst}
 use mathlib.Core.Bool.{Bool, true, false, not, _&&_, _||_}
@@ -29,7 +28,7 @@ use lib.ListN.{length, getD}
 use Rattle.records.proofs.Laws.{and-left, and-right}
 use Rattle.truth.specs.FromBytes.{aexprOf}
 use Rattle.constraints.specs.Payload.{payload}
-use Rattle.columns.specs.Abstraction.{conjuncts}
+use Rattle.columns.specs.Abstraction.{conjuncts, numbered}
 use Rattle.merge.specs.Emit.{comparisons}
 use Rattle.rewrite.specs.Told.{ToldConjunct}
 use Rattle.rewrite.specs.Walk.{firstOf}
@@ -44,64 +43,70 @@ use Rattle.filter_constraint.proofs.Concluding.{chain-room, chain-answe
 use Rattle.filter_constraint.proofs.Propagating.{merged-none, edge-self, edge-turn, passed-none, passed-turn, kept-none}
 use Rattle.filter_constraint.proofs.Propagating.{kept-more}
 use Rattle.filter_constraint.proofs.Resolving.{column-few, resolved-none, resolved-more, written-none, written-more}
+use Rattle.stages.specs.Rows.{rowOf}
+use Rattle.filter_constraint.proofs.Arrays.{rows-fine}
+use borrow.Author.Needs.{needs}
 
 abbrev Inv-loop : tie.InvT-loop
-Inv-loop t rs p used trees nodes n kinds values starts counts table₀ seen₀ order₀ columns₀ kept₀ keeps₀ lefts₀ rights₀ equals₀ edges₀ bounds₀ unsat₀ i₀ table seen order columns kept keeps lefts rights equals edges bounds unsat i =
+Inv-loop t rs p used trees nodes n kinds values starts counts marks₀ table₀ seen₀ order₀ columns₀ kept₀ keeps₀ lefts₀ rights₀ equals₀ edges₀ bounds₀ unsat₀ i₀ marks table seen order columns kept keeps lefts rights equals edges bounds unsat i =
     (i ≤ n) × (columns ≤ i + i) × (keeps + edges ≤ i) × (bounds ≤ i) × Collects (conjuncts kinds values starts
-    counts p) table seen order columns kept keeps lefts rights equals edges bounds unsat (collectTo (aexprOf rs
-    p) nodes i)
+    counts p) table marks seen order columns kept keeps lefts rights equals edges bounds unsat (collectTo
+    (aexprOf rs p) nodes i) × (length marks ≡ length marks₀)
 
 abbrev μ-loop : tie.MeasureT-loop
-μ-loop t rs p used trees nodes n kinds values starts counts table₀ seen₀ order₀ columns₀ kept₀ keeps₀ lefts₀ rights₀ equals₀ edges₀ bounds₀ unsat₀ i₀ table seen order columns kept keeps lefts rights equals edges bounds unsat i =
+μ-loop t rs p used trees nodes n kinds values starts counts marks₀ table₀ seen₀ order₀ columns₀ kept₀ keeps₀ lefts₀ rights₀ equals₀ edges₀ bounds₀ unsat₀ i₀ marks table seen order columns kept keeps lefts rights equals edges bounds unsat i =
     n - i
 
 abbrev Inv-loop3 : tie.InvT-loop3
-Inv-loop3 t rs p used trees nodes n kinds values starts counts table₀ order columns kept keeps lefts rights equals edges bounds unsat i emitted₀ going pass any₀ e₀ table emitted any e =
-    (e ≤ edges) × ((T : Table) → Shows (conjuncts kinds values starts counts p) table₀ T → Merged (conjuncts
-    kinds values starts counts p) table (edgesOf lefts rights equals e) emitted₀ emitted any T)
+Inv-loop3 t rs p used trees nodes n kinds values starts counts marks₀ table₀ order columns kept keeps lefts rights equals edges bounds unsat i emitted₀ going pass any₀ e₀ marks table emitted any e =
+    (e ≤ edges) × ((T : Table) → Shows (conjuncts kinds values starts counts p) table₀ marks₀ T → Merged
+    (conjuncts kinds values starts counts p) table marks (edgesOf lefts rights equals e) emitted₀ emitted any T)
+    × (length marks ≡ length marks₀)
 
 abbrev μ-loop3 : tie.MeasureT-loop3
-μ-loop3 t rs p used trees nodes n kinds values starts counts table₀ order columns kept keeps lefts rights equals edges bounds unsat i emitted₀ going pass any₀ e₀ table emitted any e =
+μ-loop3 t rs p used trees nodes n kinds values starts counts marks₀ table₀ order columns kept keeps lefts rights equals edges bounds unsat i emitted₀ going pass any₀ e₀ marks table emitted any e =
     edges - e
 
 abbrev Inv-loop2 : tie.InvT-loop2
-Inv-loop2 t rs p used trees nodes n kinds values starts counts table₀ order columns kept keeps lefts rights equals edges bounds unsat i emitted₀ going₀ pass₀ table emitted going pass =
-    (pass ≤ columns) × ((T : Table) → Shows (conjuncts kinds values starts counts p) table₀ T → Passed
-    (conjuncts kinds values starts counts p) table (edgesOf lefts rights equals edges) columns pass emitted
-    going T)
+Inv-loop2 t rs p used trees nodes n kinds values starts counts marks₀ table₀ order columns kept keeps lefts rights equals edges bounds unsat i emitted₀ going₀ pass₀ marks table emitted going pass =
+    (pass ≤ columns) × ((T : Table) → Shows (conjuncts kinds values starts counts p) table₀ marks₀ T → Passed
+    (conjuncts kinds values starts counts p) table marks (edgesOf lefts rights equals edges) columns pass
+    emitted going T) × (length marks ≡ length marks₀)
 
 abbrev μ-loop2 : tie.MeasureT-loop2
-μ-loop2 t rs p used trees nodes n kinds values starts counts table₀ order columns kept keeps lefts rights equals edges bounds unsat i emitted₀ going₀ pass₀ table emitted going pass =
+μ-loop2 t rs p used trees nodes n kinds values starts counts marks₀ table₀ order columns kept keeps lefts rights equals edges bounds unsat i emitted₀ going₀ pass₀ marks table emitted going pass =
     columns - pass
 
 abbrev Inv-loop4 : tie.InvT-loop4
-Inv-loop4 t rs p used trees nodes n kinds values starts counts table order columns kept₀ keeps₀ lefts equals edges bounds unsat i emitted going pass dropped₀ e₀ kept keeps dropped e =
+Inv-loop4 t rs p used trees nodes n kinds values starts counts marks table order columns kept₀ keeps₀ lefts equals edges bounds unsat i emitted going pass dropped₀ e₀ kept keeps dropped e =
     (e ≤ edges) × (keeps ≤ keeps₀ + e) × ((T : Table) (l rights : List ℕ) → Shows (conjuncts kinds values starts
-    counts p) table T → Keeps kept₀ keeps₀ l → Kept T (edgesOf lefts rights equals e) kept keeps dropped l)
+    counts p) table marks T → Keeps kept₀ keeps₀ l → Kept T (edgesOf lefts rights equals e) kept keeps dropped
+    l)
 
 abbrev μ-loop4 : tie.MeasureT-loop4
-μ-loop4 t rs p used trees nodes n kinds values starts counts table order columns kept₀ keeps₀ lefts equals edges bounds unsat i emitted going pass dropped₀ e₀ kept keeps dropped e =
+μ-loop4 t rs p used trees nodes n kinds values starts counts marks table order columns kept₀ keeps₀ lefts equals edges bounds unsat i emitted going pass dropped₀ e₀ kept keeps dropped e =
     edges - e
 
 abbrev Inv-loop5 : tie.InvT-loop5
-Inv-loop5 t rs p used trees nodes n kinds values starts counts table₀ order columns kept keeps edges bounds unsat₀ i emitted going pass dropped e total₀ o₀ table unsat total o =
-    (o ≤ columns) × (total ≤ o * 130) × ((T : Table) → Shows (conjuncts kinds values starts counts p) table₀ T →
-    Resolved (conjuncts kinds values starts counts p) table (firstOf order o) unsat₀ unsat total T)
+Inv-loop5 t rs p used trees nodes n kinds values starts counts marks₀ table₀ order columns kept keeps edges bounds unsat₀ i emitted going pass dropped e total₀ o₀ marks table unsat total o =
+    (o ≤ columns) × (total ≤ o * 130) × ((T : Table) → Shows (conjuncts kinds values starts counts p) table₀
+    marks₀ T → Resolved (conjuncts kinds values starts counts p) table marks (firstOf order o) unsat₀ unsat
+    total T) × (length marks ≡ length marks₀)
 
 abbrev μ-loop5 : tie.MeasureT-loop5
-μ-loop5 t rs p used trees nodes n kinds values starts counts table₀ order columns kept keeps edges bounds unsat₀ i emitted going pass dropped e total₀ o₀ table unsat total o =
+μ-loop5 t rs p used trees nodes n kinds values starts counts marks₀ table₀ order columns kept keeps edges bounds unsat₀ i emitted going pass dropped e total₀ o₀ marks table unsat total o =
     columns - o
 
 abbrev Inv-loop6 : tie.InvT-loop6
-Inv-loop6 t rs₀ p used trees nodes n kinds values starts counts table order columns kept keeps edges bounds unsat i emitted going pass dropped e total o answer u₀ w₀ rs u w =
+Inv-loop6 t rs₀ p used trees nodes n kinds values starts counts marks table order columns kept keeps edges bounds unsat i emitted going pass dropped e total o answer u₀ w₀ rs u w =
     (w ≤ columns) × Written t used rs₀ (comparisons payload (firstOf order w) (shown (conjuncts kinds values
-    starts counts p) table)) u rs
+    starts counts p) table marks)) u rs
 
 abbrev μ-loop6 : tie.MeasureT-loop6
-μ-loop6 t rs₀ p used trees nodes n kinds values starts counts table order columns kept keeps edges bounds unsat i emitted going pass dropped e total o answer u₀ w₀ rs u w =
+μ-loop6 t rs₀ p used trees nodes n kinds values starts counts marks table order columns kept keeps edges bounds unsat i emitted going pass dropped e total o answer u₀ w₀ rs u w =
     columns - w
 
--- src/lib.rt:64:9
+-- src/lib.rt:66:9
 empty-requires :
     tie.Need-empty-requires
     Inv-loop
@@ -118,7 +123,7 @@ empty-requires :
     μ-loop6
 empty-requires c κs = search needs
 
--- src/lib.rt:78:5
+-- src/lib.rt:80:5
 loop-holds :
     tie.Need-loop-holds
     Inv-loop
@@ -139,11 +144,12 @@ loop-holds c =
       omega arith,
       omega arith,
       omega arith,
-      collect-none _ _ _ _ (empty .ensures .0 _) (empty
+      collect-none _ _ _ _ _ (empty .ensures .0 _) (empty
           .ensures .1),
+      refl,
     )
 
--- src/lib.rt:79:20
+-- src/lib.rt:81:20
 mul-node :
     tie.Need-mul-node
     Inv-loop
@@ -159,16 +165,17 @@ mul-node :
     Inv-loop6
     μ-loop6
 mul-node c =
-    let st = c .before .before .before .before .before .before in
+    let st = c .before .before .before .before .before .before .before .before .before .before .before .before
+    .before in
     let l1 = c .before .loop in
     let t1 = c .loop-test in
     let h : l1 .i < st .args .n = ltb-true _ _ (and-left (ltb (l1 .i) (st .args .n)) (not (l1 .unsat)) (t1
     .taken)) in
-    omega (arith, l1 .inv .0, l1 .inv .1, l1 .inv .2, l1 .inv .3, h, st .pre .0 .0)
+    omega (arith, l1 .inv .0, l1 .inv .1, l1 .inv .2, l1 .inv .3, h, st .pre .0 .0, st .pre .0 .1)
 
--- src/lib.rt:79:20
-element-copy-out-node :
-    tie.Need-element-copy-out-node
+-- src/lib.rt:81:20
+shared-slice-read-node :
+    tie.Need-shared-slice-read-node
     Inv-loop
     μ-loop
     Inv-loop3
@@ -181,15 +188,27 @@ element-copy-out-node :
     μ-loop5
     Inv-loop6
     μ-loop6
-element-copy-out-node c =
-    let st = c .before .before .before .before .before .before in
-    let l1 = c .before .loop in
-    let t1 = c .loop-test in
+shared-slice-read-node c =
+    let st = c .before .before .before .before .before .before .before .before .before .before .before .before
+    .before .before in
+    let l1 = c .before .before .loop in
+    let t1 = c .before .loop-test in
     let h : l1 .i < st .args .n = ltb-true _ _ (and-left (ltb (l1 .i) (st .args .n)) (not (l1 .unsat)) (t1
     .taken)) in
-    omega (arith, l1 .inv .0, l1 .inv .1, l1 .inv .2, l1 .inv .3, h, st .pre .0 .0)
+    omega (
+      arith,
+      l1 .inv .0,
+      l1 .inv .1,
+      l1 .inv .2,
+      l1 .inv .3,
+      h,
+      st .pre .0 .0,
+      st .pre .0 .1,
+      st .pre .0
+          .3,
+    )
 
--- src/lib.rt:80:17
+-- src/lib.rt:82:17
 cast-j :
     tie.Need-cast-j
     Inv-loop
@@ -205,14 +224,15 @@ cast-j :
     Inv-loop6
     μ-loop6
 cast-j c =
-    let st = c .before .before .before .before .before .before .before in
+    let st = c .before .before .before .before .before .before .before .before .before .before .before .before
+    .before .before in
     let l1 = c .before .before .loop in
     let t1 = c .before .loop-test in
     let h : l1 .i < st .args .n = ltb-true _ _ (and-left (ltb (l1 .i) (st .args .n)) (not (l1 .unsat)) (t1
     .taken)) in
-    omega (arith, l1 .inv .0, l1 .inv .1, l1 .inv .2, l1 .inv .3, h, st .pre .0 .0)
+    omega (arith, l1 .inv .0, l1 .inv .1, l1 .inv .2, l1 .inv .3, h, st .pre .0 .0, st .pre .0 .1)
 
--- src/lib.rt:81:13
+-- src/lib.rt:83:13
 classify-requires :
     tie.Need-classify-requires
     Inv-loop
@@ -229,7 +249,7 @@ classify-requires :
     μ-loop6
 classify-requires c κs = search needs
 
--- src/lib.rt:82:9
+-- src/lib.rt:84:9
 add-i :
     tie.Need-add-i
     Inv-loop
@@ -245,14 +265,15 @@ add-i :
     Inv-loop6
     μ-loop6
 add-i c =
-    let st = c .before .before .before .before .before .before .before .before .before in
+    let st = c .before .before .before .before .before .before .before .before .before .before .before .before
+    .before .before .before .before in
     let l1 = c .before .before .before .before .loop in
     let t1 = c .before .before .before .loop-test in
     let h : l1 .i < st .args .n = ltb-true _ _ (and-left (ltb (l1 .i) (st .args .n)) (not (l1 .unsat)) (t1
     .taken)) in
-    omega (arith, l1 .inv .0, l1 .inv .1, l1 .inv .2, l1 .inv .3, h, st .pre .0 .0)
+    omega (arith, l1 .inv .0, l1 .inv .1, l1 .inv .2, l1 .inv .3, h, st .pre .0 .0, st .pre .0 .1)
 
--- src/lib.rt:84:30
+-- src/lib.rt:86:30
 enum-known-k :
     tie.Need-enum-known-k
     Inv-loop
@@ -269,7 +290,7 @@ enum-known-k :
     μ-loop6
 enum-known-k c = search needs
 
--- src/lib.rt:85:21
+-- src/lib.rt:87:21
 slot-requires :
     tie.Need-slot-requires
     Inv-loop
@@ -286,7 +307,7 @@ slot-requires :
     μ-loop6
 slot-requires c κs = search needs
 
--- src/lib.rt:86:17
+-- src/lib.rt:88:17
 mul-order :
     tie.Need-mul-order
     Inv-loop
@@ -303,14 +324,14 @@ mul-order :
     μ-loop6
 mul-order c =
     let st = c .before .before .before .before .before .before .before .before .before .before .before .before
-    .before in
+    .before .before .before .before .before .before .before .before in
     let l1 = c .before .before .before .before .before .before .before .before .loop in
     let t1 = c .before .before .before .before .before .before .before .loop-test in
     let h : l1 .i < st .args .n = ltb-true _ _ (and-left (ltb (l1 .i) (st .args .n)) (not (l1 .unsat)) (t1
     .taken)) in
-    omega (arith, l1 .inv .0, l1 .inv .1, l1 .inv .2, l1 .inv .3, h, st .pre .0 .0)
+    omega (arith, l1 .inv .0, l1 .inv .1, l1 .inv .2, l1 .inv .3, h, st .pre .0 .0, st .pre .0 .1)
 
--- src/lib.rt:86:17
+-- src/lib.rt:88:17
 array-write-order :
     tie.Need-array-write-order
     Inv-loop
@@ -327,14 +348,14 @@ array-write-order :
     μ-loop6
 array-write-order c =
     let st = c .before .before .before .before .before .before .before .before .before .before .before .before
-    .before in
+    .before .before .before .before .before .before .before .before in
     let l1 = c .before .before .before .before .before .before .before .before .loop in
     let t1 = c .before .before .before .before .before .before .before .loop-test in
     let h : l1 .i < st .args .n = ltb-true _ _ (and-left (ltb (l1 .i) (st .args .n)) (not (l1 .unsat)) (t1
     .taken)) in
-    omega (arith, l1 .inv .0, l1 .inv .1, l1 .inv .2, l1 .inv .3, h, st .pre .0 .0)
+    omega (arith, l1 .inv .0, l1 .inv .1, l1 .inv .2, l1 .inv .3, h, st .pre .0 .0, st .pre .0 .1)
 
--- src/lib.rt:87:32
+-- src/lib.rt:89:32
 array-read-bump :
     tie.Need-array-read-bump
     Inv-loop
@@ -351,7 +372,7 @@ array-read-bump :
     μ-loop6
 array-read-bump c = search needs
 
--- src/lib.rt:87:17
+-- src/lib.rt:89:17
 bump-requires :
     tie.Need-bump-requires
     Inv-loop
@@ -368,14 +389,14 @@ bump-requires :
     μ-loop6
 bump-requires c κs =
     let st = c .before .before .before .before .before .before .before .before .before .before .before .before
-    .before in
+    .before .before .before .before .before .before .before .before in
     let l1 = c .before .before .before .before .before .before .before .before .loop in
     let t1 = c .before .before .before .before .before .before .before .loop-test in
     let h : l1 .i < st .args .n = ltb-true _ _ (and-left (ltb (l1 .i) (st .args .n)) (not (l1 .unsat)) (t1
     .taken)) in
-    omega (arith, l1 .inv .0, l1 .inv .1, l1 .inv .2, l1 .inv .3, h, st .pre .0 .0)
+    omega (arith, l1 .inv .0, l1 .inv .1, l1 .inv .2, l1 .inv .3, h, st .pre .0 .0, st .pre .0 .1)
 
--- src/lib.rt:88:17
+-- src/lib.rt:90:17
 array-write-seen :
     tie.Need-array-write-seen
     Inv-loop
@@ -392,9 +413,9 @@ array-write-seen :
     μ-loop6
 array-write-seen c = search needs
 
--- src/lib.rt:89:68
-mul-add-says :
-    tie.Need-mul-add-says
+-- src/lib.rt:91:80
+mul-add-in-row :
+    tie.Need-mul-add-in-row
     Inv-loop
     μ-loop
     Inv-loop3
@@ -407,11 +428,11 @@ mul-add-says :
     μ-loop5
     Inv-loop6
     μ-loop6
-mul-add-says c = search needs
+mul-add-in-row c = search needs
 
--- src/lib.rt:89:68
-array-copy-out-add-says :
-    tie.Need-array-copy-out-add-says
+-- src/lib.rt:91:80
+array-copy-out-add-in-row :
+    tie.Need-array-copy-out-add-in-row
     Inv-loop
     μ-loop
     Inv-loop3
@@ -424,11 +445,11 @@ array-copy-out-add-says :
     μ-loop5
     Inv-loop6
     μ-loop6
-array-copy-out-add-says c = search needs
+array-copy-out-add-in-row c = search needs
 
--- src/lib.rt:89:21
-add-says-requires :
-    tie.Need-add-says-requires
+-- src/lib.rt:91:21
+add-in-row-requires :
+    tie.Need-add-in-row-requires
     Inv-loop
     μ-loop
     Inv-loop3
@@ -441,34 +462,32 @@ add-says-requires :
     μ-loop5
     Inv-loop6
     μ-loop6
-add-says-requires c κs =
+add-in-row-requires c κs =
     let st = c .before .before .before .before .before .before .before .before .before .before .before .before
-    .before .before .before .before .before .before .before in
-    let l1 = c .before .before .before .before .before .before .before .before .before .before .before .before
-    .before .before .loop in
-    let t1 = c .before .before .before .before .before .before .before .before .before .before .before .before
-    .before .loop-test in
-    let classify = c .before .before .before .before .before .before .before .before .before .before .classify
-    in
-    let arm = c .before .before .before .before .before .before .before .before .k in
-    let slot = c .before .before .before .before .before .before .slot in
+    .before .before .before .before .before .before .before .before .before .before .before in
+    let l1 = c .before .before .before .before .before .before .before .before .before .before .before .loop in
+    let t1 = c .before .before .before .before .before .before .before .before .before .before .loop-test in
+    let classify = c .before .before .before .before .before .before .before .classify in
+    let arm = c .before .before .before .before .before .k in
+    let slot = c .before .before .before .slot in
     let h : l1 .i < st .args .n = ltb-true _ _ (and-left (ltb (l1 .i) (st .args .n)) (not (l1 .unsat)) (t1
     .taken)) in
     let k = read-as _ _ _ _ _ (classify .ensures _) (arm .given .1) in (
-      l1 .inv .4 .shows .fine _ (omega (arith, slot .ensures)),
-      omega (
-        arith,
-        l1 .inv .0,
-        l1 .inv .1,
-        l1 .inv .2,
-        l1 .inv .3,
-        h,
-        st .pre .0 .0,
+      (
+        omega (arith, slot .ensures),
+        l1 .inv .4 .shows .fine _ (omega (arith, slot .ensures)),
+        omega (
+          arith,
+          l1
+              .inv .5,
+          h,
+          st .pre .0 .0,
+        ),
       ),
       subst (ToldConjunct _ _) k (st .pre .1 .0 _ h),
     )
 
--- src/lib.rt:90:17
+-- src/lib.rt:92:17
 mul-table :
     tie.Need-mul-table
     Inv-loop
@@ -485,7 +504,7 @@ mul-table :
     μ-loop6
 mul-table c = search needs
 
--- src/lib.rt:90:17
+-- src/lib.rt:92:17
 array-set-from-table :
     tie.Need-array-set-from-table
     Inv-loop
@@ -502,7 +521,7 @@ array-set-from-table :
     μ-loop6
 array-set-from-table c = search needs
 
--- src/lib.rt:92:17
+-- src/lib.rt:94:17
 add-bounds :
     tie.Need-add-bounds
     Inv-loop
@@ -519,18 +538,19 @@ add-bounds :
     μ-loop6
 add-bounds c =
     let st = c .before .before .before .before .before .before .before .before .before .before .before .before
-    .before .before .before .before .before .before .before .before in
+    .before .before .before .before .before .before .before .before .before .before .before .before .before
+    .before in
     let l1 = c .before .before .before .before .before .before .before .before .before .before .before .before
-    .before .before .before .loop in
+    .before .before .loop in
     let t1 = c .before .before .before .before .before .before .before .before .before .before .before .before
-    .before .before .loop-test in
-    let bump = c .before .before .before .before .before .before .bump in
+    .before .loop-test in
+    let bump = c .before .before .before .before .before .bump in
     let h : l1 .i < st .args .n = ltb-true _ _ (and-left (ltb (l1 .i) (st .args .n)) (not (l1 .unsat)) (t1
     .taken)) in
     let b0 = bump .ensures .1 in
-    omega (arith, l1 .inv .0, l1 .inv .1, l1 .inv .2, l1 .inv .3, h, st .pre .0 .0, b0)
+    omega (arith, l1 .inv .0, l1 .inv .1, l1 .inv .2, l1 .inv .3, h, st .pre .0 .0, st .pre .0 .1, b0)
 
--- src/lib.rt:78:5
+-- src/lib.rt:80:5
 loop-less :
     tie.Need-loop-less
     Inv-loop
@@ -547,18 +567,19 @@ loop-less :
     μ-loop6
 loop-less c =
     let st = c .before .before .before .before .before .before .before .before .before .before .before .before
-    .before .before .before .before .before .before .before .before in
+    .before .before .before .before .before .before .before .before .before .before .before .before .before
+    .before in
     let l1 = c .before .before .before .before .before .before .before .before .before .before .before .before
-    .before .before .before .loop in
+    .before .before .loop in
     let t1 = c .before .before .before .before .before .before .before .before .before .before .before .before
-    .before .before .loop-test in
-    let bump = c .before .before .before .before .before .before .bump in
+    .before .loop-test in
+    let bump = c .before .before .before .before .before .bump in
     let h : l1 .i < st .args .n = ltb-true _ _ (and-left (ltb (l1 .i) (st .args .n)) (not (l1 .unsat)) (t1
     .taken)) in
     let b0 = bump .ensures .1 in
-    omega (arith, l1 .inv .0, l1 .inv .1, l1 .inv .2, l1 .inv .3, h, st .pre .0 .0, b0)
+    omega (arith, l1 .inv .0, l1 .inv .1, l1 .inv .2, l1 .inv .3, h, st .pre .0 .0, st .pre .0 .1, b0)
 
--- src/lib.rt:78:5
+-- src/lib.rt:80:5
 loop-again :
     tie.Need-loop-again
     Inv-loop
@@ -575,22 +596,25 @@ loop-again :
     μ-loop6
 loop-again c =
     let st = c .before .before .before .before .before .before .before .before .before .before .before .before
-    .before .before .before .before .before .before .before .before in
+    .before .before .before .before .before .before .before .before .before .before .before .before .before
+    .before in
     let l1 = c .before .before .before .before .before .before .before .before .before .before .before .before
-    .before .before .before .loop in
+    .before .before .loop in
     let t1 = c .before .before .before .before .before .before .before .before .before .before .before .before
-    .before .before .loop-test in
-    let classify = c .before .before .before .before .before .before .before .before .before .before .before
-    .classify in
-    let arm = c .before .before .before .before .before .before .before .before .before .k in
-    let slot = c .before .before .before .before .before .before .before .slot in
-    let bump = c .before .before .before .before .before .before .bump in
-    let add-says = c .add-says in
+    .before .loop-test in
+    let classify = c .before .before .before .before .before .before .before .before .before .before .classify
+    in
+    let arm = c .before .before .before .before .before .before .before .before .k in
+    let slot = c .before .before .before .before .before .before .slot in
+    let bump = c .before .before .before .before .before .bump in
+    let add-in-row = c .before .before .add-in-row in
     let h : l1 .i < st .args .n = ltb-true _ _ (and-left (ltb (l1 .i) (st .args .n)) (not (l1 .unsat)) (t1
     .taken)) in
     let k = read-as _ _ _ _ _ (classify .ensures _) (arm .given .1) in
     let b0 = bump .ensures .1 in (
-      omega (arith, l1 .inv .0, l1 .inv .1, l1 .inv .2, l1 .inv .3, h, st .pre .0 .0),
+      omega (arith, l1 .inv .0, l1 .inv .1, l1 .inv .2, l1 .inv .3, h, st .pre .0 .0, st .pre .0 .1),
+      omega
+          (arith, l1 .inv .0, l1 .inv .1, l1 .inv .2, l1 .inv .3, h, st .pre .0 .0, st .pre .0 .1, b0),
       omega (
         arith,
         l1 .inv .0,
@@ -599,7 +623,7 @@ loop-again c =
         l1 .inv .3,
         h,
         st .pre .0 .0,
-        b0,
+        st .pre .0 .1,
       ),
       omega (
         arith,
@@ -609,31 +633,27 @@ loop-again c =
         l1 .inv .3,
         h,
         st .pre .0 .0,
+        st .pre .0 .1,
       ),
-      omega (
-        arith,
-        l1 .inv .0,
-        l1 .inv .1,
-        l1 .inv .2,
-        l1 .inv .3,
-        h,
-        st .pre .0
-            .0,
-      ),
-      bounds-turn _ _ _ _ _ _ _ _ _ _ _ _ _ _ (l1 .inv .4) (omega (
-        arith,
-        l1 .inv .0,
-        l1 .inv .1,
-        l1 .inv .2,
-        l1 .inv .3,
-        h,
-        st .pre .0 .0,
-      )) _ _ _ _ _ _ _ k (collect-more _ _ _ _ (l1 .inv .4 .stops) (not-true (l1
-          .unsat) (and-right (ltb (l1 .i) (st .args .n)) (not (l1 .unsat)) (t1 .taken)))) (subst (ColumnsBelow 64) k
-          (st .pre .1 .1 _ h)) (slot .ensures) (bump .ensures .0) (add-says .ensures .0) (add-says .ensures .1),
+      bounds-turn _ _ _ _ _ _ _ _ _ _ _ _ _
+          _ _ (l1 .inv .4) (omega (
+            arith,
+            l1 .inv .0,
+            l1 .inv .1,
+            l1 .inv .2,
+            l1 .inv .3,
+            h,
+            st .pre .0 .0,
+            st .pre .0
+                .1,
+          )) _ _ _ _ _ _ _ _ k (collect-more _ _ _ _ (l1 .inv .4 .stops) (not-true (l1 .unsat) (and-right (ltb (l1
+          .i) (st .args .n)) (not (l1 .unsat)) (t1 .taken)))) (subst (ColumnsBelow 64) k (st .pre .1 .1 _ h)) (slot
+          .ensures) (bump .ensures .0) (add-in-row .ensures .0) (add-in-row .ensures .1 .0) (add-in-row .ensures .1
+          .1),
+      add-in-row .ensures .1 .1 .size ∙ l1 .inv .5,
     )
 
--- src/lib.rt:95:32
+-- src/lib.rt:97:32
 enum-known-k-2 :
     tie.Need-enum-known-k-2
     Inv-loop
@@ -650,7 +670,7 @@ enum-known-k-2 :
     μ-loop6
 enum-known-k-2 c = search needs
 
--- src/lib.rt:96:21
+-- src/lib.rt:98:21
 slot-requires-2 :
     tie.Need-slot-requires-2
     Inv-loop
@@ -667,7 +687,7 @@ slot-requires-2 :
     μ-loop6
 slot-requires-2 c κs = search needs
 
--- src/lib.rt:97:17
+-- src/lib.rt:99:17
 mul-order-2 :
     tie.Need-mul-order-2
     Inv-loop
@@ -684,14 +704,14 @@ mul-order-2 :
     μ-loop6
 mul-order-2 c =
     let st = c .before .before .before .before .before .before .before .before .before .before .before .before
-    .before in
+    .before .before .before .before .before .before .before .before in
     let l1 = c .before .before .before .before .before .before .before .before .loop in
     let t1 = c .before .before .before .before .before .before .before .loop-test in
     let h : l1 .i < st .args .n = ltb-true _ _ (and-left (ltb (l1 .i) (st .args .n)) (not (l1 .unsat)) (t1
     .taken)) in
-    omega (arith, l1 .inv .0, l1 .inv .1, l1 .inv .2, l1 .inv .3, h, st .pre .0 .0)
+    omega (arith, l1 .inv .0, l1 .inv .1, l1 .inv .2, l1 .inv .3, h, st .pre .0 .0, st .pre .0 .1)
 
--- src/lib.rt:97:17
+-- src/lib.rt:99:17
 array-write-order-2 :
     tie.Need-array-write-order-2
     Inv-loop
@@ -708,14 +728,14 @@ array-write-order-2 :
     μ-loop6
 array-write-order-2 c =
     let st = c .before .before .before .before .before .before .before .before .before .before .before .before
-    .before in
+    .before .before .before .before .before .before .before .before in
     let l1 = c .before .before .before .before .before .before .before .before .loop in
     let t1 = c .before .before .before .before .before .before .before .loop-test in
     let h : l1 .i < st .args .n = ltb-true _ _ (and-left (ltb (l1 .i) (st .args .n)) (not (l1 .unsat)) (t1
     .taken)) in
-    omega (arith, l1 .inv .0, l1 .inv .1, l1 .inv .2, l1 .inv .3, h, st .pre .0 .0)
+    omega (arith, l1 .inv .0, l1 .inv .1, l1 .inv .2, l1 .inv .3, h, st .pre .0 .0, st .pre .0 .1)
 
--- src/lib.rt:98:32
+-- src/lib.rt:100:32
 array-read-bump-2 :
     tie.Need-array-read-bump-2
     Inv-loop
@@ -732,7 +752,7 @@ array-read-bump-2 :
     μ-loop6
 array-read-bump-2 c = search needs
 
--- src/lib.rt:98:17
+-- src/lib.rt:100:17
 bump-requires-2 :
     tie.Need-bump-requires-2
     Inv-loop
@@ -749,14 +769,14 @@ bump-requires-2 :
     μ-loop6
 bump-requires-2 c κs =
     let st = c .before .before .before .before .before .before .before .before .before .before .before .before
-    .before in
+    .before .before .before .before .before .before .before .before in
     let l1 = c .before .before .before .before .before .before .before .before .loop in
     let t1 = c .before .before .before .before .before .before .before .loop-test in
     let h : l1 .i < st .args .n = ltb-true _ _ (and-left (ltb (l1 .i) (st .args .n)) (not (l1 .unsat)) (t1
     .taken)) in
-    omega (arith, l1 .inv .0, l1 .inv .1, l1 .inv .2, l1 .inv .3, h, st .pre .0 .0)
+    omega (arith, l1 .inv .0, l1 .inv .1, l1 .inv .2, l1 .inv .3, h, st .pre .0 .0, st .pre .0 .1)
 
--- src/lib.rt:99:17
+-- src/lib.rt:101:17
 array-write-seen-2 :
     tie.Need-array-write-seen-2
     Inv-loop
@@ -773,7 +793,7 @@ array-write-seen-2 :
     μ-loop6
 array-write-seen-2 c = search needs
 
--- src/lib.rt:100:45
+-- src/lib.rt:102:45
 mul-require-nullability :
     tie.Need-mul-require-nullability
     Inv-loop
@@ -790,7 +810,7 @@ mul-require-nullability :
     μ-loop6
 mul-require-nullability c = search needs
 
--- src/lib.rt:100:45
+-- src/lib.rt:102:45
 array-copy-out-require-nullability :
     tie.Need-array-copy-out-require-nullability
     Inv-loop
@@ -807,7 +827,7 @@ array-copy-out-require-nullability :
     μ-loop6
 array-copy-out-require-nullability c = search needs
 
--- src/lib.rt:100:21
+-- src/lib.rt:102:21
 require-nullability-requires :
     tie.Need-require-nullability-requires
     Inv-loop
@@ -824,7 +844,7 @@ require-nullability-requires :
     μ-loop6
 require-nullability-requires c κs = search needs
 
--- src/lib.rt:101:17
+-- src/lib.rt:103:17
 mul-table-2 :
     tie.Need-mul-table-2
     Inv-loop
@@ -841,7 +861,7 @@ mul-table-2 :
     μ-loop6
 mul-table-2 c = search needs
 
--- src/lib.rt:101:17
+-- src/lib.rt:103:17
 array-set-from-table-2 :
     tie.Need-array-set-from-table-2
     Inv-loop
@@ -858,7 +878,7 @@ array-set-from-table-2 :
     μ-loop6
 array-set-from-table-2 c = search needs
 
--- src/lib.rt:102:21
+-- src/lib.rt:104:21
 slot-requires-3 :
     tie.Need-slot-requires-3
     Inv-loop
@@ -875,7 +895,7 @@ slot-requires-3 :
     μ-loop6
 slot-requires-3 c κs = search needs
 
--- src/lib.rt:103:17
+-- src/lib.rt:105:17
 mul-order-3 :
     tie.Need-mul-order-3
     Inv-loop
@@ -892,7 +912,7 @@ mul-order-3 :
     μ-loop6
 mul-order-3 c =
     let st = c .before .before .before .before .before .before .before .before .before .before .before .before
-    .before .before .before .before .before in
+    .before .before .before .before .before .before .before .before .before .before .before .before in
     let l1 = c .before .before .before .before .before .before .before .before .before .before .before .before
     .loop in
     let t1 = c .before .before .before .before .before .before .before .before .before .before .before
@@ -901,9 +921,9 @@ mul-order-3 c =
     let h : l1 .i < st .args .n = ltb-true _ _ (and-left (ltb (l1 .i) (st .args .n)) (not (l1 .unsat)) (t1
     .taken)) in
     let b0 = bump2 .ensures .1 in
-    omega (arith, l1 .inv .0, l1 .inv .1, l1 .inv .2, l1 .inv .3, h, st .pre .0 .0, b0)
+    omega (arith, l1 .inv .0, l1 .inv .1, l1 .inv .2, l1 .inv .3, h, st .pre .0 .0, st .pre .0 .1, b0)
 
--- src/lib.rt:103:17
+-- src/lib.rt:105:17
 array-write-order-3 :
     tie.Need-array-write-order-3
     Inv-loop
@@ -920,7 +940,7 @@ array-write-order-3 :
     μ-loop6
 array-write-order-3 c =
     let st = c .before .before .before .before .before .before .before .before .before .before .before .before
-    .before .before .before .before .before in
+    .before .before .before .before .before .before .before .before .before .before .before .before in
     let l1 = c .before .before .before .before .before .before .before .before .before .before .before .before
     .loop in
     let t1 = c .before .before .before .before .before .before .before .before .before .before .before
@@ -929,9 +949,9 @@ array-write-order-3 c =
     let h : l1 .i < st .args .n = ltb-true _ _ (and-left (ltb (l1 .i) (st .args .n)) (not (l1 .unsat)) (t1
     .taken)) in
     let b0 = bump2 .ensures .1 in
-    omega (arith, l1 .inv .0, l1 .inv .1, l1 .inv .2, l1 .inv .3, h, st .pre .0 .0, b0)
+    omega (arith, l1 .inv .0, l1 .inv .1, l1 .inv .2, l1 .inv .3, h, st .pre .0 .0, st .pre .0 .1, b0)
 
--- src/lib.rt:104:32
+-- src/lib.rt:106:32
 array-read-bump-3 :
     tie.Need-array-read-bump-3
     Inv-loop
@@ -948,7 +968,7 @@ array-read-bump-3 :
     μ-loop6
 array-read-bump-3 c = search needs
 
--- src/lib.rt:104:17
+-- src/lib.rt:106:17
 bump-requires-3 :
     tie.Need-bump-requires-3
     Inv-loop
@@ -965,7 +985,7 @@ bump-requires-3 :
     μ-loop6
 bump-requires-3 c κs =
     let st = c .before .before .before .before .before .before .before .before .before .before .before .before
-    .before .before .before .before .before in
+    .before .before .before .before .before .before .before .before .before .before .before .before in
     let l1 = c .before .before .before .before .before .before .before .before .before .before .before .before
     .loop in
     let t1 = c .before .before .before .before .before .before .before .before .before .before .before
@@ -974,9 +994,9 @@ bump-requires-3 c κs =
     let h : l1 .i < st .args .n = ltb-true _ _ (and-left (ltb (l1 .i) (st .args .n)) (not (l1 .unsat)) (t1
     .taken)) in
     let b0 = bump2 .ensures .1 in
-    omega (arith, l1 .inv .0, l1 .inv .1, l1 .inv .2, l1 .inv .3, h, st .pre .0 .0, b0)
+    omega (arith, l1 .inv .0, l1 .inv .1, l1 .inv .2, l1 .inv .3, h, st .pre .0 .0, st .pre .0 .1, b0)
 
--- src/lib.rt:105:17
+-- src/lib.rt:107:17
 array-write-seen-3 :
     tie.Need-array-write-seen-3
     Inv-loop
@@ -993,7 +1013,7 @@ array-write-seen-3 :
     μ-loop6
 array-write-seen-3 c = search needs
 
--- src/lib.rt:106:45
+-- src/lib.rt:108:45
 mul-require-nullability-2 :
     tie.Need-mul-require-nullability-2
     Inv-loop
@@ -1010,7 +1030,7 @@ mul-require-nullability-2 :
     μ-loop6
 mul-require-nullability-2 c = search needs
 
--- src/lib.rt:106:45
+-- src/lib.rt:108:45
 array-copy-out-require-nullability-2 :
     tie.Need-array-copy-out-require-nullability-2
     Inv-loop
@@ -1027,7 +1047,7 @@ array-copy-out-require-nullability-2 :
     μ-loop6
 array-copy-out-require-nullability-2 c = search needs
 
--- src/lib.rt:106:21
+-- src/lib.rt:108:21
 require-nullability-requires-2 :
     tie.Need-require-nullability-requires-2
     Inv-loop
@@ -1044,7 +1064,7 @@ require-nullability-requires-2 :
     μ-loop6
 require-nullability-requires-2 c κs = search needs
 
--- src/lib.rt:107:17
+-- src/lib.rt:109:17
 mul-table-3 :
     tie.Need-mul-table-3
     Inv-loop
@@ -1061,7 +1081,7 @@ mul-table-3 :
     μ-loop6
 mul-table-3 c = search needs
 
--- src/lib.rt:107:17
+-- src/lib.rt:109:17
 array-set-from-table-3 :
     tie.Need-array-set-from-table-3
     Inv-loop
@@ -1078,7 +1098,7 @@ array-set-from-table-3 :
     μ-loop6
 array-set-from-table-3 c = search needs
 
--- src/lib.rt:108:17
+-- src/lib.rt:110:17
 mul-lefts :
     tie.Need-mul-lefts
     Inv-loop
@@ -1095,7 +1115,8 @@ mul-lefts :
     μ-loop6
 mul-lefts c =
     let st = c .before .before .before .before .before .before .before .before .before .before .before .before
-    .before .before .before .before .before .before .before .before in
+    .before .before .before .before .before .before .before .before .before .before .before .before .before
+    .before .before in
     let l1 = c .before .before .before .before .before .before .before .before .before .before .before .before
     .before .before .before .loop in
     let t1 = c .before .before .before .before .before .before .before .before .before .before .before .before
@@ -1106,9 +1127,9 @@ mul-lefts c =
     .taken)) in
     let b0 = bump3 .ensures .1 in
     let b1 = bump2 .ensures .1 in
-    omega (arith, l1 .inv .0, l1 .inv .1, l1 .inv .2, l1 .inv .3, h, st .pre .0 .0, b0, b1)
+    omega (arith, l1 .inv .0, l1 .inv .1, l1 .inv .2, l1 .inv .3, h, st .pre .0 .0, st .pre .0 .1, b0, b1)
 
--- src/lib.rt:108:17
+-- src/lib.rt:110:17
 array-write-lefts :
     tie.Need-array-write-lefts
     Inv-loop
@@ -1125,7 +1146,8 @@ array-write-lefts :
     μ-loop6
 array-write-lefts c =
     let st = c .before .before .before .before .before .before .before .before .before .before .before .before
-    .before .before .before .before .before .before .before .before in
+    .before .before .before .before .before .before .before .before .before .before .before .before .before
+    .before .before in
     let l1 = c .before .before .before .before .before .before .before .before .before .before .before .before
     .before .before .before .loop in
     let t1 = c .before .before .before .before .before .before .before .before .before .before .before .before
@@ -1136,9 +1158,9 @@ array-write-lefts c =
     .taken)) in
     let b0 = bump3 .ensures .1 in
     let b1 = bump2 .ensures .1 in
-    omega (arith, l1 .inv .0, l1 .inv .1, l1 .inv .2, l1 .inv .3, h, st .pre .0 .0, b0, b1)
+    omega (arith, l1 .inv .0, l1 .inv .1, l1 .inv .2, l1 .inv .3, h, st .pre .0 .0, st .pre .0 .1, b0, b1)
 
--- src/lib.rt:109:17
+-- src/lib.rt:111:17
 mul-rights :
     tie.Need-mul-rights
     Inv-loop
@@ -1155,7 +1177,8 @@ mul-rights :
     μ-loop6
 mul-rights c =
     let st = c .before .before .before .before .before .before .before .before .before .before .before .before
-    .before .before .before .before .before .before .before .before in
+    .before .before .before .before .before .before .before .before .before .before .before .before .before
+    .before .before in
     let l1 = c .before .before .before .before .before .before .before .before .before .before .before .before
     .before .before .before .loop in
     let t1 = c .before .before .before .before .before .before .before .before .before .before .before .before
@@ -1166,9 +1189,9 @@ mul-rights c =
     .taken)) in
     let b0 = bump3 .ensures .1 in
     let b1 = bump2 .ensures .1 in
-    omega (arith, l1 .inv .0, l1 .inv .1, l1 .inv .2, l1 .inv .3, h, st .pre .0 .0, b0, b1)
+    omega (arith, l1 .inv .0, l1 .inv .1, l1 .inv .2, l1 .inv .3, h, st .pre .0 .0, st .pre .0 .1, b0, b1)
 
--- src/lib.rt:109:17
+-- src/lib.rt:111:17
 array-write-rights :
     tie.Need-array-write-rights
     Inv-loop
@@ -1185,7 +1208,8 @@ array-write-rights :
     μ-loop6
 array-write-rights c =
     let st = c .before .before .before .before .before .before .before .before .before .before .before .before
-    .before .before .before .before .before .before .before .before in
+    .before .before .before .before .before .before .before .before .before .before .before .before .before
+    .before .before in
     let l1 = c .before .before .before .before .before .before .before .before .before .before .before .before
     .before .before .before .loop in
     let t1 = c .before .before .before .before .before .before .before .before .before .before .before .before
@@ -1196,9 +1220,9 @@ array-write-rights c =
     .taken)) in
     let b0 = bump3 .ensures .1 in
     let b1 = bump2 .ensures .1 in
-    omega (arith, l1 .inv .0, l1 .inv .1, l1 .inv .2, l1 .inv .3, h, st .pre .0 .0, b0, b1)
+    omega (arith, l1 .inv .0, l1 .inv .1, l1 .inv .2, l1 .inv .3, h, st .pre .0 .0, st .pre .0 .1, b0, b1)
 
--- src/lib.rt:110:17
+-- src/lib.rt:112:17
 mul-equals :
     tie.Need-mul-equals
     Inv-loop
@@ -1215,7 +1239,8 @@ mul-equals :
     μ-loop6
 mul-equals c =
     let st = c .before .before .before .before .before .before .before .before .before .before .before .before
-    .before .before .before .before .before .before .before .before in
+    .before .before .before .before .before .before .before .before .before .before .before .before .before
+    .before .before in
     let l1 = c .before .before .before .before .before .before .before .before .before .before .before .before
     .before .before .before .loop in
     let t1 = c .before .before .before .before .before .before .before .before .before .before .before .before
@@ -1226,9 +1251,9 @@ mul-equals c =
     .taken)) in
     let b0 = bump3 .ensures .1 in
     let b1 = bump2 .ensures .1 in
-    omega (arith, l1 .inv .0, l1 .inv .1, l1 .inv .2, l1 .inv .3, h, st .pre .0 .0, b0, b1)
+    omega (arith, l1 .inv .0, l1 .inv .1, l1 .inv .2, l1 .inv .3, h, st .pre .0 .0, st .pre .0 .1, b0, b1)
 
--- src/lib.rt:110:17
+-- src/lib.rt:112:17
 array-write-equals :
     tie.Need-array-write-equals
     Inv-loop
@@ -1245,7 +1270,8 @@ array-write-equals :
     μ-loop6
 array-write-equals c =
     let st = c .before .before .before .before .before .before .before .before .before .before .before .before
-    .before .before .before .before .before .before .before .before in
+    .before .before .before .before .before .before .before .before .before .before .before .before .before
+    .before .before in
     let l1 = c .before .before .before .before .before .before .before .before .before .before .before .before
     .before .before .before .loop in
     let t1 = c .before .before .before .before .before .before .before .before .before .before .before .before
@@ -1256,9 +1282,9 @@ array-write-equals c =
     .taken)) in
     let b0 = bump3 .ensures .1 in
     let b1 = bump2 .ensures .1 in
-    omega (arith, l1 .inv .0, l1 .inv .1, l1 .inv .2, l1 .inv .3, h, st .pre .0 .0, b0, b1)
+    omega (arith, l1 .inv .0, l1 .inv .1, l1 .inv .2, l1 .inv .3, h, st .pre .0 .0, st .pre .0 .1, b0, b1)
 
--- src/lib.rt:111:17
+-- src/lib.rt:113:17
 add-edges :
     tie.Need-add-edges
     Inv-loop
@@ -1275,7 +1301,8 @@ add-edges :
     μ-loop6
 add-edges c =
     let st = c .before .before .before .before .before .before .before .before .before .before .before .before
-    .before .before .before .before .before .before .before .before in
+    .before .before .before .before .before .before .before .before .before .before .before .before .before
+    .before .before in
     let l1 = c .before .before .before .before .before .before .before .before .before .before .before .before
     .before .before .before .loop in
     let t1 = c .before .before .before .before .before .before .before .before .before .before .before .before
@@ -1286,9 +1313,9 @@ add-edges c =
     .taken)) in
     let b0 = bump3 .ensures .1 in
     let b1 = bump2 .ensures .1 in
-    omega (arith, l1 .inv .0, l1 .inv .1, l1 .inv .2, l1 .inv .3, h, st .pre .0 .0, b0, b1)
+    omega (arith, l1 .inv .0, l1 .inv .1, l1 .inv .2, l1 .inv .3, h, st .pre .0 .0, st .pre .0 .1, b0, b1)
 
--- src/lib.rt:78:5
+-- src/lib.rt:80:5
 loop-less-2 :
     tie.Need-loop-less-2
     Inv-loop
@@ -1305,7 +1332,8 @@ loop-less-2 :
     μ-loop6
 loop-less-2 c =
     let st = c .before .before .before .before .before .before .before .before .before .before .before .before
-    .before .before .before .before .before .before .before .before in
+    .before .before .before .before .before .before .before .before .before .before .before .before .before
+    .before .before in
     let l1 = c .before .before .before .before .before .before .before .before .before .before .before .before
     .before .before .before .loop in
     let t1 = c .before .before .before .before .before .before .before .before .before .before .before .before
@@ -1316,9 +1344,9 @@ loop-less-2 c =
     .taken)) in
     let b0 = bump3 .ensures .1 in
     let b1 = bump2 .ensures .1 in
-    omega (arith, l1 .inv .0, l1 .inv .1, l1 .inv .2, l1 .inv .3, h, st .pre .0 .0, b0, b1)
+    omega (arith, l1 .inv .0, l1 .inv .1, l1 .inv .2, l1 .inv .3, h, st .pre .0 .0, st .pre .0 .1, b0, b1)
 
--- src/lib.rt:78:5
+-- src/lib.rt:80:5
 loop-again-2 :
     tie.Need-loop-again-2
     Inv-loop
@@ -1335,7 +1363,8 @@ loop-again-2 :
     μ-loop6
 loop-again-2 c =
     let st = c .before .before .before .before .before .before .before .before .before .before .before .before
-    .before .before .before .before .before .before .before .before in
+    .before .before .before .before .before .before .before .before .before .before .before .before .before
+    .before .before in
     let l1 = c .before .before .before .before .before .before .before .before .before .before .before .before
     .before .before .before .loop in
     let t1 = c .before .before .before .before .before .before .before .before .before .before .before .before
@@ -1355,56 +1384,42 @@ loop-again-2 c =
     let b0 = bump2 .ensures .1 in
     let b1 = bump3 .ensures .1 in
     let l = subst (ColumnsBelow 64) k (st .pre .1 .1 _ h) in (
-      omega (arith, l1 .inv .0, l1 .inv .1, l1 .inv .2, l1 .inv .3, h, st .pre .0 .0),
+      omega (arith, l1 .inv .0, l1 .inv .1, l1 .inv .2, l1 .inv .3, h, st .pre .0 .0, st .pre .0 .1),
+      omega
+          (arith, l1 .inv .0, l1 .inv .1, l1 .inv .2, l1 .inv .3, h, st .pre .0 .0, st .pre .0 .1, b0, b1),
+      omega
+          (arith, l1 .inv .0, l1 .inv .1, l1 .inv .2, l1 .inv .3, h, st .pre .0 .0, st .pre .0 .1),
       omega (
         arith,
-        l1 .inv .0,
-        l1 .inv .1,
-        l1 .inv .2,
-        l1 .inv .3,
-        h,
-        st .pre .0 .0,
-        b0,
-        b1,
-      ),
-      omega (
-        arith,
-        l1 .inv .0,
-        l1 .inv .1,
-        l1 .inv
-            .2,
-        l1 .inv .3,
-        h,
-        st .pre .0 .0,
-      ),
-      omega (
-        arith,
-        l1 .inv .0,
-        l1 .inv .1,
-        l1 .inv .2,
-        l1 .inv .3,
-        h,
-        st .pre
-            .0 .0,
-      ),
-      equality-turn _ _ _ _ _ _ _ _ _ _ _ _ _ _ (l1 .inv .4) (omega (
-        arith,
-        l1 .inv .0,
-        l1 .inv .1,
         l1
-            .inv .2,
+            .inv .0,
+        l1 .inv .1,
+        l1 .inv .2,
         l1 .inv .3,
         h,
         st .pre .0 .0,
-      )) _ _ _ _ _ _ _ _ _ _ _ (l .0) (l .1) (slot2 .ensures) (slot3
-          .ensures) (not-true (l1 .unsat) (and-right (ltb (l1 .i) (st .args .n)) (not (l1 .unsat)) (t1 .taken)))
-          (bump2 .ensures .0) (require-nullability .ensures .0 _) (require-nullability .ensures .1) (bump3 .ensures
-          .0) (require-nullability2 .ensures .0 _) (require-nullability2 .ensures .1) k (collect-more _ _ _ _ (l1 .inv
-          .4 .stops) (not-true (l1 .unsat) (and-right (ltb (l1 .i) (st .args .n)) (not (l1 .unsat)) (t1 .taken))))
-          (omega (arith, l1 .inv .0, l1 .inv .1, l1 .inv .2, l1 .inv .3, h, st .pre .0 .0)),
+        st .pre .0 .1,
+      ),
+      equality-turn _ _ _ _ _ _ _ _
+          _ _ _ _ _ _ _ (l1 .inv .4) (omega (
+            arith,
+            l1 .inv .0,
+            l1 .inv .1,
+            l1 .inv .2,
+            l1 .inv .3,
+            h,
+            st .pre .0 .0,
+            st .pre .0 .1,
+          )) _ _ _ _ _ _ _ _ _ _ _ (l .0) (l .1) (slot2 .ensures) (slot3 .ensures) (not-true (l1 .unsat)
+          (and-right (ltb (l1 .i) (st .args .n)) (not (l1 .unsat)) (t1 .taken))) (bump2 .ensures .0)
+          (require-nullability .ensures .0 _) (require-nullability .ensures .1) (bump3 .ensures .0)
+          (require-nullability2 .ensures .0 _) (require-nullability2 .ensures .1) k (collect-more _ _ _ _ (l1 .inv .4
+          .stops) (not-true (l1 .unsat) (and-right (ltb (l1 .i) (st .args .n)) (not (l1 .unsat)) (t1 .taken)))) (omega
+          (arith, l1 .inv .0, l1 .inv .1, l1 .inv .2, l1 .inv .3, h, st .pre .0 .0, st .pre .0 .1)),
+      l1 .inv .5,
     )
 
--- src/lib.rt:114:32
+-- src/lib.rt:116:32
 enum-known-k-3 :
     tie.Need-enum-known-k-3
     Inv-loop
@@ -1421,7 +1436,7 @@ enum-known-k-3 :
     μ-loop6
 enum-known-k-3 c = search needs
 
--- src/lib.rt:115:21
+-- src/lib.rt:117:21
 slot-requires-4 :
     tie.Need-slot-requires-4
     Inv-loop
@@ -1438,7 +1453,7 @@ slot-requires-4 :
     μ-loop6
 slot-requires-4 c κs = search needs
 
--- src/lib.rt:116:17
+-- src/lib.rt:118:17
 mul-order-4 :
     tie.Need-mul-order-4
     Inv-loop
@@ -1455,14 +1470,14 @@ mul-order-4 :
     μ-loop6
 mul-order-4 c =
     let st = c .before .before .before .before .before .before .before .before .before .before .before .before
-    .before in
+    .before .before .before .before .before .before .before .before in
     let l1 = c .before .before .before .before .before .before .before .before .loop in
     let t1 = c .before .before .before .before .before .before .before .loop-test in
     let h : l1 .i < st .args .n = ltb-true _ _ (and-left (ltb (l1 .i) (st .args .n)) (not (l1 .unsat)) (t1
     .taken)) in
-    omega (arith, l1 .inv .0, l1 .inv .1, l1 .inv .2, l1 .inv .3, h, st .pre .0 .0)
+    omega (arith, l1 .inv .0, l1 .inv .1, l1 .inv .2, l1 .inv .3, h, st .pre .0 .0, st .pre .0 .1)
 
--- src/lib.rt:116:17
+-- src/lib.rt:118:17
 array-write-order-4 :
     tie.Need-array-write-order-4
     Inv-loop
@@ -1479,14 +1494,14 @@ array-write-order-4 :
     μ-loop6
 array-write-order-4 c =
     let st = c .before .before .before .before .before .before .before .before .before .before .before .before
-    .before in
+    .before .before .before .before .before .before .before .before in
     let l1 = c .before .before .before .before .before .before .before .before .loop in
     let t1 = c .before .before .before .before .before .before .before .loop-test in
     let h : l1 .i < st .args .n = ltb-true _ _ (and-left (ltb (l1 .i) (st .args .n)) (not (l1 .unsat)) (t1
     .taken)) in
-    omega (arith, l1 .inv .0, l1 .inv .1, l1 .inv .2, l1 .inv .3, h, st .pre .0 .0)
+    omega (arith, l1 .inv .0, l1 .inv .1, l1 .inv .2, l1 .inv .3, h, st .pre .0 .0, st .pre .0 .1)
 
--- src/lib.rt:117:32
+-- src/lib.rt:119:32
 array-read-bump-4 :
     tie.Need-array-read-bump-4
     Inv-loop
@@ -1503,7 +1518,7 @@ array-read-bump-4 :
     μ-loop6
 array-read-bump-4 c = search needs
 
--- src/lib.rt:117:17
+-- src/lib.rt:119:17
 bump-requires-4 :
     tie.Need-bump-requires-4
     Inv-loop
@@ -1520,14 +1535,14 @@ bump-requires-4 :
     μ-loop6
 bump-requires-4 c κs =
     let st = c .before .before .before .before .before .before .before .before .before .before .before .before
-    .before in
+    .before .before .before .before .before .before .before .before in
     let l1 = c .before .before .before .before .before .before .before .before .loop in
     let t1 = c .before .before .before .before .before .before .before .loop-test in
     let h : l1 .i < st .args .n = ltb-true _ _ (and-left (ltb (l1 .i) (st .args .n)) (not (l1 .unsat)) (t1
     .taken)) in
-    omega (arith, l1 .inv .0, l1 .inv .1, l1 .inv .2, l1 .inv .3, h, st .pre .0 .0)
+    omega (arith, l1 .inv .0, l1 .inv .1, l1 .inv .2, l1 .inv .3, h, st .pre .0 .0, st .pre .0 .1)
 
--- src/lib.rt:118:17
+-- src/lib.rt:120:17
 array-write-seen-4 :
     tie.Need-array-write-seen-4
     Inv-loop
@@ -1544,9 +1559,9 @@ array-write-seen-4 :
     μ-loop6
 array-write-seen-4 c = search needs
 
--- src/lib.rt:119:68
-mul-add-says-2 :
-    tie.Need-mul-add-says-2
+-- src/lib.rt:121:80
+mul-add-in-row-2 :
+    tie.Need-mul-add-in-row-2
     Inv-loop
     μ-loop
     Inv-loop3
@@ -1559,11 +1574,11 @@ mul-add-says-2 :
     μ-loop5
     Inv-loop6
     μ-loop6
-mul-add-says-2 c = search needs
+mul-add-in-row-2 c = search needs
 
--- src/lib.rt:119:68
-array-copy-out-add-says-2 :
-    tie.Need-array-copy-out-add-says-2
+-- src/lib.rt:121:80
+array-copy-out-add-in-row-2 :
+    tie.Need-array-copy-out-add-in-row-2
     Inv-loop
     μ-loop
     Inv-loop3
@@ -1576,11 +1591,11 @@ array-copy-out-add-says-2 :
     μ-loop5
     Inv-loop6
     μ-loop6
-array-copy-out-add-says-2 c = search needs
+array-copy-out-add-in-row-2 c = search needs
 
--- src/lib.rt:119:21
-add-says-requires-2 :
-    tie.Need-add-says-requires-2
+-- src/lib.rt:121:21
+add-in-row-requires-2 :
+    tie.Need-add-in-row-requires-2
     Inv-loop
     μ-loop
     Inv-loop3
@@ -1593,35 +1608,32 @@ add-says-requires-2 :
     μ-loop5
     Inv-loop6
     μ-loop6
-add-says-requires-2 c κs =
+add-in-row-requires-2 c κs =
     let st = c .before .before .before .before .before .before .before .before .before .before .before .before
-    .before .before .before .before .before .before .before in
-    let l1 = c .before .before .before .before .before .before .before .before .before .before .before .before
-    .before .before .loop in
-    let t1 = c .before .before .before .before .before .before .before .before .before .before .before .before
-    .before .loop-test in
-    let classify = c .before .before .before .before .before .before .before .before .before .before .classify
-    in
-    let arm = c .before .before .before .before .before .before .before .before .k3 in
-    let slot4 = c .before .before .before .before .before .before .slot4 in
+    .before .before .before .before .before .before .before .before .before .before .before in
+    let l1 = c .before .before .before .before .before .before .before .before .before .before .before .loop in
+    let t1 = c .before .before .before .before .before .before .before .before .before .before .loop-test in
+    let classify = c .before .before .before .before .before .before .before .classify in
+    let arm = c .before .before .before .before .before .k3 in
+    let slot4 = c .before .before .before .slot4 in
     let h : l1 .i < st .args .n = ltb-true _ _ (and-left (ltb (l1 .i) (st .args .n)) (not (l1 .unsat)) (t1
     .taken)) in
     let k = read-as _ _ _ _ _ (classify .ensures _) (arm .given .1) in (
-      l1 .inv .4 .shows .fine _ (omega (arith, slot4 .ensures)),
-      omega (
-        arith,
-        l1 .inv .0,
-        l1 .inv .1,
-        l1 .inv
-            .2,
-        l1 .inv .3,
-        h,
-        st .pre .0 .0,
+      (
+        omega (arith, slot4 .ensures),
+        l1 .inv .4 .shows .fine _ (omega (arith, slot4 .ensures)),
+        omega (
+          arith,
+          l1
+              .inv .5,
+          h,
+          st .pre .0 .0,
+        ),
       ),
       subst (ToldConjunct _ _) k (st .pre .1 .0 _ h),
     )
 
--- src/lib.rt:120:17
+-- src/lib.rt:122:17
 mul-table-4 :
     tie.Need-mul-table-4
     Inv-loop
@@ -1638,7 +1650,7 @@ mul-table-4 :
     μ-loop6
 mul-table-4 c = search needs
 
--- src/lib.rt:120:17
+-- src/lib.rt:122:17
 array-set-from-table-4 :
     tie.Need-array-set-from-table-4
     Inv-loop
@@ -1655,7 +1667,7 @@ array-set-from-table-4 :
     μ-loop6
 array-set-from-table-4 c = search needs
 
--- src/lib.rt:122:17
+-- src/lib.rt:124:17
 mul-kept :
     tie.Need-mul-kept
     Inv-loop
@@ -1672,18 +1684,19 @@ mul-kept :
     μ-loop6
 mul-kept c =
     let st = c .before .before .before .before .before .before .before .before .before .before .before .before
-    .before .before .before .before .before .before .before .before .before in
+    .before .before .before .before .before .before .before .before .before .before .before .before .before
+    .before .before in
     let l1 = c .before .before .before .before .before .before .before .before .before .before .before .before
-    .before .before .before .before .loop in
+    .before .before .before .loop in
     let t1 = c .before .before .before .before .before .before .before .before .before .before .before .before
-    .before .before .before .loop-test in
-    let bump4 = c .before .before .before .before .before .before .before .bump4 in
+    .before .before .loop-test in
+    let bump4 = c .before .before .before .before .before .before .bump4 in
     let h : l1 .i < st .args .n = ltb-true _ _ (and-left (ltb (l1 .i) (st .args .n)) (not (l1 .unsat)) (t1
     .taken)) in
     let b0 = bump4 .ensures .1 in
-    omega (arith, l1 .inv .0, l1 .inv .1, l1 .inv .2, l1 .inv .3, h, st .pre .0 .0, b0)
+    omega (arith, l1 .inv .0, l1 .inv .1, l1 .inv .2, l1 .inv .3, h, st .pre .0 .0, st .pre .0 .1, b0)
 
--- src/lib.rt:122:17
+-- src/lib.rt:124:17
 array-write-kept :
     tie.Need-array-write-kept
     Inv-loop
@@ -1700,18 +1713,19 @@ array-write-kept :
     μ-loop6
 array-write-kept c =
     let st = c .before .before .before .before .before .before .before .before .before .before .before .before
-    .before .before .before .before .before .before .before .before .before in
+    .before .before .before .before .before .before .before .before .before .before .before .before .before
+    .before .before in
     let l1 = c .before .before .before .before .before .before .before .before .before .before .before .before
-    .before .before .before .before .loop in
+    .before .before .before .loop in
     let t1 = c .before .before .before .before .before .before .before .before .before .before .before .before
-    .before .before .before .loop-test in
-    let bump4 = c .before .before .before .before .before .before .before .bump4 in
+    .before .before .loop-test in
+    let bump4 = c .before .before .before .before .before .before .bump4 in
     let h : l1 .i < st .args .n = ltb-true _ _ (and-left (ltb (l1 .i) (st .args .n)) (not (l1 .unsat)) (t1
     .taken)) in
     let b0 = bump4 .ensures .1 in
-    omega (arith, l1 .inv .0, l1 .inv .1, l1 .inv .2, l1 .inv .3, h, st .pre .0 .0, b0)
+    omega (arith, l1 .inv .0, l1 .inv .1, l1 .inv .2, l1 .inv .3, h, st .pre .0 .0, st .pre .0 .1, b0)
 
--- src/lib.rt:123:17
+-- src/lib.rt:125:17
 add-keeps :
     tie.Need-add-keeps
     Inv-loop
@@ -1728,18 +1742,19 @@ add-keeps :
     μ-loop6
 add-keeps c =
     let st = c .before .before .before .before .before .before .before .before .before .before .before .before
-    .before .before .before .before .before .before .before .before .before in
+    .before .before .before .before .before .before .before .before .before .before .before .before .before
+    .before .before in
     let l1 = c .before .before .before .before .before .before .before .before .before .before .before .before
-    .before .before .before .before .loop in
+    .before .before .before .loop in
     let t1 = c .before .before .before .before .before .before .before .before .before .before .before .before
-    .before .before .before .loop-test in
-    let bump4 = c .before .before .before .before .before .before .before .bump4 in
+    .before .before .loop-test in
+    let bump4 = c .before .before .before .before .before .before .bump4 in
     let h : l1 .i < st .args .n = ltb-true _ _ (and-left (ltb (l1 .i) (st .args .n)) (not (l1 .unsat)) (t1
     .taken)) in
     let b0 = bump4 .ensures .1 in
-    omega (arith, l1 .inv .0, l1 .inv .1, l1 .inv .2, l1 .inv .3, h, st .pre .0 .0, b0)
+    omega (arith, l1 .inv .0, l1 .inv .1, l1 .inv .2, l1 .inv .3, h, st .pre .0 .0, st .pre .0 .1, b0)
 
--- src/lib.rt:78:5
+-- src/lib.rt:80:5
 loop-less-3 :
     tie.Need-loop-less-3
     Inv-loop
@@ -1756,18 +1771,19 @@ loop-less-3 :
     μ-loop6
 loop-less-3 c =
     let st = c .before .before .before .before .before .before .before .before .before .before .before .before
-    .before .before .before .before .before .before .before .before .before in
+    .before .before .before .before .before .before .before .before .before .before .before .before .before
+    .before .before in
     let l1 = c .before .before .before .before .before .before .before .before .before .before .before .before
-    .before .before .before .before .loop in
+    .before .before .before .loop in
     let t1 = c .before .before .before .before .before .before .before .before .before .before .before .before
-    .before .before .before .loop-test in
-    let bump4 = c .before .before .before .before .before .before .before .bump4 in
+    .before .before .loop-test in
+    let bump4 = c .before .before .before .before .before .before .bump4 in
     let h : l1 .i < st .args .n = ltb-true _ _ (and-left (ltb (l1 .i) (st .args .n)) (not (l1 .unsat)) (t1
     .taken)) in
     let b0 = bump4 .ensures .1 in
-    omega (arith, l1 .inv .0, l1 .inv .1, l1 .inv .2, l1 .inv .3, h, st .pre .0 .0, b0)
+    omega (arith, l1 .inv .0, l1 .inv .1, l1 .inv .2, l1 .inv .3, h, st .pre .0 .0, st .pre .0 .1, b0)
 
--- src/lib.rt:78:5
+-- src/lib.rt:80:5
 loop-again-3 :
     tie.Need-loop-again-3
     Inv-loop
@@ -1784,22 +1800,25 @@ loop-again-3 :
     μ-loop6
 loop-again-3 c =
     let st = c .before .before .before .before .before .before .before .before .before .before .before .before
-    .before .before .before .before .before .before .before .before .before in
+    .before .before .before .before .before .before .before .before .before .before .before .before .before
+    .before .before in
     let l1 = c .before .before .before .before .before .before .before .before .before .before .before .before
-    .before .before .before .before .loop in
+    .before .before .before .loop in
     let t1 = c .before .before .before .before .before .before .before .before .before .before .before .before
-    .before .before .before .loop-test in
+    .before .before .loop-test in
     let classify = c .before .before .before .before .before .before .before .before .before .before .before
-    .before .classify in
-    let arm = c .before .before .before .before .before .before .before .before .before .before .k3 in
-    let slot4 = c .before .before .before .before .before .before .before .before .slot4 in
-    let bump4 = c .before .before .before .before .before .before .before .bump4 in
-    let add-says2 = c .before .add-says2 in
+    .classify in
+    let arm = c .before .before .before .before .before .before .before .before .before .k3 in
+    let slot4 = c .before .before .before .before .before .before .before .slot4 in
+    let bump4 = c .before .before .before .before .before .before .bump4 in
+    let add-in-row2 = c .before .before .before .add-in-row2 in
     let h : l1 .i < st .args .n = ltb-true _ _ (and-left (ltb (l1 .i) (st .args .n)) (not (l1 .unsat)) (t1
     .taken)) in
     let k = read-as _ _ _ _ _ (classify .ensures _) (arm .given .1) in
     let b0 = bump4 .ensures .1 in (
-      omega (arith, l1 .inv .0, l1 .inv .1, l1 .inv .2, l1 .inv .3, h, st .pre .0 .0),
+      omega (arith, l1 .inv .0, l1 .inv .1, l1 .inv .2, l1 .inv .3, h, st .pre .0 .0, st .pre .0 .1),
+      omega
+          (arith, l1 .inv .0, l1 .inv .1, l1 .inv .2, l1 .inv .3, h, st .pre .0 .0, st .pre .0 .1, b0),
       omega (
         arith,
         l1 .inv .0,
@@ -1808,7 +1827,7 @@ loop-again-3 c =
         l1 .inv .3,
         h,
         st .pre .0 .0,
-        b0,
+        st .pre .0 .1,
       ),
       omega (
         arith,
@@ -1818,33 +1837,28 @@ loop-again-3 c =
         l1 .inv .3,
         h,
         st .pre .0 .0,
+        st .pre .0 .1,
       ),
-      omega (
-        arith,
-        l1 .inv .0,
-        l1 .inv .1,
-        l1 .inv .2,
-        l1 .inv .3,
-        h,
-        st .pre .0
-            .0,
-      ),
-      recorded-turn _ _ _ _ _ _ _ _ _ _ _ _ _ _ (l1 .inv .4) (omega (
-        arith,
-        l1 .inv .0,
-        l1 .inv .1,
-        l1 .inv
-            .2,
-        l1 .inv .3,
-        h,
-        st .pre .0 .0,
-      )) _ _ _ _ _ _ _ _ _ k (collect-more _ _ _ _ (l1 .inv .4 .stops) (not-true
-          (l1 .unsat) (and-right (ltb (l1 .i) (st .args .n)) (not (l1 .unsat)) (t1 .taken)))) (subst (ColumnsBelow 64)
-          k (st .pre .1 .1 _ h)) (omega (arith, l1 .inv .0, l1 .inv .1, l1 .inv .2, l1 .inv .3, h, st .pre .0 .0))
-          (slot4 .ensures) (bump4 .ensures .0) (add-says2 .ensures .0) (add-says2 .ensures .1),
+      recorded-turn _ _ _ _ _ _ _ _ _ _ _ _
+          _ _ _ (l1 .inv .4) (omega (
+            arith,
+            l1 .inv .0,
+            l1 .inv .1,
+            l1 .inv .2,
+            l1 .inv .3,
+            h,
+            st .pre .0 .0,
+            st .pre
+                .0 .1,
+          )) _ _ _ _ _ _ _ _ _ _ k (collect-more _ _ _ _ (l1 .inv .4 .stops) (not-true (l1 .unsat) (and-right
+          (ltb (l1 .i) (st .args .n)) (not (l1 .unsat)) (t1 .taken)))) (subst (ColumnsBelow 64) k (st .pre .1 .1 _ h))
+          (omega (arith, l1 .inv .0, l1 .inv .1, l1 .inv .2, l1 .inv .3, h, st .pre .0 .0, st .pre .0 .1)) (slot4
+          .ensures) (bump4 .ensures .0) (add-in-row2 .ensures .0) (add-in-row2 .ensures .1 .0) (add-in-row2 .ensures
+          .1 .1),
+      add-in-row2 .ensures .1 .1 .size ∙ l1 .inv .5,
     )
 
--- src/lib.rt:126:35
+-- src/lib.rt:128:35
 enum-known-k-4 :
     tie.Need-enum-known-k-4
     Inv-loop
@@ -1861,7 +1875,7 @@ enum-known-k-4 :
     μ-loop6
 enum-known-k-4 c = search needs
 
--- src/lib.rt:127:21
+-- src/lib.rt:129:21
 slot-requires-5 :
     tie.Need-slot-requires-5
     Inv-loop
@@ -1878,7 +1892,7 @@ slot-requires-5 :
     μ-loop6
 slot-requires-5 c κs = search needs
 
--- src/lib.rt:128:17
+-- src/lib.rt:130:17
 mul-order-5 :
     tie.Need-mul-order-5
     Inv-loop
@@ -1895,14 +1909,14 @@ mul-order-5 :
     μ-loop6
 mul-order-5 c =
     let st = c .before .before .before .before .before .before .before .before .before .before .before .before
-    .before in
+    .before .before .before .before .before .before .before .before in
     let l1 = c .before .before .before .before .before .before .before .before .loop in
     let t1 = c .before .before .before .before .before .before .before .loop-test in
     let h : l1 .i < st .args .n = ltb-true _ _ (and-left (ltb (l1 .i) (st .args .n)) (not (l1 .unsat)) (t1
     .taken)) in
-    omega (arith, l1 .inv .0, l1 .inv .1, l1 .inv .2, l1 .inv .3, h, st .pre .0 .0)
+    omega (arith, l1 .inv .0, l1 .inv .1, l1 .inv .2, l1 .inv .3, h, st .pre .0 .0, st .pre .0 .1)
 
--- src/lib.rt:128:17
+-- src/lib.rt:130:17
 array-write-order-5 :
     tie.Need-array-write-order-5
     Inv-loop
@@ -1919,14 +1933,14 @@ array-write-order-5 :
     μ-loop6
 array-write-order-5 c =
     let st = c .before .before .before .before .before .before .before .before .before .before .before .before
-    .before in
+    .before .before .before .before .before .before .before .before in
     let l1 = c .before .before .before .before .before .before .before .before .loop in
     let t1 = c .before .before .before .before .before .before .before .loop-test in
     let h : l1 .i < st .args .n = ltb-true _ _ (and-left (ltb (l1 .i) (st .args .n)) (not (l1 .unsat)) (t1
     .taken)) in
-    omega (arith, l1 .inv .0, l1 .inv .1, l1 .inv .2, l1 .inv .3, h, st .pre .0 .0)
+    omega (arith, l1 .inv .0, l1 .inv .1, l1 .inv .2, l1 .inv .3, h, st .pre .0 .0, st .pre .0 .1)
 
--- src/lib.rt:129:32
+-- src/lib.rt:131:32
 array-read-bump-5 :
     tie.Need-array-read-bump-5
     Inv-loop
@@ -1943,7 +1957,7 @@ array-read-bump-5 :
     μ-loop6
 array-read-bump-5 c = search needs
 
--- src/lib.rt:129:17
+-- src/lib.rt:131:17
 bump-requires-5 :
     tie.Need-bump-requires-5
     Inv-loop
@@ -1960,14 +1974,14 @@ bump-requires-5 :
     μ-loop6
 bump-requires-5 c κs =
     let st = c .before .before .before .before .before .before .before .before .before .before .before .before
-    .before in
+    .before .before .before .before .before .before .before .before in
     let l1 = c .before .before .before .before .before .before .before .before .loop in
     let t1 = c .before .before .before .before .before .before .before .loop-test in
     let h : l1 .i < st .args .n = ltb-true _ _ (and-left (ltb (l1 .i) (st .args .n)) (not (l1 .unsat)) (t1
     .taken)) in
-    omega (arith, l1 .inv .0, l1 .inv .1, l1 .inv .2, l1 .inv .3, h, st .pre .0 .0)
+    omega (arith, l1 .inv .0, l1 .inv .1, l1 .inv .2, l1 .inv .3, h, st .pre .0 .0, st .pre .0 .1)
 
--- src/lib.rt:130:17
+-- src/lib.rt:132:17
 array-write-seen-5 :
     tie.Need-array-write-seen-5
     Inv-loop
@@ -1984,7 +1998,7 @@ array-write-seen-5 :
     μ-loop6
 array-write-seen-5 c = search needs
 
--- src/lib.rt:131:45
+-- src/lib.rt:133:45
 mul-require-nullability-3 :
     tie.Need-mul-require-nullability-3
     Inv-loop
@@ -2001,7 +2015,7 @@ mul-require-nullability-3 :
     μ-loop6
 mul-require-nullability-3 c = search needs
 
--- src/lib.rt:131:45
+-- src/lib.rt:133:45
 array-copy-out-require-nullability-3 :
     tie.Need-array-copy-out-require-nullability-3
     Inv-loop
@@ -2018,7 +2032,7 @@ array-copy-out-require-nullability-3 :
     μ-loop6
 array-copy-out-require-nullability-3 c = search needs
 
--- src/lib.rt:131:21
+-- src/lib.rt:133:21
 require-nullability-requires-3 :
     tie.Need-require-nullability-requires-3
     Inv-loop
@@ -2035,7 +2049,7 @@ require-nullability-requires-3 :
     μ-loop6
 require-nullability-requires-3 c κs = search needs
 
--- src/lib.rt:132:17
+-- src/lib.rt:134:17
 mul-table-5 :
     tie.Need-mul-table-5
     Inv-loop
@@ -2052,7 +2066,7 @@ mul-table-5 :
     μ-loop6
 mul-table-5 c = search needs
 
--- src/lib.rt:132:17
+-- src/lib.rt:134:17
 array-set-from-table-5 :
     tie.Need-array-set-from-table-5
     Inv-loop
@@ -2069,7 +2083,7 @@ array-set-from-table-5 :
     μ-loop6
 array-set-from-table-5 c = search needs
 
--- src/lib.rt:133:21
+-- src/lib.rt:135:21
 slot-requires-6 :
     tie.Need-slot-requires-6
     Inv-loop
@@ -2086,7 +2100,7 @@ slot-requires-6 :
     μ-loop6
 slot-requires-6 c κs = search needs
 
--- src/lib.rt:134:17
+-- src/lib.rt:136:17
 mul-order-6 :
     tie.Need-mul-order-6
     Inv-loop
@@ -2103,7 +2117,7 @@ mul-order-6 :
     μ-loop6
 mul-order-6 c =
     let st = c .before .before .before .before .before .before .before .before .before .before .before .before
-    .before .before .before .before .before in
+    .before .before .before .before .before .before .before .before .before .before .before .before in
     let l1 = c .before .before .before .before .before .before .before .before .before .before .before .before
     .loop in
     let t1 = c .before .before .before .before .before .before .before .before .before .before .before
@@ -2112,9 +2126,9 @@ mul-order-6 c =
     let h : l1 .i < st .args .n = ltb-true _ _ (and-left (ltb (l1 .i) (st .args .n)) (not (l1 .unsat)) (t1
     .taken)) in
     let b0 = bump5 .ensures .1 in
-    omega (arith, l1 .inv .0, l1 .inv .1, l1 .inv .2, l1 .inv .3, h, st .pre .0 .0, b0)
+    omega (arith, l1 .inv .0, l1 .inv .1, l1 .inv .2, l1 .inv .3, h, st .pre .0 .0, st .pre .0 .1, b0)
 
--- src/lib.rt:134:17
+-- src/lib.rt:136:17
 array-write-order-6 :
     tie.Need-array-write-order-6
     Inv-loop
@@ -2131,7 +2145,7 @@ array-write-order-6 :
     μ-loop6
 array-write-order-6 c =
     let st = c .before .before .before .before .before .before .before .before .before .before .before .before
-    .before .before .before .before .before in
+    .before .before .before .before .before .before .before .before .before .before .before .before in
     let l1 = c .before .before .before .before .before .before .before .before .before .before .before .before
     .loop in
     let t1 = c .before .before .before .before .before .before .before .before .before .before .before
@@ -2140,9 +2154,9 @@ array-write-order-6 c =
     let h : l1 .i < st .args .n = ltb-true _ _ (and-left (ltb (l1 .i) (st .args .n)) (not (l1 .unsat)) (t1
     .taken)) in
     let b0 = bump5 .ensures .1 in
-    omega (arith, l1 .inv .0, l1 .inv .1, l1 .inv .2, l1 .inv .3, h, st .pre .0 .0, b0)
+    omega (arith, l1 .inv .0, l1 .inv .1, l1 .inv .2, l1 .inv .3, h, st .pre .0 .0, st .pre .0 .1, b0)
 
--- src/lib.rt:135:32
+-- src/lib.rt:137:32
 array-read-bump-6 :
     tie.Need-array-read-bump-6
     Inv-loop
@@ -2159,7 +2173,7 @@ array-read-bump-6 :
     μ-loop6
 array-read-bump-6 c = search needs
 
--- src/lib.rt:135:17
+-- src/lib.rt:137:17
 bump-requires-6 :
     tie.Need-bump-requires-6
     Inv-loop
@@ -2176,7 +2190,7 @@ bump-requires-6 :
     μ-loop6
 bump-requires-6 c κs =
     let st = c .before .before .before .before .before .before .before .before .before .before .before .before
-    .before .before .before .before .before in
+    .before .before .before .before .before .before .before .before .before .before .before .before in
     let l1 = c .before .before .before .before .before .before .before .before .before .before .before .before
     .loop in
     let t1 = c .before .before .before .before .before .before .before .before .before .before .before
@@ -2185,9 +2199,9 @@ bump-requires-6 c κs =
     let h : l1 .i < st .args .n = ltb-true _ _ (and-left (ltb (l1 .i) (st .args .n)) (not (l1 .unsat)) (t1
     .taken)) in
     let b0 = bump5 .ensures .1 in
-    omega (arith, l1 .inv .0, l1 .inv .1, l1 .inv .2, l1 .inv .3, h, st .pre .0 .0, b0)
+    omega (arith, l1 .inv .0, l1 .inv .1, l1 .inv .2, l1 .inv .3, h, st .pre .0 .0, st .pre .0 .1, b0)
 
--- src/lib.rt:136:17
+-- src/lib.rt:138:17
 array-write-seen-6 :
     tie.Need-array-write-seen-6
     Inv-loop
@@ -2204,7 +2218,7 @@ array-write-seen-6 :
     μ-loop6
 array-write-seen-6 c = search needs
 
--- src/lib.rt:137:45
+-- src/lib.rt:139:45
 mul-require-nullability-4 :
     tie.Need-mul-require-nullability-4
     Inv-loop
@@ -2221,7 +2235,7 @@ mul-require-nullability-4 :
     μ-loop6
 mul-require-nullability-4 c = search needs
 
--- src/lib.rt:137:45
+-- src/lib.rt:139:45
 array-copy-out-require-nullability-4 :
     tie.Need-array-copy-out-require-nullability-4
     Inv-loop
@@ -2238,7 +2252,7 @@ array-copy-out-require-nullability-4 :
     μ-loop6
 array-copy-out-require-nullability-4 c = search needs
 
--- src/lib.rt:137:21
+-- src/lib.rt:139:21
 require-nullability-requires-4 :
     tie.Need-require-nullability-requires-4
     Inv-loop
@@ -2255,7 +2269,7 @@ require-nullability-requires-4 :
     μ-loop6
 require-nullability-requires-4 c κs = search needs
 
--- src/lib.rt:138:17
+-- src/lib.rt:140:17
 mul-table-6 :
     tie.Need-mul-table-6
     Inv-loop
@@ -2272,7 +2286,7 @@ mul-table-6 :
     μ-loop6
 mul-table-6 c = search needs
 
--- src/lib.rt:138:17
+-- src/lib.rt:140:17
 array-set-from-table-6 :
     tie.Need-array-set-from-table-6
     Inv-loop
@@ -2289,7 +2303,7 @@ array-set-from-table-6 :
     μ-loop6
 array-set-from-table-6 c = search needs
 
--- src/lib.rt:139:17
+-- src/lib.rt:141:17
 mul-kept-2 :
     tie.Need-mul-kept-2
     Inv-loop
@@ -2306,7 +2320,8 @@ mul-kept-2 :
     μ-loop6
 mul-kept-2 c =
     let st = c .before .before .before .before .before .before .before .before .before .before .before .before
-    .before .before .before .before .before .before .before .before in
+    .before .before .before .before .before .before .before .before .before .before .before .before .before
+    .before .before in
     let l1 = c .before .before .before .before .before .before .before .before .before .before .before .before
     .before .before .before .loop in
     let t1 = c .before .before .before .before .before .before .before .before .before .before .before .before
@@ -2317,9 +2332,9 @@ mul-kept-2 c =
     .taken)) in
     let b0 = bump6 .ensures .1 in
     let b1 = bump5 .ensures .1 in
-    omega (arith, l1 .inv .0, l1 .inv .1, l1 .inv .2, l1 .inv .3, h, st .pre .0 .0, b0, b1)
+    omega (arith, l1 .inv .0, l1 .inv .1, l1 .inv .2, l1 .inv .3, h, st .pre .0 .0, st .pre .0 .1, b0, b1)
 
--- src/lib.rt:139:17
+-- src/lib.rt:141:17
 array-write-kept-2 :
     tie.Need-array-write-kept-2
     Inv-loop
@@ -2336,7 +2351,8 @@ array-write-kept-2 :
     μ-loop6
 array-write-kept-2 c =
     let st = c .before .before .before .before .before .before .before .before .before .before .before .before
-    .before .before .before .before .before .before .before .before in
+    .before .before .before .before .before .before .before .before .before .before .before .before .before
+    .before .before in
     let l1 = c .before .before .before .before .before .before .before .before .before .before .before .before
     .before .before .before .loop in
     let t1 = c .before .before .before .before .before .before .before .before .before .before .before .before
@@ -2347,9 +2363,9 @@ array-write-kept-2 c =
     .taken)) in
     let b0 = bump6 .ensures .1 in
     let b1 = bump5 .ensures .1 in
-    omega (arith, l1 .inv .0, l1 .inv .1, l1 .inv .2, l1 .inv .3, h, st .pre .0 .0, b0, b1)
+    omega (arith, l1 .inv .0, l1 .inv .1, l1 .inv .2, l1 .inv .3, h, st .pre .0 .0, st .pre .0 .1, b0, b1)
 
--- src/lib.rt:140:17
+-- src/lib.rt:142:17
 add-keeps-2 :
     tie.Need-add-keeps-2
     Inv-loop
@@ -2366,7 +2382,8 @@ add-keeps-2 :
     μ-loop6
 add-keeps-2 c =
     let st = c .before .before .before .before .before .before .before .before .before .before .before .before
-    .before .before .before .before .before .before .before .before in
+    .before .before .before .before .before .before .before .before .before .before .before .before .before
+    .before .before in
     let l1 = c .before .before .before .before .before .before .before .before .before .before .before .before
     .before .before .before .loop in
     let t1 = c .before .before .before .before .before .before .before .before .before .before .before .before
@@ -2377,9 +2394,9 @@ add-keeps-2 c =
     .taken)) in
     let b0 = bump6 .ensures .1 in
     let b1 = bump5 .ensures .1 in
-    omega (arith, l1 .inv .0, l1 .inv .1, l1 .inv .2, l1 .inv .3, h, st .pre .0 .0, b0, b1)
+    omega (arith, l1 .inv .0, l1 .inv .1, l1 .inv .2, l1 .inv .3, h, st .pre .0 .0, st .pre .0 .1, b0, b1)
 
--- src/lib.rt:78:5
+-- src/lib.rt:80:5
 loop-less-4 :
     tie.Need-loop-less-4
     Inv-loop
@@ -2396,7 +2413,8 @@ loop-less-4 :
     μ-loop6
 loop-less-4 c =
     let st = c .before .before .before .before .before .before .before .before .before .before .before .before
-    .before .before .before .before .before .before .before .before in
+    .before .before .before .before .before .before .before .before .before .before .before .before .before
+    .before .before in
     let l1 = c .before .before .before .before .before .before .before .before .before .before .before .before
     .before .before .before .loop in
     let t1 = c .before .before .before .before .before .before .before .before .before .before .before .before
@@ -2407,9 +2425,9 @@ loop-less-4 c =
     .taken)) in
     let b0 = bump6 .ensures .1 in
     let b1 = bump5 .ensures .1 in
-    omega (arith, l1 .inv .0, l1 .inv .1, l1 .inv .2, l1 .inv .3, h, st .pre .0 .0, b0, b1)
+    omega (arith, l1 .inv .0, l1 .inv .1, l1 .inv .2, l1 .inv .3, h, st .pre .0 .0, st .pre .0 .1, b0, b1)
 
--- src/lib.rt:78:5
+-- src/lib.rt:80:5
 loop-again-4 :
     tie.Need-loop-again-4
     Inv-loop
@@ -2426,7 +2444,8 @@ loop-again-4 :
     μ-loop6
 loop-again-4 c =
     let st = c .before .before .before .before .before .before .before .before .before .before .before .before
-    .before .before .before .before .before .before .before .before in
+    .before .before .before .before .before .before .before .before .before .before .before .before .before
+    .before .before in
     let l1 = c .before .before .before .before .before .before .before .before .before .before .before .before
     .before .before .before .loop in
     let t1 = c .before .before .before .before .before .before .before .before .before .before .before .before
@@ -2446,56 +2465,43 @@ loop-again-4 c =
     let b0 = bump5 .ensures .1 in
     let b1 = bump6 .ensures .1 in
     let l = subst (ColumnsBelow 64) k (st .pre .1 .1 _ h) in (
-      omega (arith, l1 .inv .0, l1 .inv .1, l1 .inv .2, l1 .inv .3, h, st .pre .0 .0),
+      omega (arith, l1 .inv .0, l1 .inv .1, l1 .inv .2, l1 .inv .3, h, st .pre .0 .0, st .pre .0 .1),
+      omega
+          (arith, l1 .inv .0, l1 .inv .1, l1 .inv .2, l1 .inv .3, h, st .pre .0 .0, st .pre .0 .1, b0, b1),
+      omega
+          (arith, l1 .inv .0, l1 .inv .1, l1 .inv .2, l1 .inv .3, h, st .pre .0 .0, st .pre .0 .1),
       omega (
         arith,
-        l1 .inv .0,
+        l1
+            .inv .0,
         l1 .inv .1,
         l1 .inv .2,
         l1 .inv .3,
         h,
         st .pre .0 .0,
-        b0,
-        b1,
+        st .pre .0 .1,
       ),
-      omega (
-        arith,
-        l1 .inv .0,
-        l1 .inv .1,
-        l1 .inv
-            .2,
-        l1 .inv .3,
-        h,
-        st .pre .0 .0,
-      ),
-      omega (
-        arith,
-        l1 .inv .0,
-        l1 .inv .1,
-        l1 .inv .2,
-        l1 .inv .3,
-        h,
-        st .pre
-            .0 .0,
-      ),
-      pair-turn _ _ _ _ _ _ _ _ _ _ _ _ _ _ (l1 .inv .4) (omega (
-        arith,
-        l1 .inv .0,
-        l1 .inv .1,
-        l1 .inv
-            .2,
-        l1 .inv .3,
-        h,
-        st .pre .0 .0,
-      )) _ _ _ _ _ _ _ _ _ _ _ (l .0) (l .1) (slot5 .ensures) (slot6 .ensures)
-          (not-true (l1 .unsat) (and-right (ltb (l1 .i) (st .args .n)) (not (l1 .unsat)) (t1 .taken))) (bump5 .ensures
-          .0) (require-nullability3 .ensures .0 _) (require-nullability3 .ensures .1) (bump6 .ensures .0)
+      pair-turn _ _ _ _ _ _ _ _ _ _
+          _ _ _ _ _ (l1 .inv .4) (omega (
+            arith,
+            l1 .inv .0,
+            l1 .inv .1,
+            l1 .inv .2,
+            l1 .inv .3,
+            h,
+            st .pre .0 .0,
+            st
+                .pre .0 .1,
+          )) _ _ _ _ _ _ _ _ _ _ _ (l .0) (l .1) (slot5 .ensures) (slot6 .ensures) (not-true (l1 .unsat)
+          (and-right (ltb (l1 .i) (st .args .n)) (not (l1 .unsat)) (t1 .taken))) (bump5 .ensures .0)
+          (require-nullability3 .ensures .0 _) (require-nullability3 .ensures .1) (bump6 .ensures .0)
           (require-nullability4 .ensures .0 _) (require-nullability4 .ensures .1) k (collect-more _ _ _ _ (l1 .inv .4
           .stops) (not-true (l1 .unsat) (and-right (ltb (l1 .i) (st .args .n)) (not (l1 .unsat)) (t1 .taken)))) (omega
-          (arith, l1 .inv .0, l1 .inv .1, l1 .inv .2, l1 .inv .3, h, st .pre .0 .0)),
+          (arith, l1 .inv .0, l1 .inv .1, l1 .inv .2, l1 .inv .3, h, st .pre .0 .0, st .pre .0 .1)),
+      l1 .inv .5,
     )
 
--- src/lib.rt:144:17
+-- src/lib.rt:146:17
 enum-told :
     tie.Need-enum-told
     Inv-loop
@@ -2512,7 +2518,7 @@ enum-told :
     μ-loop6
 enum-told c = search needs
 
--- src/lib.rt:144:17
+-- src/lib.rt:146:17
 mul-kept-3 :
     tie.Need-mul-kept-3
     Inv-loop
@@ -2528,14 +2534,15 @@ mul-kept-3 :
     Inv-loop6
     μ-loop6
 mul-kept-3 c =
-    let st = c .before .before .before .before .before .before .before .before .before .before .before in
+    let st = c .before .before .before .before .before .before .before .before .before .before .before .before
+    .before .before .before .before .before .before in
     let l1 = c .before .before .before .before .before .before .loop in
     let t1 = c .before .before .before .before .before .loop-test in
     let h : l1 .i < st .args .n = ltb-true _ _ (and-left (ltb (l1 .i) (st .args .n)) (not (l1 .unsat)) (t1
     .taken)) in
-    omega (arith, l1 .inv .0, l1 .inv .1, l1 .inv .2, l1 .inv .3, h, st .pre .0 .0)
+    omega (arith, l1 .inv .0, l1 .inv .1, l1 .inv .2, l1 .inv .3, h, st .pre .0 .0, st .pre .0 .1)
 
--- src/lib.rt:144:17
+-- src/lib.rt:146:17
 array-write-kept-3 :
     tie.Need-array-write-kept-3
     Inv-loop
@@ -2551,14 +2558,15 @@ array-write-kept-3 :
     Inv-loop6
     μ-loop6
 array-write-kept-3 c =
-    let st = c .before .before .before .before .before .before .before .before .before .before .before in
+    let st = c .before .before .before .before .before .before .before .before .before .before .before .before
+    .before .before .before .before .before .before in
     let l1 = c .before .before .before .before .before .before .loop in
     let t1 = c .before .before .before .before .before .loop-test in
     let h : l1 .i < st .args .n = ltb-true _ _ (and-left (ltb (l1 .i) (st .args .n)) (not (l1 .unsat)) (t1
     .taken)) in
-    omega (arith, l1 .inv .0, l1 .inv .1, l1 .inv .2, l1 .inv .3, h, st .pre .0 .0)
+    omega (arith, l1 .inv .0, l1 .inv .1, l1 .inv .2, l1 .inv .3, h, st .pre .0 .0, st .pre .0 .1)
 
--- src/lib.rt:145:17
+-- src/lib.rt:147:17
 add-keeps-3 :
     tie.Need-add-keeps-3
     Inv-loop
@@ -2574,14 +2582,15 @@ add-keeps-3 :
     Inv-loop6
     μ-loop6
 add-keeps-3 c =
-    let st = c .before .before .before .before .before .before .before .before .before .before .before in
+    let st = c .before .before .before .before .before .before .before .before .before .before .before .before
+    .before .before .before .before .before .before in
     let l1 = c .before .before .before .before .before .before .loop in
     let t1 = c .before .before .before .before .before .loop-test in
     let h : l1 .i < st .args .n = ltb-true _ _ (and-left (ltb (l1 .i) (st .args .n)) (not (l1 .unsat)) (t1
     .taken)) in
-    omega (arith, l1 .inv .0, l1 .inv .1, l1 .inv .2, l1 .inv .3, h, st .pre .0 .0)
+    omega (arith, l1 .inv .0, l1 .inv .1, l1 .inv .2, l1 .inv .3, h, st .pre .0 .0, st .pre .0 .1)
 
--- src/lib.rt:78:5
+-- src/lib.rt:80:5
 loop-less-5 :
     tie.Need-loop-less-5
     Inv-loop
@@ -2597,14 +2606,15 @@ loop-less-5 :
     Inv-loop6
     μ-loop6
 loop-less-5 c =
-    let st = c .before .before .before .before .before .before .before .before .before .before .before in
+    let st = c .before .before .before .before .before .before .before .before .before .before .before .before
+    .before .before .before .before .before .before in
     let l1 = c .before .before .before .before .before .before .loop in
     let t1 = c .before .before .before .before .before .loop-test in
     let h : l1 .i < st .args .n = ltb-true _ _ (and-left (ltb (l1 .i) (st .args .n)) (not (l1 .unsat)) (t1
     .taken)) in
-    omega (arith, l1 .inv .0, l1 .inv .1, l1 .inv .2, l1 .inv .3, h, st .pre .0 .0)
+    omega (arith, l1 .inv .0, l1 .inv .1, l1 .inv .2, l1 .inv .3, h, st .pre .0 .0, st .pre .0 .1)
 
--- src/lib.rt:78:5
+-- src/lib.rt:80:5
 loop-again-5 :
     tie.Need-loop-again-5
     Inv-loop
@@ -2620,7 +2630,8 @@ loop-again-5 :
     Inv-loop6
     μ-loop6
 loop-again-5 c =
-    let st = c .before .before .before .before .before .before .before .before .before .before .before in
+    let st = c .before .before .before .before .before .before .before .before .before .before .before .before
+    .before .before .before .before .before .before in
     let l1 = c .before .before .before .before .before .before .loop in
     let t1 = c .before .before .before .before .before .loop-test in
     let classify = c .before .before .classify in
@@ -2628,51 +2639,58 @@ loop-again-5 c =
     let h : l1 .i < st .args .n = ltb-true _ _ (and-left (ltb (l1 .i) (st .args .n)) (not (l1 .unsat)) (t1
     .taken)) in
     let k = read-as _ _ _ _ _ (classify .ensures _) (arm .given .1) in (
-      omega (arith, l1 .inv .0, l1 .inv .1, l1 .inv .2, l1 .inv .3, h, st .pre .0 .0),
+      omega (arith, l1 .inv .0, l1 .inv .1, l1 .inv .2, l1 .inv .3, h, st .pre .0 .0, st .pre .0 .1),
+      omega
+          (arith, l1 .inv .0, l1 .inv .1, l1 .inv .2, l1 .inv .3, h, st .pre .0 .0, st .pre .0 .1),
       omega (
         arith,
-        l1 .inv .0,
+        l1
+            .inv .0,
         l1 .inv .1,
         l1 .inv .2,
         l1 .inv .3,
         h,
         st .pre .0 .0,
+        st .pre .0 .1,
       ),
       omega (
         arith,
         l1 .inv .0,
-        l1 .inv .1,
-        l1 .inv .2,
         l1
-            .inv .3,
+            .inv .1,
+        l1 .inv .2,
+        l1 .inv .3,
         h,
         st .pre .0 .0,
+        st .pre .0 .1,
       ),
-      omega (arith, l1 .inv .0, l1 .inv .1, l1 .inv .2, l1 .inv .3, h, st .pre .0 .0),
-      opaque-turn _ _ _ _ _ _ _ _ _ _ _ _ _ _ (l1 .inv .4) (omega (
-        arith,
-        l1 .inv .0,
-        l1 .inv .1,
-        l1 .inv .2,
-        l1
-            .inv .3,
-        h,
-        st .pre .0 .0,
-      )) _ _ _ k (collect-more _ _ _ _ (l1 .inv .4 .stops) (not-true (l1 .unsat)
-          (and-right (ltb (l1 .i) (st .args .n)) (not (l1 .unsat)) (t1 .taken)))) (omega (
+      opaque-turn _ _ _ _ _ _ _ _ _ _ _ _ _ _ _
+          (l1 .inv .4) (omega (
             arith,
             l1 .inv .0,
-            l1 .inv
-                .1,
+            l1 .inv .1,
             l1 .inv .2,
             l1 .inv .3,
             h,
             st .pre .0 .0,
-          )) (not-true (l1 .unsat) (and-right (ltb (l1 .i) (st .args .n))
-          (not (l1 .unsat)) (t1 .taken))),
+            st .pre .0
+                .1,
+          )) _ _ _ k (collect-more _ _ _ _ (l1 .inv .4 .stops) (not-true (l1 .unsat) (and-right (ltb (l1 .i) (st
+          .args .n)) (not (l1 .unsat)) (t1 .taken)))) (omega (
+            arith,
+            l1 .inv .0,
+            l1 .inv .1,
+            l1 .inv .2,
+            l1 .inv .3,
+            h,
+            st .pre .0 .0,
+            st .pre .0 .1,
+          )) (not-true (l1 .unsat) (and-right (ltb (l1 .i) (st .args .n)) (not (l1
+          .unsat)) (t1 .taken))),
+      l1 .inv .5,
     )
 
--- src/lib.rt:151:9
+-- src/lib.rt:153:9
 nothing-passes-requires :
     tie.Need-nothing-passes-requires
     Inv-loop
@@ -2688,10 +2706,11 @@ nothing-passes-requires :
     Inv-loop6
     μ-loop6
 nothing-passes-requires c κs =
-    let st = c .before .before .before .before .before .before .before .before in
-    st .pre .0 .1
+    let st = c .before .before .before .before .before .before .before .before .before .before .before .before
+    .before .before .before in
+    st .pre .0 .2
 
--- src/lib.rt:151:9
+-- src/lib.rt:153:9
 same-length :
     tie.Need-same-length
     Inv-loop
@@ -2708,7 +2727,24 @@ same-length :
     μ-loop6
 same-length c = search needs
 
--- src/lib.rt:151:9
+-- src/lib.rt:153:9
+same-length-2 :
+    tie.Need-same-length-2
+    Inv-loop
+    μ-loop
+    Inv-loop3
+    μ-loop3
+    Inv-loop2
+    μ-loop2
+    Inv-loop4
+    μ-loop4
+    Inv-loop5
+    μ-loop5
+    Inv-loop6
+    μ-loop6
+same-length-2 c = search needs
+
+-- src/lib.rt:153:9
 returns :
     tie.Need-returns
     Inv-loop
@@ -2724,7 +2760,8 @@ returns :
     Inv-loop6
     μ-loop6
 returns c =
-    let st = c .before .before .before .before .before .before .before .before .before .before .before in
+    let st = c .before .before .before .before .before .before .before .before .before .before .before .before
+    .before .before .before .before .before .before in
     let l1 = c .before .before .before .before .before .before .loop in
     let t1 = c .before .before .before .before .before .loop-test in
     let if1 = c .before .before .before .before .if1 in
@@ -2736,7 +2773,7 @@ returns c =
           .ensures .1 (st .args .t .now),
     )
 
--- src/lib.rt:156:5
+-- src/lib.rt:158:5
 loop2-holds :
     tie.Need-loop2-holds
     Inv-loop
@@ -2752,9 +2789,9 @@ loop2-holds :
     Inv-loop6
     μ-loop6
 loop2-holds c =
-    (omega arith, λ T S. passed-none _ _ _ _ T S)
+    (omega arith, (λ T S. passed-none _ _ _ _ _ T S), refl)
 
--- src/lib.rt:159:9
+-- src/lib.rt:161:9
 loop3-holds :
     tie.Need-loop3-holds
     Inv-loop
@@ -2770,11 +2807,11 @@ loop3-holds :
     Inv-loop6
     μ-loop6
 loop3-holds c =
-    (omega arith, λ T S. merged-none _ _ _ _ _ _ T S)
+    (omega arith, (λ T S. merged-none _ _ _ _ _ _ _ T S), refl)
 
--- src/lib.rt:160:33
-mul-t194 :
-    tie.Need-mul-t194
+-- src/lib.rt:162:33
+mul-t182 :
+    tie.Need-mul-t182
     Inv-loop
     μ-loop
     Inv-loop3
@@ -2787,15 +2824,11 @@ mul-t194 :
     μ-loop5
     Inv-loop6
     μ-loop6
-mul-t194 c =
-    let st = c .before .before .before .before .before .before .before .before .before .before .before in
-    let l1 = c .before .before .before .before .before .before .loop in
-    let t3 = c .loop3-test in
-    omega (arith, t3 .taken, l1 .inv .0, l1 .inv .2, st .pre .0 .0)
+mul-t182 c = search needs
 
--- src/lib.rt:160:33
-array-read-t197 :
-    tie.Need-array-read-t197
+-- src/lib.rt:162:33
+array-read-t185 :
+    tie.Need-array-read-t185
     Inv-loop
     μ-loop
     Inv-loop3
@@ -2808,13 +2841,9 @@ array-read-t197 :
     μ-loop5
     Inv-loop6
     μ-loop6
-array-read-t197 c =
-    let st = c .before .before .before .before .before .before .before .before .before .before .before in
-    let l1 = c .before .before .before .before .before .before .loop in
-    let t3 = c .loop3-test in
-    omega (arith, t3 .taken, l1 .inv .0, l1 .inv .2, st .pre .0 .0)
+array-read-t185 c = search needs
 
--- src/lib.rt:160:17
+-- src/lib.rt:162:17
 slot-requires-7 :
     tie.Need-slot-requires-7
     Inv-loop
@@ -2831,9 +2860,9 @@ slot-requires-7 :
     μ-loop6
 slot-requires-7 c κs = search needs
 
--- src/lib.rt:161:33
-mul-t194-2 :
-    tie.Need-mul-t194-2
+-- src/lib.rt:163:33
+mul-t182-2 :
+    tie.Need-mul-t182-2
     Inv-loop
     μ-loop
     Inv-loop3
@@ -2846,16 +2875,11 @@ mul-t194-2 :
     μ-loop5
     Inv-loop6
     μ-loop6
-mul-t194-2 c =
-    let st = c .before .before .before .before .before .before .before .before .before .before .before .before
-    in
-    let l1 = c .before .before .before .before .before .before .before .loop in
-    let t3 = c .before .loop3-test in
-    omega (arith, t3 .taken, l1 .inv .0, l1 .inv .2, st .pre .0 .0)
+mul-t182-2 c = search needs
 
--- src/lib.rt:161:33
-array-read-t197-2 :
-    tie.Need-array-read-t197-2
+-- src/lib.rt:163:33
+array-read-t185-2 :
+    tie.Need-array-read-t185-2
     Inv-loop
     μ-loop
     Inv-loop3
@@ -2868,14 +2892,9 @@ array-read-t197-2 :
     μ-loop5
     Inv-loop6
     μ-loop6
-array-read-t197-2 c =
-    let st = c .before .before .before .before .before .before .before .before .before .before .before .before
-    in
-    let l1 = c .before .before .before .before .before .before .before .loop in
-    let t3 = c .before .loop3-test in
-    omega (arith, t3 .taken, l1 .inv .0, l1 .inv .2, st .pre .0 .0)
+array-read-t185-2 c = search needs
 
--- src/lib.rt:161:17
+-- src/lib.rt:163:17
 slot-requires-8 :
     tie.Need-slot-requires-8
     Inv-loop
@@ -2892,7 +2911,7 @@ slot-requires-8 :
     μ-loop6
 slot-requires-8 c κs = search needs
 
--- src/lib.rt:163:17
+-- src/lib.rt:165:17
 add-e :
     tie.Need-add-e
     Inv-loop
@@ -2909,12 +2928,12 @@ add-e :
     μ-loop6
 add-e c =
     let st = c .before .before .before .before .before .before .before .before .before .before .before .before
-    .before .before in
+    .before .before .before .before .before .before .before .before .before in
     let l1 = c .before .before .before .before .before .before .before .before .before .loop in
     let t3 = c .before .before .before .loop3-test in
-    omega (arith, t3 .taken, l1 .inv .0, l1 .inv .2, st .pre .0 .0)
+    omega (arith, t3 .taken, l1 .inv .0, l1 .inv .2, st .pre .0 .0, st .pre .0 .1)
 
--- src/lib.rt:159:9
+-- src/lib.rt:161:9
 loop3-less :
     tie.Need-loop3-less
     Inv-loop
@@ -2931,12 +2950,12 @@ loop3-less :
     μ-loop6
 loop3-less c =
     let st = c .before .before .before .before .before .before .before .before .before .before .before .before
-    .before .before in
+    .before .before .before .before .before .before .before .before .before in
     let l1 = c .before .before .before .before .before .before .before .before .before .loop in
     let t3 = c .before .before .before .loop3-test in
-    omega (arith, t3 .taken, l1 .inv .0, l1 .inv .2, st .pre .0 .0)
+    omega (arith, t3 .taken, l1 .inv .0, l1 .inv .2, st .pre .0 .0, st .pre .0 .1)
 
--- src/lib.rt:159:9
+-- src/lib.rt:161:9
 loop3-again :
     tie.Need-loop3-again
     Inv-loop
@@ -2953,20 +2972,21 @@ loop3-again :
     μ-loop6
 loop3-again c =
     let st = c .before .before .before .before .before .before .before .before .before .before .before .before
-    .before .before in
+    .before .before .before .before .before .before .before .before .before in
     let l1 = c .before .before .before .before .before .before .before .before .before .loop in
     let l3 = c .before .before .before .before .loop3 in
     let t3 = c .before .before .before .loop3-test in
     let slot7 = c .before .before .slot7 in
     let slot8 = c .before .slot8 in
     let if2 = c .if2 in (
-      omega (arith, t3 .taken, l1 .inv .0, l1 .inv .2, st .pre .0 .0),
-      λ T S. edge-self _ _ _ _ _ _ _ _ _ T (l3
-          .inv .1 T S) _ _ (l1 .inv .4 .linked .low-left _ (t3 .taken)) (l1 .inv .4 .linked .low-right _ (t3 .taken))
-          (slot7 .ensures) (slot8 .ensures) (if2 .taken),
+      omega (arith, t3 .taken, l1 .inv .0, l1 .inv .2, st .pre .0 .0, st .pre .0 .1),
+      (λ T S. edge-self _ _ _ _ _
+          _ _ _ _ _ T (l3 .inv .1 T S) _ _ (l1 .inv .4 .linked .low-left _ (t3 .taken)) (l1 .inv .4 .linked .low-right
+          _ (t3 .taken)) (slot7 .ensures) (slot8 .ensures) (if2 .taken)),
+      l3 .inv .2,
     )
 
--- src/lib.rt:166:21
+-- src/lib.rt:168:21
 mul-c :
     tie.Need-mul-c
     Inv-loop
@@ -2983,7 +3003,7 @@ mul-c :
     μ-loop6
 mul-c c = search needs
 
--- src/lib.rt:166:21
+-- src/lib.rt:168:21
 array-copy-out-c :
     tie.Need-array-copy-out-c
     Inv-loop
@@ -3000,9 +3020,9 @@ array-copy-out-c :
     μ-loop6
 array-copy-out-c c = search needs
 
--- src/lib.rt:167:70
-mul-merge-from :
-    tie.Need-mul-merge-from
+-- src/lib.rt:169:80
+mul-merge-rows :
+    tie.Need-mul-merge-rows
     Inv-loop
     μ-loop
     Inv-loop3
@@ -3015,11 +3035,11 @@ mul-merge-from :
     μ-loop5
     Inv-loop6
     μ-loop6
-mul-merge-from c = search needs
+mul-merge-rows c = search needs
 
--- src/lib.rt:167:70
-array-copy-out-merge-from :
-    tie.Need-array-copy-out-merge-from
+-- src/lib.rt:169:80
+array-copy-out-merge-rows :
+    tie.Need-array-copy-out-merge-rows
     Inv-loop
     μ-loop
     Inv-loop3
@@ -3032,11 +3052,11 @@ array-copy-out-merge-from :
     μ-loop5
     Inv-loop6
     μ-loop6
-array-copy-out-merge-from c = search needs
+array-copy-out-merge-rows c = search needs
 
--- src/lib.rt:167:17
-merge-from-requires :
-    tie.Need-merge-from-requires
+-- src/lib.rt:169:17
+merge-rows-requires :
+    tie.Need-merge-rows-requires
     Inv-loop
     μ-loop
     Inv-loop3
@@ -3049,18 +3069,39 @@ merge-from-requires :
     μ-loop5
     Inv-loop6
     μ-loop6
-merge-from-requires c κs =
+merge-rows-requires c κs =
+    let st = c .before .before .before .before .before .before .before .before .before .before .before .before
+    .before .before .before .before .before .before .before .before .before .before .before .before in
     let l1 = c .before .before .before .before .before .before .before .before .before .before .before .before
-    .before .before .before .loop in
-    let l2 = c .before .before .before .before .before .before .before .before .before .before .before .before
-    .loop2 in
-    let l3 = c .before .before .before .before .before .before .before .before .before .before .loop3 in
-    let slot7 = c .before .before .before .before .before .before .before .before .slot7 in
-    let slot8 = c .before .before .before .before .before .before .before .slot8 in
-    let s = l3 .inv .1 _ (l2 .inv .1 _ (l1 .inv .4 .shows) .shows) .shows in
-    (s .fine _ (omega (arith, slot8 .ensures)), s .fine _ (omega (arith, slot7 .ensures)))
+    .loop in
+    let l2 = c .before .before .before .before .before .before .before .before .before .loop2 in
+    let l3 = c .before .before .before .before .before .before .before .loop3 in
+    let slot7 = c .before .before .before .before .before .slot7 in
+    let slot8 = c .before .before .before .before .slot8 in
+    let s = l3 .inv .1 _ (l2 .inv .1 _ (l1 .inv .4 .shows) .shows) .shows in (
+      (
+        omega (arith, slot8 .ensures),
+        omega (arith, slot7 .ensures),
+        omega (
+          arith,
+          l3 .inv .2,
+          l2 .inv .2,
+          l1
+              .inv .5,
+          st .pre .0 .1,
+        ),
+      ),
+      (
+        s .fine _ (omega (arith, slot8 .ensures)),
+        s .fine _ (omega (
+          arith,
+          slot7
+              .ensures,
+        )),
+      ),
+    )
 
--- src/lib.rt:169:13
+-- src/lib.rt:171:13
 mul-table-7 :
     tie.Need-mul-table-7
     Inv-loop
@@ -3076,10 +3117,10 @@ mul-table-7 :
     Inv-loop6
     μ-loop6
 mul-table-7 c =
-    let slot8 = c .before .before .before .before .before .before .before .before .before .slot8 in
+    let slot8 = c .before .before .before .before .before .before .before .before .slot8 in
     omega (arith, slot8 .ensures)
 
--- src/lib.rt:169:13
+-- src/lib.rt:171:13
 array-set-from-table-7 :
     tie.Need-array-set-from-table-7
     Inv-loop
@@ -3095,12 +3136,12 @@ array-set-from-table-7 :
     Inv-loop6
     μ-loop6
 array-set-from-table-7 c =
-    let slot8 = c .before .before .before .before .before .before .before .before .before .slot8 in
+    let slot8 = c .before .before .before .before .before .before .before .before .slot8 in
     omega (arith, slot8 .ensures)
 
--- src/lib.rt:170:17
-merge-from-requires-2 :
-    tie.Need-merge-from-requires-2
+-- src/lib.rt:172:17
+merge-rows-requires-2 :
+    tie.Need-merge-rows-requires-2
     Inv-loop
     μ-loop
     Inv-loop3
@@ -3113,20 +3154,44 @@ merge-from-requires-2 :
     μ-loop5
     Inv-loop6
     μ-loop6
-merge-from-requires-2 c κs =
+merge-rows-requires-2 c κs =
+    let st = c .before .before .before .before .before .before .before .before .before .before .before .before
+    .before .before .before .before .before .before .before .before .before .before .before .before .before
+    .before .before .before .before in
     let l1 = c .before .before .before .before .before .before .before .before .before .before .before .before
-    .before .before .before .before .before .before .before .before .before .loop in
+    .before .before .before .before .before .loop in
     let l2 = c .before .before .before .before .before .before .before .before .before .before .before .before
-    .before .before .before .before .before .before .loop2 in
+    .before .before .loop2 in
     let l3 = c .before .before .before .before .before .before .before .before .before .before .before .before
-    .before .before .before .before .loop3 in
-    let slot7 = c .before .before .before .before .before .before .before .before .before .before .before
-    .before .before .before .slot7 in
-    let merge-from = c .before .before .before .before .before .merge-from in
+    .loop3 in
+    let slot7 = c .before .before .before .before .before .before .before .before .before .before .slot7 in
+    let slot8 = c .before .before .before .before .before .before .before .before .before .slot8 in
+    let if2 = c .before .before .before .before .before .before .before .before .if2 in
+    let merge-rows = c .before .before .before .before .merge-rows in
     let s = l3 .inv .1 _ (l2 .inv .1 _ (l1 .inv .4 .shows) .shows) .shows in
-    (s .fine _ (omega (arith, slot7 .ensures)), merge-from .ensures .1)
+    let g = merge-rows .ensures .1 .1 in
+    let z = g .size in (
+      (
+        omega (arith, slot7 .ensures),
+        omega (arith, slot8 .ensures),
+        omega (
+          arith,
+          z,
+          l3 .inv .2,
+          l2 .inv .2,
+          l1
+              .inv .5,
+          st .pre .0 .1,
+        ),
+      ),
+      (
+        rows-fine _ _ _ _ _ g (omega (arith, slot7 .ensures)) (λ e. if2 .left (sym e)) (s
+            .fine _ (omega (arith, slot7 .ensures))),
+        merge-rows .ensures .1 .0,
+      ),
+    )
 
--- src/lib.rt:172:13
+-- src/lib.rt:174:13
 mul-table-8 :
     tie.Need-mul-table-8
     Inv-loop
@@ -3143,10 +3208,10 @@ mul-table-8 :
     μ-loop6
 mul-table-8 c =
     let slot7 = c .before .before .before .before .before .before .before .before .before .before .before
-    .before .before .before .before .before .slot7 in
+    .before .before .before .slot7 in
     omega (arith, slot7 .ensures)
 
--- src/lib.rt:172:13
+-- src/lib.rt:174:13
 array-set-from-table-8 :
     tie.Need-array-set-from-table-8
     Inv-loop
@@ -3163,10 +3228,10 @@ array-set-from-table-8 :
     μ-loop6
 array-set-from-table-8 c =
     let slot7 = c .before .before .before .before .before .before .before .before .before .before .before
-    .before .before .before .before .before .slot7 in
+    .before .before .before .slot7 in
     omega (arith, slot7 .ensures)
 
--- src/lib.rt:175:13
+-- src/lib.rt:177:13
 add-e-2 :
     tie.Need-add-e-2
     Inv-loop
@@ -3184,15 +3249,15 @@ add-e-2 :
 add-e-2 c =
     let st = c .before .before .before .before .before .before .before .before .before .before .before .before
     .before .before .before .before .before .before .before .before .before .before .before .before .before
-    .before .before .before .before .before .before .before in
+    .before .before .before .before .before .before .before .before .before .before .before .before in
     let l1 = c .before .before .before .before .before .before .before .before .before .before .before .before
     .before .before .before .before .before .before .before .before .before .before .before .before .before
-    .before .before .loop in
+    .loop in
     let t3 = c .before .before .before .before .before .before .before .before .before .before .before .before
-    .before .before .before .before .before .before .before .before .before .loop3-test in
-    omega (arith, t3 .taken, l1 .inv .0, l1 .inv .2, st .pre .0 .0)
+    .before .before .before .before .before .before .before .loop3-test in
+    omega (arith, t3 .taken, l1 .inv .0, l1 .inv .2, st .pre .0 .0, st .pre .0 .1)
 
--- src/lib.rt:159:9
+-- src/lib.rt:161:9
 loop3-less-2 :
     tie.Need-loop3-less-2
     Inv-loop
@@ -3210,15 +3275,15 @@ loop3-less-2 :
 loop3-less-2 c =
     let st = c .before .before .before .before .before .before .before .before .before .before .before .before
     .before .before .before .before .before .before .before .before .before .before .before .before .before
-    .before .before .before .before .before .before .before in
+    .before .before .before .before .before .before .before .before .before .before .before .before in
     let l1 = c .before .before .before .before .before .before .before .before .before .before .before .before
     .before .before .before .before .before .before .before .before .before .before .before .before .before
-    .before .before .loop in
+    .loop in
     let t3 = c .before .before .before .before .before .before .before .before .before .before .before .before
-    .before .before .before .before .before .before .before .before .before .loop3-test in
-    omega (arith, t3 .taken, l1 .inv .0, l1 .inv .2, st .pre .0 .0)
+    .before .before .before .before .before .before .before .loop3-test in
+    omega (arith, t3 .taken, l1 .inv .0, l1 .inv .2, st .pre .0 .0, st .pre .0 .1)
 
--- src/lib.rt:159:9
+-- src/lib.rt:161:9
 loop3-again-2 :
     tie.Need-loop3-again-2
     Inv-loop
@@ -3236,31 +3301,34 @@ loop3-again-2 :
 loop3-again-2 c =
     let st = c .before .before .before .before .before .before .before .before .before .before .before .before
     .before .before .before .before .before .before .before .before .before .before .before .before .before
-    .before .before .before .before .before .before .before in
+    .before .before .before .before .before .before .before .before .before .before .before .before in
     let l1 = c .before .before .before .before .before .before .before .before .before .before .before .before
     .before .before .before .before .before .before .before .before .before .before .before .before .before
-    .before .before .loop in
+    .loop in
     let l3 = c .before .before .before .before .before .before .before .before .before .before .before .before
-    .before .before .before .before .before .before .before .before .before .before .loop3 in
+    .before .before .before .before .before .before .before .before .loop3 in
     let t3 = c .before .before .before .before .before .before .before .before .before .before .before .before
-    .before .before .before .before .before .before .before .before .before .loop3-test in
+    .before .before .before .before .before .before .before .loop3-test in
     let slot7 = c .before .before .before .before .before .before .before .before .before .before .before
-    .before .before .before .before .before .before .before .before .before .slot7 in
+    .before .before .before .before .before .before .before .slot7 in
     let slot8 = c .before .before .before .before .before .before .before .before .before .before .before
-    .before .before .before .before .before .before .before .before .slot8 in
+    .before .before .before .before .before .before .slot8 in
     let if2 = c .before .before .before .before .before .before .before .before .before .before .before .before
-    .before .before .before .before .before .before .if2 in
-    let merge-from = c .before .before .before .before .before .before .before .before .before .before .before
-    .merge-from in
-    let merge-from2 = c .before .before .before .before .before .merge-from2 in (
-      omega (arith, t3 .taken, l1 .inv .0, l1 .inv .2, st .pre .0 .0),
-      λ T S. edge-turn _ _ _ _ _ _ _ _ _ T (l3
-          .inv .1 T S) _ _ _ _ _ _ _ _ (l1 .inv .4 .linked .low-left _ (t3 .taken)) (l1 .inv .4 .linked .low-right _
-          (t3 .taken)) (slot7 .ensures) (slot8 .ensures) (if2 .left) (merge-from .ensures .0) (merge-from .ensures .1)
-          (merge-from2 .ensures .0) (merge-from2 .ensures .1),
+    .before .before .before .before .if2 in
+    let merge-rows = c .before .before .before .before .before .before .before .before .before .before .before
+    .before .merge-rows in
+    let merge-rows2 = c .before .before .before .before .before .before .before .merge-rows2 in (
+      omega (arith, t3 .taken, l1 .inv .0, l1 .inv .2, st .pre .0 .0, st .pre .0 .1),
+      (λ T S. edge-turn _ _ _ _ _
+          _ _ _ _ _ T (l3 .inv .1 T S) _ _ _ _ _ _ _ _ _ _ (l1 .inv .4 .linked .low-left _ (t3 .taken)) (l1 .inv .4
+          .linked .low-right _ (t3 .taken)) (slot7 .ensures) (slot8 .ensures) (if2 .left) (merge-rows .ensures .0)
+          (merge-rows .ensures .1 .0) (merge-rows .ensures .1 .1) (merge-rows2 .ensures .0) (merge-rows2 .ensures .1
+          .0) (merge-rows2 .ensures .1 .1)),
+      merge-rows2 .ensures .1 .1 .size ∙ merge-rows .ensures .1 .1 .size ∙ l3
+          .inv .2,
     )
 
--- src/lib.rt:178:9
+-- src/lib.rt:180:9
 add-pass :
     tie.Need-add-pass
     Inv-loop
@@ -3276,15 +3344,16 @@ add-pass :
     Inv-loop6
     μ-loop6
 add-pass c =
-    let st = c .before .before .before .before .before .before .before .before .before .before .before in
+    let st = c .before .before .before .before .before .before .before .before .before .before .before .before
+    .before .before .before .before .before .before in
     let l1 = c .before .before .before .before .before .before .loop in
     let l2 = c .before .before .before .loop2 in
     let t2 = c .before .before .loop2-test in
     let h : l2 .pass < l1 .columns = ltb-true _ _ (and-left (ltb (l2 .pass) (l1 .columns)) (l2 .going) (t2
     .taken)) in
-    omega (arith, h, l1 .inv .0, l1 .inv .1, st .pre .0 .0)
+    omega (arith, h, l1 .inv .0, l1 .inv .1, st .pre .0 .0, st .pre .0 .1)
 
--- src/lib.rt:156:5
+-- src/lib.rt:158:5
 loop2-less :
     tie.Need-loop2-less
     Inv-loop
@@ -3300,15 +3369,16 @@ loop2-less :
     Inv-loop6
     μ-loop6
 loop2-less c =
-    let st = c .before .before .before .before .before .before .before .before .before .before .before in
+    let st = c .before .before .before .before .before .before .before .before .before .before .before .before
+    .before .before .before .before .before .before in
     let l1 = c .before .before .before .before .before .before .loop in
     let l2 = c .before .before .before .loop2 in
     let t2 = c .before .before .loop2-test in
     let h : l2 .pass < l1 .columns = ltb-true _ _ (and-left (ltb (l2 .pass) (l1 .columns)) (l2 .going) (t2
     .taken)) in
-    omega (arith, h, l1 .inv .0, l1 .inv .1, st .pre .0 .0)
+    omega (arith, h, l1 .inv .0, l1 .inv .1, st .pre .0 .0, st .pre .0 .1)
 
--- src/lib.rt:156:5
+-- src/lib.rt:158:5
 loop2-again :
     tie.Need-loop2-again
     Inv-loop
@@ -3332,11 +3402,13 @@ loop2-again c =
     let h : l2 .pass < l1 .columns = ltb-true _ _ (and-left (ltb (l2 .pass) (l1 .columns)) (l2 .going) (t2
     .taken)) in (
       omega (arith, h),
-      λ T S. passed-turn _ _ _ _ _ _ _ _ _ _ _ _ _ _ T h (and-right (ltb (l2 .pass) (l1
-          .columns)) (l2 .going) (t2 .taken)) (omega (arith, l3 .inv .0, t3 .left)) (l2 .inv .1 T S) (l3 .inv .1),
+      (λ T S. passed-turn _ _ _ _ _ _ _ _ _ _ _ _ _ _ _ _ T h (and-right (ltb (l2 .pass) (l1
+          .columns)) (l2 .going) (t2 .taken)) (omega (arith, l3 .inv .0, t3 .left)) (l2 .inv .1 T S) (l3 .inv .1)),
+      l3
+          .inv .2 ∙ l2 .inv .2,
     )
 
--- src/lib.rt:182:5
+-- src/lib.rt:184:5
 loop4-holds :
     tie.Need-loop4-holds
     Inv-loop
@@ -3354,7 +3426,7 @@ loop4-holds :
 loop4-holds c =
     (omega arith, omega arith, λ T l rights S K. kept-none T _ _ _ _ _ l K)
 
--- src/lib.rt:183:29
+-- src/lib.rt:185:29
 mul-kept-4 :
     tie.Need-mul-kept-4
     Inv-loop
@@ -3370,13 +3442,14 @@ mul-kept-4 :
     Inv-loop6
     μ-loop6
 mul-kept-4 c =
-    let st = c .before .before .before .before .before .before .before .before .before .before .before in
+    let st = c .before .before .before .before .before .before .before .before .before .before .before .before
+    .before .before .before .before .before .before in
     let l1 = c .before .before .before .before .before .before .loop in
     let l4 = c .before .loop4 in
     let t4 = c .loop4-test in
-    omega (arith, t4 .taken, l4 .inv .0, l4 .inv .1, l1 .inv .0, l1 .inv .2, st .pre .0 .0)
+    omega (arith, t4 .taken, l4 .inv .0, l4 .inv .1, l1 .inv .0, l1 .inv .2, st .pre .0 .0, st .pre .0 .1)
 
--- src/lib.rt:183:29
+-- src/lib.rt:185:29
 array-read-kept :
     tie.Need-array-read-kept
     Inv-loop
@@ -3392,13 +3465,14 @@ array-read-kept :
     Inv-loop6
     μ-loop6
 array-read-kept c =
-    let st = c .before .before .before .before .before .before .before .before .before .before .before in
+    let st = c .before .before .before .before .before .before .before .before .before .before .before .before
+    .before .before .before .before .before .before in
     let l1 = c .before .before .before .before .before .before .loop in
     let l4 = c .before .loop4 in
     let t4 = c .loop4-test in
-    omega (arith, t4 .taken, l4 .inv .0, l4 .inv .1, l1 .inv .0, l1 .inv .2, st .pre .0 .0)
+    omega (arith, t4 .taken, l4 .inv .0, l4 .inv .1, l1 .inv .0, l1 .inv .2, st .pre .0 .0, st .pre .0 .1)
 
--- src/lib.rt:183:13
+-- src/lib.rt:185:13
 slot-requires-9 :
     tie.Need-slot-requires-9
     Inv-loop
@@ -3415,7 +3489,7 @@ slot-requires-9 :
     μ-loop6
 slot-requires-9 c κs = search needs
 
--- src/lib.rt:184:30
+-- src/lib.rt:186:30
 mul-is-fixed :
     tie.Need-mul-is-fixed
     Inv-loop
@@ -3432,7 +3506,7 @@ mul-is-fixed :
     μ-loop6
 mul-is-fixed c = search needs
 
--- src/lib.rt:184:30
+-- src/lib.rt:186:30
 array-copy-out-is-fixed :
     tie.Need-array-copy-out-is-fixed
     Inv-loop
@@ -3449,7 +3523,7 @@ array-copy-out-is-fixed :
     μ-loop6
 array-copy-out-is-fixed c = search needs
 
--- src/lib.rt:184:13
+-- src/lib.rt:186:13
 is-fixed-requires :
     tie.Need-is-fixed-requires
     Inv-loop
@@ -3466,7 +3540,7 @@ is-fixed-requires :
     μ-loop6
 is-fixed-requires c κs = search needs
 
--- src/lib.rt:185:23
+-- src/lib.rt:187:23
 mul-kept-5 :
     tie.Need-mul-kept-5
     Inv-loop
@@ -3483,13 +3557,13 @@ mul-kept-5 :
     μ-loop6
 mul-kept-5 c =
     let st = c .before .before .before .before .before .before .before .before .before .before .before .before
-    .before .before in
+    .before .before .before .before .before .before .before .before .before in
     let l1 = c .before .before .before .before .before .before .before .before .before .loop in
     let l4 = c .before .before .before .before .loop4 in
     let t4 = c .before .before .before .loop4-test in
-    omega (arith, t4 .taken, l4 .inv .0, l4 .inv .1, l1 .inv .0, l1 .inv .2, st .pre .0 .0)
+    omega (arith, t4 .taken, l4 .inv .0, l4 .inv .1, l1 .inv .0, l1 .inv .2, st .pre .0 .0, st .pre .0 .1)
 
--- src/lib.rt:185:23
+-- src/lib.rt:187:23
 array-read-kept-2 :
     tie.Need-array-read-kept-2
     Inv-loop
@@ -3506,13 +3580,13 @@ array-read-kept-2 :
     μ-loop6
 array-read-kept-2 c =
     let st = c .before .before .before .before .before .before .before .before .before .before .before .before
-    .before .before in
+    .before .before .before .before .before .before .before .before .before in
     let l1 = c .before .before .before .before .before .before .before .before .before .loop in
     let l4 = c .before .before .before .before .loop4 in
     let t4 = c .before .before .before .loop4-test in
-    omega (arith, t4 .taken, l4 .inv .0, l4 .inv .1, l1 .inv .0, l1 .inv .2, st .pre .0 .0)
+    omega (arith, t4 .taken, l4 .inv .0, l4 .inv .1, l1 .inv .0, l1 .inv .2, st .pre .0 .0, st .pre .0 .1)
 
--- src/lib.rt:185:9
+-- src/lib.rt:187:9
 mul-kept-6 :
     tie.Need-mul-kept-6
     Inv-loop
@@ -3529,13 +3603,13 @@ mul-kept-6 :
     μ-loop6
 mul-kept-6 c =
     let st = c .before .before .before .before .before .before .before .before .before .before .before .before
-    .before .before in
+    .before .before .before .before .before .before .before .before .before in
     let l1 = c .before .before .before .before .before .before .before .before .before .loop in
     let l4 = c .before .before .before .before .loop4 in
     let t4 = c .before .before .before .loop4-test in
-    omega (arith, t4 .taken, l4 .inv .0, l4 .inv .1, l1 .inv .0, l1 .inv .2, st .pre .0 .0)
+    omega (arith, t4 .taken, l4 .inv .0, l4 .inv .1, l1 .inv .0, l1 .inv .2, st .pre .0 .0, st .pre .0 .1)
 
--- src/lib.rt:185:9
+-- src/lib.rt:187:9
 array-write-kept-4 :
     tie.Need-array-write-kept-4
     Inv-loop
@@ -3552,13 +3626,13 @@ array-write-kept-4 :
     μ-loop6
 array-write-kept-4 c =
     let st = c .before .before .before .before .before .before .before .before .before .before .before .before
-    .before .before in
+    .before .before .before .before .before .before .before .before .before in
     let l1 = c .before .before .before .before .before .before .before .before .before .loop in
     let l4 = c .before .before .before .before .loop4 in
     let t4 = c .before .before .before .loop4-test in
-    omega (arith, t4 .taken, l4 .inv .0, l4 .inv .1, l1 .inv .0, l1 .inv .2, st .pre .0 .0)
+    omega (arith, t4 .taken, l4 .inv .0, l4 .inv .1, l1 .inv .0, l1 .inv .2, st .pre .0 .0, st .pre .0 .1)
 
--- src/lib.rt:186:9
+-- src/lib.rt:188:9
 bump-requires-7 :
     tie.Need-bump-requires-7
     Inv-loop
@@ -3575,13 +3649,13 @@ bump-requires-7 :
     μ-loop6
 bump-requires-7 c κs =
     let st = c .before .before .before .before .before .before .before .before .before .before .before .before
-    .before .before in
+    .before .before .before .before .before .before .before .before .before in
     let l1 = c .before .before .before .before .before .before .before .before .before .loop in
     let l4 = c .before .before .before .before .loop4 in
     let t4 = c .before .before .before .loop4-test in
-    omega (arith, t4 .taken, l4 .inv .0, l4 .inv .1, l1 .inv .0, l1 .inv .2, st .pre .0 .0)
+    omega (arith, t4 .taken, l4 .inv .0, l4 .inv .1, l1 .inv .0, l1 .inv .2, st .pre .0 .0, st .pre .0 .1)
 
--- src/lib.rt:188:9
+-- src/lib.rt:190:9
 add-e-3 :
     tie.Need-add-e-3
     Inv-loop
@@ -3598,13 +3672,13 @@ add-e-3 :
     μ-loop6
 add-e-3 c =
     let st = c .before .before .before .before .before .before .before .before .before .before .before .before
-    .before .before .before in
+    .before .before .before .before .before .before .before .before .before .before in
     let l1 = c .before .before .before .before .before .before .before .before .before .before .loop in
     let l4 = c .before .before .before .before .before .loop4 in
     let t4 = c .before .before .before .before .loop4-test in
-    omega (arith, t4 .taken, l4 .inv .0, l4 .inv .1, l1 .inv .0, l1 .inv .2, st .pre .0 .0)
+    omega (arith, t4 .taken, l4 .inv .0, l4 .inv .1, l1 .inv .0, l1 .inv .2, st .pre .0 .0, st .pre .0 .1)
 
--- src/lib.rt:182:5
+-- src/lib.rt:184:5
 loop4-less :
     tie.Need-loop4-less
     Inv-loop
@@ -3621,13 +3695,13 @@ loop4-less :
     μ-loop6
 loop4-less c =
     let st = c .before .before .before .before .before .before .before .before .before .before .before .before
-    .before .before .before in
+    .before .before .before .before .before .before .before .before .before .before in
     let l1 = c .before .before .before .before .before .before .before .before .before .before .loop in
     let l4 = c .before .before .before .before .before .loop4 in
     let t4 = c .before .before .before .before .loop4-test in
-    omega (arith, t4 .taken, l4 .inv .0, l4 .inv .1, l1 .inv .0, l1 .inv .2, st .pre .0 .0)
+    omega (arith, t4 .taken, l4 .inv .0, l4 .inv .1, l1 .inv .0, l1 .inv .2, st .pre .0 .0, st .pre .0 .1)
 
--- src/lib.rt:182:5
+-- src/lib.rt:184:5
 loop4-again :
     tie.Need-loop4-again
     Inv-loop
@@ -3644,34 +3718,34 @@ loop4-again :
     μ-loop6
 loop4-again c =
     let st = c .before .before .before .before .before .before .before .before .before .before .before .before
-    .before .before .before in
+    .before .before .before .before .before .before .before .before .before .before in
     let l1 = c .before .before .before .before .before .before .before .before .before .before .loop in
+    let l2 = c .before .before .before .before .before .before .before .loop2 in
     let l4 = c .before .before .before .before .before .loop4 in
     let t4 = c .before .before .before .before .loop4-test in
     let slot9 = c .before .before .before .slot9 in
     let is-fixed = c .before .is-fixed in
     let bump7 = c .bump7 in
     let b = bump7 .ensures .1 in (
-      omega (arith, t4 .taken, l4 .inv .0, l4 .inv .1, l1 .inv .0, l1 .inv .2, st .pre .0 .0),
-      omega (
-        arith,
-        t4
-            .taken,
-        l4 .inv .0,
-        l4 .inv .1,
-        l1 .inv .0,
-        l1 .inv .2,
-        st .pre .0 .0,
-        b,
-      ),
-      λ T l rights S K. kept-more _ _ T
-          _ rights _ _ _ _ _ _ _ _ l S (l4 .inv .2 T l rights S K) (l1 .inv .4 .linked .low-left _ (t4 .taken)) (omega
-          (arith, t4 .taken, l4 .inv .0, l4 .inv .1, l1 .inv .0, l1 .inv .2, st .pre .0 .0)) (slot9 .ensures)
-          (is-fixed .ensures (conjuncts (st .args .kinds .now) (st .args .values .now) (st .args .starts .now) (st
-          .args .counts .now) (st .args .p .now))) (bump7 .ensures .0),
+      omega (arith, t4 .taken, l4 .inv .0, l4 .inv .1, l1 .inv .0, l1 .inv .2, st .pre .0 .0, st .pre .0 .1),
+      omega (arith, t4 .taken, l4 .inv .0, l4 .inv .1, l1 .inv .0, l1 .inv .2, st .pre .0 .0, st .pre .0 .1, b),
+      λ
+          T l rights S K. kept-more _ _ _ T _ rights _ _ _ _ _ _ _ _ l S (l4 .inv .2 T l rights S K) (l1 .inv .4
+          .linked .low-left _ (t4 .taken)) (omega (
+            arith,
+            t4 .taken,
+            l4 .inv .0,
+            l4 .inv .1,
+            l1 .inv .0,
+            l1 .inv .2,
+            st .pre .0 .0,
+            st .pre .0 .1,
+          )) (slot9 .ensures) (is-fixed .ensures (conjuncts (st .args .kinds .now) (st
+          .args .values .now) (st .args .starts .now) (st .args .counts .now) (st .args .p .now)) (rowOf (l2 .marks)
+          (slot9 .result))) (bump7 .ensures .0),
     )
 
--- src/lib.rt:192:5
+-- src/lib.rt:194:5
 loop5-holds :
     tie.Need-loop5-holds
     Inv-loop
@@ -3687,11 +3761,11 @@ loop5-holds :
     Inv-loop6
     μ-loop6
 loop5-holds c =
-    (omega arith, omega arith, λ T S. resolved-none _ _ _ _ T S)
+    (omega arith, omega arith, (λ T S. resolved-none _ _ _ _ _ T S), refl)
 
--- src/lib.rt:193:29
-mul-t241 :
-    tie.Need-mul-t241
+-- src/lib.rt:195:29
+mul-t217 :
+    tie.Need-mul-t217
     Inv-loop
     μ-loop
     Inv-loop3
@@ -3704,17 +3778,11 @@ mul-t241 :
     μ-loop5
     Inv-loop6
     μ-loop6
-mul-t241 c =
-    let st = c .before .before .before .before .before .before .before .before .before .before .before .before
-    .before in
-    let l1 = c .before .before .before .before .before .before .before .before .loop in
-    let l5 = c .before .loop5 in
-    let t5 = c .loop5-test in
-    omega (arith, t5 .taken, l5 .inv .0, l5 .inv .1, l1 .inv .0, l1 .inv .1, st .pre .0 .0)
+mul-t217 c = search needs
 
--- src/lib.rt:193:29
-array-read-t244 :
-    tie.Need-array-read-t244
+-- src/lib.rt:195:29
+array-read-t220 :
+    tie.Need-array-read-t220
     Inv-loop
     μ-loop
     Inv-loop3
@@ -3727,15 +3795,9 @@ array-read-t244 :
     μ-loop5
     Inv-loop6
     μ-loop6
-array-read-t244 c =
-    let st = c .before .before .before .before .before .before .before .before .before .before .before .before
-    .before in
-    let l1 = c .before .before .before .before .before .before .before .before .loop in
-    let l5 = c .before .loop5 in
-    let t5 = c .loop5-test in
-    omega (arith, t5 .taken, l5 .inv .0, l5 .inv .1, l1 .inv .0, l1 .inv .1, st .pre .0 .0)
+array-read-t220 c = search needs
 
--- src/lib.rt:193:13
+-- src/lib.rt:195:13
 slot-requires-10 :
     tie.Need-slot-requires-10
     Inv-loop
@@ -3752,9 +3814,9 @@ slot-requires-10 :
     μ-loop6
 slot-requires-10 c κs = search needs
 
--- src/lib.rt:194:68
-mul-resolve-deferred :
-    tie.Need-mul-resolve-deferred
+-- src/lib.rt:196:73
+mul-resolve-row :
+    tie.Need-mul-resolve-row
     Inv-loop
     μ-loop
     Inv-loop3
@@ -3767,11 +3829,11 @@ mul-resolve-deferred :
     μ-loop5
     Inv-loop6
     μ-loop6
-mul-resolve-deferred c = search needs
+mul-resolve-row c = search needs
 
--- src/lib.rt:194:68
-array-copy-out-resolve-deferred :
-    tie.Need-array-copy-out-resolve-deferred
+-- src/lib.rt:196:73
+array-copy-out-resolve-row :
+    tie.Need-array-copy-out-resolve-row
     Inv-loop
     μ-loop
     Inv-loop3
@@ -3784,11 +3846,11 @@ array-copy-out-resolve-deferred :
     μ-loop5
     Inv-loop6
     μ-loop6
-array-copy-out-resolve-deferred c = search needs
+array-copy-out-resolve-row c = search needs
 
--- src/lib.rt:194:13
-resolve-deferred-requires :
-    tie.Need-resolve-deferred-requires
+-- src/lib.rt:196:13
+resolve-row-requires :
+    tie.Need-resolve-row-requires
     Inv-loop
     μ-loop
     Inv-loop3
@@ -3801,15 +3863,20 @@ resolve-deferred-requires :
     μ-loop5
     Inv-loop6
     μ-loop6
-resolve-deferred-requires c κs =
-    let l1 = c .before .before .before .before .before .before .before .before .before .before .before .before
-    .before .before .loop in
-    let l2 = c .before .before .before .before .before .before .before .before .before .before .before .loop2 in
-    let l5 = c .before .before .before .before .before .before .before .loop5 in
-    let slot10 = c .before .before .before .before .before .slot10 in
-    l5 .inv .2 _ (l2 .inv .1 _ (l1 .inv .4 .shows) .shows) .shows .fine _ (omega (arith, slot10 .ensures))
+resolve-row-requires c κs =
+    let st = c .before .before .before .before .before .before .before .before .before .before .before .before
+    .before .before .before .before .before .before .before .before .before .before .before in
+    let l1 = c .before .before .before .before .before .before .before .before .before .before .before .loop in
+    let l2 = c .before .before .before .before .before .before .before .before .loop2 in
+    let l5 = c .before .before .before .before .loop5 in
+    let slot10 = c .before .before .slot10 in (
+      omega (arith, slot10 .ensures),
+      omega (arith, l5 .inv .3, l2 .inv .2, l1 .inv .5, st .pre .0 .1),
+      l5 .inv
+          .2 _ (l2 .inv .1 _ (l1 .inv .4 .shows) .shows) .shows .fine _ (omega (arith, slot10 .ensures)),
+    )
 
--- src/lib.rt:195:9
+-- src/lib.rt:197:9
 mul-table-9 :
     tie.Need-mul-table-9
     Inv-loop
@@ -3826,7 +3893,7 @@ mul-table-9 :
     μ-loop6
 mul-table-9 c = search needs
 
--- src/lib.rt:195:9
+-- src/lib.rt:197:9
 array-set-from-table-9 :
     tie.Need-array-set-from-table-9
     Inv-loop
@@ -3843,9 +3910,9 @@ array-set-from-table-9 :
     μ-loop6
 array-set-from-table-9 c = search needs
 
--- src/lib.rt:197:25
-comparison-count-requires :
-    tie.Need-comparison-count-requires
+-- src/lib.rt:199:25
+count-row-requires :
+    tie.Need-count-row-requires
     Inv-loop
     μ-loop
     Inv-loop3
@@ -3858,11 +3925,24 @@ comparison-count-requires :
     μ-loop5
     Inv-loop6
     μ-loop6
-comparison-count-requires c κs =
-    let resolve-deferred = c .before .before .resolve-deferred in
-    resolve-deferred .ensures .1
+count-row-requires c κs =
+    let st = c .before .before .before .before .before .before .before .before .before .before .before .before
+    .before .before .before .before .before .before .before .before .before .before .before .before .before
+    .before .before .before in
+    let l1 = c .before .before .before .before .before .before .before .before .before .before .before .before
+    .before .before .before .before .loop in
+    let l2 = c .before .before .before .before .before .before .before .before .before .before .before .before
+    .before .loop2 in
+    let l5 = c .before .before .before .before .before .before .before .before .before .loop5 in
+    let slot10 = c .before .before .before .before .before .before .before .slot10 in
+    let resolve-row = c .before .before .before .before .resolve-row in
+    let z = resolve-row .ensures .1 .1 .size in (
+      omega (arith, slot10 .ensures),
+      omega (arith, z, l5 .inv .3, l2 .inv .2, l1 .inv .5, st .pre .0 .1),
+      resolve-row .ensures .1 .0,
+    )
 
--- src/lib.rt:197:17
+-- src/lib.rt:199:17
 add-total :
     tie.Need-add-total
     Inv-loop
@@ -3879,20 +3959,27 @@ add-total :
     μ-loop6
 add-total c =
     let st = c .before .before .before .before .before .before .before .before .before .before .before .before
-    .before .before .before .before .before .before .before .before .before .before .before in
+    .before .before .before .before .before .before .before .before .before .before .before .before .before
+    .before .before .before .before in
     let l1 = c .before .before .before .before .before .before .before .before .before .before .before .before
-    .before .before .before .before .before .before .loop in
-    let l5 = c .before .before .before .before .before .before .before .before .before .before .before .loop5 in
-    let t5 = c .before .before .before .before .before .before .before .before .before .before .loop5-test in
-    let resolve-deferred = c .before .before .before .resolve-deferred in
-    let comparison-count = c .comparison-count in
+    .before .before .before .before .before .loop in
+    let l2 = c .before .before .before .before .before .before .before .before .before .before .before .before
+    .before .before .loop2 in
+    let l5 = c .before .before .before .before .before .before .before .before .before .before .loop5 in
+    let t5 = c .before .before .before .before .before .before .before .before .before .loop5-test in
+    let slot10 = c .before .before .before .before .before .before .before .before .slot10 in
+    let resolve-row = c .before .before .before .before .before .resolve-row in
+    let count-row = c .count-row in
+    let z = resolve-row .ensures .1 .1 .size in
+    let m = resolve-row .last .1 .1 .1 .1 .1 .0 in
     let f = column-few (conjuncts (st .args .kinds .now) (st .args .values .now) (st .args .starts .now) (st
-    .args .counts .now) (st .args .p .now)) (resolve-deferred .result) (resolve-deferred .ensures .1) in
-    let g = comparison-count .ensures (conjuncts (st .args .kinds .now) (st .args .values .now) (st .args
-    .starts .now) (st .args .counts .now) (st .args .p .now)) refl in
-    omega (arith, t5 .taken, l5 .inv .0, l5 .inv .1, l1 .inv .0, l1 .inv .1, st .pre .0 .0, f, g)
+    .args .counts .now) (st .args .p .now)) (numbered (rowOf m (slot10 .result)) (resolve-row .result)) _
+    (resolve-row .ensures .1 .0) (omega (arith, z, l5 .inv .3, l2 .inv .2, l1 .inv .5, st .pre .0 .1)) in
+    let g = count-row .ensures (conjuncts (st .args .kinds .now) (st .args .values .now) (st .args .starts .now)
+    (st .args .counts .now) (st .args .p .now)) refl in
+    omega (arith, t5 .taken, l5 .inv .0, l5 .inv .1, l1 .inv .0, l1 .inv .1, st .pre .0 .0, st .pre .0 .1, f, g)
 
--- src/lib.rt:198:9
+-- src/lib.rt:200:9
 add-o :
     tie.Need-add-o
     Inv-loop
@@ -3909,14 +3996,15 @@ add-o :
     μ-loop6
 add-o c =
     let st = c .before .before .before .before .before .before .before .before .before .before .before .before
-    .before .before .before .before .before .before .before .before .before .before .before in
+    .before .before .before .before .before .before .before .before .before .before .before .before .before
+    .before .before .before .before in
     let l1 = c .before .before .before .before .before .before .before .before .before .before .before .before
-    .before .before .before .before .before .before .loop in
-    let l5 = c .before .before .before .before .before .before .before .before .before .before .before .loop5 in
-    let t5 = c .before .before .before .before .before .before .before .before .before .before .loop5-test in
-    omega (arith, t5 .taken, l5 .inv .0, l5 .inv .1, l1 .inv .0, l1 .inv .1, st .pre .0 .0)
+    .before .before .before .before .before .loop in
+    let l5 = c .before .before .before .before .before .before .before .before .before .before .loop5 in
+    let t5 = c .before .before .before .before .before .before .before .before .before .loop5-test in
+    omega (arith, t5 .taken, l5 .inv .0, l5 .inv .1, l1 .inv .0, l1 .inv .1, st .pre .0 .0, st .pre .0 .1)
 
--- src/lib.rt:192:5
+-- src/lib.rt:194:5
 loop5-less :
     tie.Need-loop5-less
     Inv-loop
@@ -3933,14 +4021,15 @@ loop5-less :
     μ-loop6
 loop5-less c =
     let st = c .before .before .before .before .before .before .before .before .before .before .before .before
-    .before .before .before .before .before .before .before .before .before .before .before in
+    .before .before .before .before .before .before .before .before .before .before .before .before .before
+    .before .before .before .before in
     let l1 = c .before .before .before .before .before .before .before .before .before .before .before .before
-    .before .before .before .before .before .before .loop in
-    let l5 = c .before .before .before .before .before .before .before .before .before .before .before .loop5 in
-    let t5 = c .before .before .before .before .before .before .before .before .before .before .loop5-test in
-    omega (arith, t5 .taken, l5 .inv .0, l5 .inv .1, l1 .inv .0, l1 .inv .1, st .pre .0 .0)
+    .before .before .before .before .before .loop in
+    let l5 = c .before .before .before .before .before .before .before .before .before .before .loop5 in
+    let t5 = c .before .before .before .before .before .before .before .before .before .loop5-test in
+    omega (arith, t5 .taken, l5 .inv .0, l5 .inv .1, l1 .inv .0, l1 .inv .1, st .pre .0 .0, st .pre .0 .1)
 
--- src/lib.rt:192:5
+-- src/lib.rt:194:5
 loop5-again :
     tie.Need-loop5-again
     Inv-loop
@@ -3957,38 +4046,44 @@ loop5-again :
     μ-loop6
 loop5-again c =
     let st = c .before .before .before .before .before .before .before .before .before .before .before .before
-    .before .before .before .before .before .before .before .before .before .before .before in
+    .before .before .before .before .before .before .before .before .before .before .before .before .before
+    .before .before .before .before in
     let l1 = c .before .before .before .before .before .before .before .before .before .before .before .before
-    .before .before .before .before .before .before .loop in
-    let l5 = c .before .before .before .before .before .before .before .before .before .before .before .loop5 in
-    let t5 = c .before .before .before .before .before .before .before .before .before .before .loop5-test in
-    let slot10 = c .before .before .before .before .before .before .before .before .before .slot10 in
-    let resolve-deferred = c .before .before .before .resolve-deferred in
-    let comparison-count = c .comparison-count in
+    .before .before .before .before .before .loop in
+    let l2 = c .before .before .before .before .before .before .before .before .before .before .before .before
+    .before .before .loop2 in
+    let l5 = c .before .before .before .before .before .before .before .before .before .before .loop5 in
+    let t5 = c .before .before .before .before .before .before .before .before .before .loop5-test in
+    let slot10 = c .before .before .before .before .before .before .before .before .slot10 in
+    let resolve-row = c .before .before .before .before .before .resolve-row in
+    let count-row = c .count-row in
+    let z = resolve-row .ensures .1 .1 .size in
+    let m = resolve-row .last .1 .1 .1 .1 .1 .0 in
     let f = column-few (conjuncts (st .args .kinds .now) (st .args .values .now) (st .args .starts .now) (st
-    .args .counts .now) (st .args .p .now)) (resolve-deferred .result) (resolve-deferred .ensures .1) in
-    let g = comparison-count .ensures (conjuncts (st .args .kinds .now) (st .args .values .now) (st .args
-    .starts .now) (st .args .counts .now) (st .args .p .now)) refl in (
-      omega (arith, t5 .taken, l5 .inv .0, l5 .inv .1, l1 .inv .0, l1 .inv .1, st .pre .0 .0),
+    .args .counts .now) (st .args .p .now)) (numbered (rowOf m (slot10 .result)) (resolve-row .result)) _
+    (resolve-row .ensures .1 .0) (omega (arith, z, l5 .inv .3, l2 .inv .2, l1 .inv .5, st .pre .0 .1)) in
+    let g = count-row .ensures (conjuncts (st .args .kinds .now) (st .args .values .now) (st .args .starts .now)
+    (st .args .counts .now) (st .args .p .now)) refl in (
+      omega (arith, t5 .taken, l5 .inv .0, l5 .inv .1, l1 .inv .0, l1 .inv .1, st .pre .0 .0, st .pre .0 .1),
       omega (
         arith,
-        t5
-            .taken,
+        t5 .taken,
         l5 .inv .0,
         l5 .inv .1,
         l1 .inv .0,
         l1 .inv .1,
         st .pre .0 .0,
+        st .pre .0 .1,
         f,
         g,
       ),
-      λ T S. resolved-more _ _ _ _ _
-          _ _ T (l5 .inv .2 T S) _ _ _ (l1 .inv .4 .entered .low _ (t5 .taken)) (l1 .inv .4 .entered .distinct _ (t5
-          .taken)) (slot10 .ensures) (resolve-deferred .ensures .0) (resolve-deferred .ensures .1) (comparison-count
-          .ensures _ refl),
+      (λ T S. resolved-more _ _ _ _ _ _ _ _ _ T (l5 .inv .2 T S) _ _ _ (l1 .inv .4 .entered .low _ (t5
+          .taken)) (l1 .inv .4 .entered .distinct _ (t5 .taken)) (slot10 .ensures) (resolve-row .ensures .0)
+          (resolve-row .ensures .1 .0) (resolve-row .ensures .1 .1) (count-row .ensures _ refl)),
+      z ∙ l5 .inv .3,
     )
 
--- src/lib.rt:201:9
+-- src/lib.rt:203:9
 nothing-passes-requires-2 :
     tie.Need-nothing-passes-requires-2
     Inv-loop
@@ -4005,12 +4100,12 @@ nothing-passes-requires-2 :
     μ-loop6
 nothing-passes-requires-2 c κs =
     let st = c .before .before .before .before .before .before .before .before .before .before .before .before
-    .before .before .before in
-    st .pre .0 .1
+    .before .before .before .before .before .before .before .before .before .before in
+    st .pre .0 .2
 
--- src/lib.rt:201:9
-same-length-2 :
-    tie.Need-same-length-2
+-- src/lib.rt:203:9
+same-length-3 :
+    tie.Need-same-length-3
     Inv-loop
     μ-loop
     Inv-loop3
@@ -4023,9 +4118,26 @@ same-length-2 :
     μ-loop5
     Inv-loop6
     μ-loop6
-same-length-2 c = search needs
+same-length-3 c = search needs
 
--- src/lib.rt:201:9
+-- src/lib.rt:203:9
+same-length-4 :
+    tie.Need-same-length-4
+    Inv-loop
+    μ-loop
+    Inv-loop3
+    μ-loop3
+    Inv-loop2
+    μ-loop2
+    Inv-loop4
+    μ-loop4
+    Inv-loop5
+    μ-loop5
+    Inv-loop6
+    μ-loop6
+same-length-4 c = search needs
+
+-- src/lib.rt:203:9
 returns-2 :
     tie.Need-returns-2
     Inv-loop
@@ -4042,7 +4154,8 @@ returns-2 :
     μ-loop6
 returns-2 c =
     let st = c .before .before .before .before .before .before .before .before .before .before .before .before
-    .before .before .before .before .before .before in
+    .before .before .before .before .before .before .before .before .before .before .before .before .before
+    in
     let l1 = c .before .before .before .before .before .before .before .before .before .before .before .before
     .before .loop in
     let t1 = c .before .before .before .before .before .before .before .before .before .before .before .before
@@ -4056,18 +4169,35 @@ returns-2 c =
     let if3 = c .before .before .before .before .if3 in
     let nothing-passes2 = c .before .before .nothing-passes2 in
     answered-as (st .args .t .now) _ (st .args .trees .now) _ _ _ _ _ (ended _ _ _ _ _ (l1 .inv .0) (l1 .inv .4
-    .stops) (t1 .left) ∙ conclude-dead _ _ _ _ _ _ _ _ _ _ _ _ _ _ _ _ _ _ (l1 .inv .4) _ _ _ (l2 .inv .1) (l2
-    .inv .0) (t2 .left) _ _ (omega (arith, l4 .inv .0, t4 .left)) (l4 .inv .2) _ _ _ (omega (
+    .stops) (t1 .left) ∙ conclude-dead _ _ _ _ _ _ _ _ _ _ _ _ _ _ _ _ _ _ _ _ _ (l1 .inv .4) _ _ _ (l2 .inv .1)
+    (l2 .inv .0) (t2 .left) _ _ (omega (arith, l4 .inv .0, t4 .left)) (l4 .inv .2) _ _ _ (omega (
       arith,
-      l5 .inv .0,
+      l5 .inv
+          .0,
       t5 .left,
     )) (l5 .inv .2) (if3 .taken)) (
       nothing-passes2 .ensures .0 (st .args .trees .now),
-      nothing-passes2
-          .ensures .1 (st .args .t .now),
+      nothing-passes2 .ensures .1 (st .args .t .now),
     )
 
--- src/lib.rt:204:9
+-- src/lib.rt:206:9
+same-length-5 :
+    tie.Need-same-length-5
+    Inv-loop
+    μ-loop
+    Inv-loop3
+    μ-loop3
+    Inv-loop2
+    μ-loop2
+    Inv-loop4
+    μ-loop4
+    Inv-loop5
+    μ-loop5
+    Inv-loop6
+    μ-loop6
+same-length-5 c = search needs
+
+-- src/lib.rt:206:9
 returns-3 :
     tie.Need-returns-3
     Inv-loop
@@ -4084,7 +4214,7 @@ returns-3 :
     μ-loop6
 returns-3 c =
     let st = c .before .before .before .before .before .before .before .before .before .before .before .before
-    .before .before .before in
+    .before .before .before .before .before .before .before .before .before .before in
     let l1 = c .before .before .before .before .before .before .before .before .before .before .loop in
     let t1 = c .before .before .before .before .before .before .before .before .before .loop-test in
     let l2 = c .before .before .before .before .before .before .before .loop2 in
@@ -4096,14 +4226,15 @@ returns-3 c =
     let if3 = c .before .if3 in
     let if4 = c .if4 in
     answered-as (st .args .t .now) _ (st .args .trees .now) _ _ _ _ _ (ended _ _ _ _ _ (l1 .inv .0) (l1 .inv .4
-    .stops) (t1 .left) ∙ conclude-same _ _ _ _ _ _ _ _ _ _ _ _ _ _ _ _ _ _ (l1 .inv .4) _ _ _ (l2 .inv .1) (l2
-    .inv .0) (t2 .left) _ _ (omega (arith, l4 .inv .0, t4 .left)) (l4 .inv .2) _ _ _ (omega (
+    .stops) (t1 .left) ∙ conclude-same _ _ _ _ _ _ _ _ _ _ _ _ _ _ _ _ _ _ _ _ _ (l1 .inv .4) _ _ _ (l2 .inv .1)
+    (l2 .inv .0) (t2 .left) _ _ (omega (arith, l4 .inv .0, t4 .left)) (l4 .inv .2) _ _ _ (omega (
       arith,
-      l5 .inv .0,
+      l5 .inv
+          .0,
       t5 .left,
     )) (l5 .inv .2) (if3 .left) (if4 .taken)) (refl, refl)
 
--- src/lib.rt:206:50
+-- src/lib.rt:208:50
 slice-aggregate-rebuilt-answer :
     tie.Need-slice-aggregate-rebuilt-answer
     Inv-loop
@@ -4128,7 +4259,7 @@ slice-aggregate-rebuilt-answer c =
           .keeping .size,
     )
 
--- src/lib.rt:206:9
+-- src/lib.rt:208:9
 rebuilt-answer-requires :
     tie.Need-rebuilt-answer-requires
     Inv-loop
@@ -4145,7 +4276,7 @@ rebuilt-answer-requires :
     μ-loop6
 rebuilt-answer-requires c κs =
     let st = c .before .before .before .before .before .before .before .before .before .before .before .before
-    .before .before .before .before in
+    .before .before .before .before .before .before .before .before .before .before .before in
     let l1 = c .before .before .before .before .before .before .before .before .before .before .before .loop in
     let l2 = c .before .before .before .before .before .before .before .before .loop2 in
     let l4 = c .before .before .before .before .before .before .loop4 in
@@ -4164,6 +4295,7 @@ rebuilt-answer-requires c κs =
         l1 .inv .2,
         st
             .pre .0 .0,
+        st .pre .0 .1,
       ),
       omega (
         arith,
@@ -4172,26 +4304,29 @@ rebuilt-answer-requires c κs =
         l5 .inv .0,
         l5 .inv .1,
         l1 .inv .0,
-        l1 .inv .1,
-        l1 .inv
-            .2,
+        l1
+            .inv .1,
+        l1 .inv .2,
         st .pre .0 .0,
+        st .pre .0 .1,
       ),
-      st .pre .0 .1,
+      st .pre .0 .2,
       omega (
         arith,
         l4 .inv .0,
         l4 .inv .1,
-        l5 .inv .0,
+        l5
+            .inv .0,
         l5 .inv .1,
         l1 .inv .0,
         l1 .inv .1,
         l1 .inv .2,
         st .pre .0 .0,
+        st .pre .0 .1,
       ),
     )
 
--- src/lib.rt:207:9
+-- src/lib.rt:209:9
 is-rewritten-requires :
     tie.Need-is-rewritten-requires
     Inv-loop
@@ -4208,7 +4343,24 @@ is-rewritten-requires :
     μ-loop6
 is-rewritten-requires c κs = search needs
 
--- src/lib.rt:208:9
+-- src/lib.rt:210:9
+same-length-6 :
+    tie.Need-same-length-6
+    Inv-loop
+    μ-loop
+    Inv-loop3
+    μ-loop3
+    Inv-loop2
+    μ-loop2
+    Inv-loop4
+    μ-loop4
+    Inv-loop5
+    μ-loop5
+    Inv-loop6
+    μ-loop6
+same-length-6 c = search needs
+
+-- src/lib.rt:210:9
 returns-4 :
     tie.Need-returns-4
     Inv-loop
@@ -4225,7 +4377,8 @@ returns-4 :
     μ-loop6
 returns-4 c =
     let st = c .before .before .before .before .before .before .before .before .before .before .before .before
-    .before .before .before .before .before .before .before in
+    .before .before .before .before .before .before .before .before .before .before .before .before .before
+    .before in
     let l1 = c .before .before .before .before .before .before .before .before .before .before .before .before
     .before .before .loop in
     let t1 = c .before .before .before .before .before .before .before .before .before .before .before .before
@@ -4242,25 +4395,25 @@ returns-4 c =
     let is-rewritten = c .before .is-rewritten in
     let if5 = c .if5 in
     answered-as (st .args .t .now) _ (st .args .trees .now) _ _ _ _ _ (ended _ _ _ _ _ (l1 .inv .0) (l1 .inv .4
-    .stops) (t1 .left) ∙ conclude-rebuilt _ _ _ _ _ _ _ _ _ _ _ _ _ _ _ _ _ _ (l1 .inv .4) _ _ _ (l2 .inv .1)
-    (l2 .inv .0) (t2 .left) _ _ (omega (arith, l4 .inv .0, t4 .left)) (l4 .inv .2) _ _ _ (omega (
+    .stops) (t1 .left) ∙ conclude-rebuilt _ _ _ _ _ _ _ _ _ _ _ _ _ _ _ _ _ _ _ _ _ (l1 .inv .4) _ _ _ (l2 .inv
+    .1) (l2 .inv .0) (t2 .left) _ _ (omega (arith, l4 .inv .0, t4 .left)) (l4 .inv .2) _ _ _ (omega (
       arith,
-      l5 .inv
-          .0,
-      t5 .left,
-    )) (l5 .inv .2) (if3 .left) (if4 .left)) (chain-refused (st .args .t .now) (st .args .rs .now)
-    (st .args .trees .now) (st .args .used) (l4 .kept) (l4 .keeps) (l5 .total) (comparisons payload (firstOf (l1
-    .order) (l1 .columns)) (shown (conjuncts (st .args .kinds .now) (st .args .values .now) (st .args .starts
-    .now) (st .args .counts .now) (st .args .p .now)) (l5 .table))) _ (rebuilt-answer .ensures) (total-is _ _ _
-    _ _ _ _ _ _ _ _ _ _ _ _ _ _ _ (l1 .inv .4) _ _ _ (l2 .inv .1) (l2 .inv .0) (t2 .left) _ _ (omega (
-      arith,
-      l4
+      l5
           .inv .0,
-      t4 .left,
-    )) (l4 .inv .2) _ _ _ (omega (arith, l5 .inv .0, t5 .left)) (l5 .inv .2)) _ (is-rewritten
-    .ensures) (if5 .taken))
+      t5 .left,
+    )) (l5 .inv .2) (if3 .left) (if4 .left)) (chain-refused (st .args .t .now) (st .args .rs
+    .now) (st .args .trees .now) (st .args .used) (l4 .kept) (l4 .keeps) (l5 .total) (comparisons payload
+    (firstOf (l1 .order) (l1 .columns)) (shown (conjuncts (st .args .kinds .now) (st .args .values .now) (st
+    .args .starts .now) (st .args .counts .now) (st .args .p .now)) (l5 .table) (l5 .marks))) _ (rebuilt-answer
+    .ensures) (total-is _ _ _ _ _ _ _ _ _ _ _ _ _ _ _ _ _ _ _ _ _ (l1 .inv .4) _ _ _ (l2 .inv .1) (l2 .inv .0)
+    (t2 .left) _ _ (omega (arith, l4 .inv .0, t4 .left)) (l4 .inv .2) _ _ _ (omega (
+      arith,
+      l5 .inv .0,
+      t5
+          .left,
+    )) (l5 .inv .2)) _ (is-rewritten .ensures) (if5 .taken))
 
--- src/lib.rt:212:5
+-- src/lib.rt:214:5
 loop6-holds :
     tie.Need-loop6-holds
     Inv-loop
@@ -4278,9 +4431,9 @@ loop6-holds :
 loop6-holds c =
     (omega arith, written-none _ _ _ _ _)
 
--- src/lib.rt:213:24
-mul-t270 :
-    tie.Need-mul-t270
+-- src/lib.rt:215:24
+mul-t240 :
+    tie.Need-mul-t240
     Inv-loop
     μ-loop
     Inv-loop3
@@ -4293,18 +4446,19 @@ mul-t270 :
     μ-loop5
     Inv-loop6
     μ-loop6
-mul-t270 c =
+mul-t240 c =
     let st = c .before .before .before .before .before .before .before .before .before .before .before .before
-    .before .before .before .before .before .before .before .before .before in
+    .before .before .before .before .before .before .before .before .before .before .before .before .before
+    .before .before .before in
     let l1 = c .before .before .before .before .before .before .before .before .before .before .before .before
     .before .before .before .before .loop in
     let l6 = c .before .loop6 in
     let t6 = c .loop6-test in
-    omega (arith, t6 .taken, l6 .inv .0, l1 .inv .0, l1 .inv .1, st .pre .0 .0)
+    omega (arith, t6 .taken, l6 .inv .0, l1 .inv .0, l1 .inv .1, st .pre .0 .0, st .pre .0 .1)
 
--- src/lib.rt:213:24
-array-read-t273 :
-    tie.Need-array-read-t273
+-- src/lib.rt:215:24
+array-read-t243 :
+    tie.Need-array-read-t243
     Inv-loop
     μ-loop
     Inv-loop3
@@ -4317,16 +4471,17 @@ array-read-t273 :
     μ-loop5
     Inv-loop6
     μ-loop6
-array-read-t273 c =
+array-read-t243 c =
     let st = c .before .before .before .before .before .before .before .before .before .before .before .before
-    .before .before .before .before .before .before .before .before .before in
+    .before .before .before .before .before .before .before .before .before .before .before .before .before
+    .before .before .before in
     let l1 = c .before .before .before .before .before .before .before .before .before .before .before .before
     .before .before .before .before .loop in
     let l6 = c .before .loop6 in
     let t6 = c .loop6-test in
-    omega (arith, t6 .taken, l6 .inv .0, l1 .inv .0, l1 .inv .1, st .pre .0 .0)
+    omega (arith, t6 .taken, l6 .inv .0, l1 .inv .0, l1 .inv .1, st .pre .0 .0, st .pre .0 .1)
 
--- src/lib.rt:214:13
+-- src/lib.rt:216:13
 slot-requires-11 :
     tie.Need-slot-requires-11
     Inv-loop
@@ -4343,9 +4498,9 @@ slot-requires-11 :
     μ-loop6
 slot-requires-11 c κs = search needs
 
--- src/lib.rt:215:54
-mul-write-column :
-    tie.Need-mul-write-column
+-- src/lib.rt:217:61
+mul-write-row :
+    tie.Need-mul-write-row
     Inv-loop
     μ-loop
     Inv-loop3
@@ -4358,11 +4513,11 @@ mul-write-column :
     μ-loop5
     Inv-loop6
     μ-loop6
-mul-write-column c = search needs
+mul-write-row c = search needs
 
--- src/lib.rt:215:54
-array-copy-out-write-column :
-    tie.Need-array-copy-out-write-column
+-- src/lib.rt:217:61
+array-copy-out-write-row :
+    tie.Need-array-copy-out-write-row
     Inv-loop
     μ-loop
     Inv-loop3
@@ -4375,11 +4530,11 @@ array-copy-out-write-column :
     μ-loop5
     Inv-loop6
     μ-loop6
-array-copy-out-write-column c = search needs
+array-copy-out-write-row c = search needs
 
--- src/lib.rt:215:9
-write-column-requires :
-    tie.Need-write-column-requires
+-- src/lib.rt:217:9
+write-row-requires :
+    tie.Need-write-row-requires
     Inv-loop
     μ-loop
     Inv-loop3
@@ -4392,55 +4547,61 @@ write-column-requires :
     μ-loop5
     Inv-loop6
     μ-loop6
-write-column-requires c κs =
+write-row-requires c κs =
     let st = c .before .before .before .before .before .before .before .before .before .before .before .before
     .before .before .before .before .before .before .before .before .before .before .before .before .before
-    .before in
+    .before .before .before .before .before .before .before in
     let l1 = c .before .before .before .before .before .before .before .before .before .before .before .before
-    .before .before .before .before .before .before .before .before .before .loop in
+    .before .before .before .before .before .before .before .before .loop in
     let l2 = c .before .before .before .before .before .before .before .before .before .before .before .before
-    .before .before .before .before .before .before .loop2 in
+    .before .before .before .before .before .loop2 in
     let t2 = c .before .before .before .before .before .before .before .before .before .before .before .before
-    .before .before .before .before .before .loop2-test in
+    .before .before .before .before .loop2-test in
     let l4 = c .before .before .before .before .before .before .before .before .before .before .before .before
-    .before .before .before .before .loop4 in
+    .before .before .before .loop4 in
     let t4 = c .before .before .before .before .before .before .before .before .before .before .before .before
-    .before .before .before .loop4-test in
+    .before .before .loop4-test in
     let l5 = c .before .before .before .before .before .before .before .before .before .before .before .before
-    .before .before .loop5 in
+    .before .loop5 in
     let t5 = c .before .before .before .before .before .before .before .before .before .before .before .before
-    .before .loop5-test in
-    let rebuilt-answer = c .before .before .before .before .before .before .before .before .before
-    .rebuilt-answer in
-    let is-rewritten = c .before .before .before .before .before .before .before .before .is-rewritten in
-    let if5 = c .before .before .before .before .before .before .before .if5 in
-    let l6 = c .before .before .before .before .before .before .loop6 in
-    let t6 = c .before .before .before .before .before .loop6-test in
-    let slot11 = c .before .before .before .before .slot11 in
+    .loop5-test in
+    let rebuilt-answer = c .before .before .before .before .before .before .before .before .rebuilt-answer in
+    let is-rewritten = c .before .before .before .before .before .before .before .is-rewritten in
+    let if5 = c .before .before .before .before .before .before .if5 in
+    let l6 = c .before .before .before .before .before .loop6 in
+    let t6 = c .before .before .before .before .loop6-test in
+    let slot11 = c .before .before .before .slot11 in
     let r = column-asked (st .args .t .now) (st .args .used) (l1 .order) (l6 .w) (l1 .columns) (conjuncts (st
     .args .kinds .now) (st .args .values .now) (st .args .starts .now) (st .args .counts .now) (st .args .p
-    .now)) (l5 .table) (st .args .rs .now) (l6 .rs) (l6 .u) (l5 .total) (l4 .keeps) _ (t6 .taken) (l1 .inv
-    .4 .entered .low _ (t6 .taken)) (slot11 .ensures) (l6 .inv .1) (total-is _ _ _ _ _ _ _ _ _ _ _ _ _ _ _ _
-    _ _ (l1 .inv .4) _ _ _ (l2 .inv .1) (l2 .inv .0) (t2 .left) _ _ (omega (arith, l4 .inv .0, t4 .left))
-    (l4 .inv .2) _ _ _ (omega (arith, l5 .inv .0, t5 .left)) (l5 .inv .2)) (chain-room (st .args .t .now)
-    (st .args .rs .now) (st .args .trees .now) (st .args .used) (l4 .kept) (l4 .keeps) (l5 .total)
-    (comparisons payload (firstOf (l1 .order) (l1 .columns)) (shown (conjuncts (st .args .kinds .now) (st
-    .args .values .now) (st .args .starts .now) (st .args .counts .now) (st .args .p .now)) (l5 .table))) _
-    (rebuilt-answer .ensures) (total-is _ _ _ _ _ _ _ _ _ _ _ _ _ _ _ _ _ _ (l1 .inv .4) _ _ _ (l2 .inv .1)
-    (l2 .inv .0) (t2 .left) _ _ (omega (arith, l4 .inv .0, t4 .left)) (l4 .inv .2) _ _ _ (omega (
+    .now)) (l5 .table) (l5 .marks) (st .args .rs .now) (l6 .rs) (l6 .u) (l5 .total) (l4 .keeps) _ (t6
+    .taken) (l1 .inv .4 .entered .low _ (t6 .taken)) (slot11 .ensures) (l6 .inv .1) (total-is _ _ _ _ _ _ _
+    _ _ _ _ _ _ _ _ _ _ _ _ _ _ (l1 .inv .4) _ _ _ (l2 .inv .1) (l2 .inv .0) (t2 .left) _ _ (omega (
       arith,
-      l5
-          .inv .0,
-      t5 .left,
-    )) (l5 .inv .2)) _ (is-rewritten .ensures) (if5 .left)) in (
-      resolved-fine _ _ _ _ _ _ _ _ _ _ _ _ _ _ _ _ _ _ (l1 .inv .4) _ _ _ (l2 .inv .1) (l2 .inv .0) (t2 .left) _
-          _ (omega (arith, l4 .inv .0, t4 .left)) (l4 .inv .2) _ _ _ (omega (arith, l5 .inv .0, t5 .left)) (l5 .inv
-          .2) _ (omega (arith, slot11 .ensures)),
-      r .0,
-      r .1,
+      l4 .inv .0,
+      t4 .left,
+    )) (l4 .inv .2) _ _ _ (omega (arith, l5 .inv .0, t5 .left)) (l5 .inv .2))
+    (chain-room (st .args .t .now) (st .args .rs .now) (st .args .trees .now) (st .args .used) (l4 .kept)
+    (l4 .keeps) (l5 .total) (comparisons payload (firstOf (l1 .order) (l1 .columns)) (shown (conjuncts (st
+    .args .kinds .now) (st .args .values .now) (st .args .starts .now) (st .args .counts .now) (st .args .p
+    .now)) (l5 .table) (l5 .marks))) _ (rebuilt-answer .ensures) (total-is _ _ _ _ _ _ _ _ _ _ _ _ _ _ _ _ _
+    _ _ _ _ (l1 .inv .4) _ _ _ (l2 .inv .1) (l2 .inv .0) (t2 .left) _ _ (omega (
+      arith,
+      l4 .inv .0,
+      t4
+          .left,
+    )) (l4 .inv .2) _ _ _ (omega (arith, l5 .inv .0, t5 .left)) (l5 .inv .2)) _ (is-rewritten .ensures)
+    (if5 .left)) in (
+      (
+        omega (arith, slot11 .ensures),
+        omega (arith, l5 .inv .3, l2 .inv .2, l1 .inv .5, st .pre .0 .1),
+        resolved-fine _ _ _ _ _ _ _ _ _ _ _ _ _ _ _ _ _ _ _ _ _ (l1 .inv .4) _ _ _ (l2 .inv .1) (l2 .inv .0) (t2
+            .left) _ _ (omega (arith, l4 .inv .0, t4 .left)) (l4 .inv .2) _ _ _ (omega (arith, l5 .inv .0, t5 .left))
+            (l5 .inv .2) _ (omega (arith, slot11 .ensures)),
+      ),
+      (r .0, r .1),
     )
 
--- src/lib.rt:216:9
+-- src/lib.rt:218:9
 add-w :
     tie.Need-add-w
     Inv-loop
@@ -4458,14 +4619,14 @@ add-w :
 add-w c =
     let st = c .before .before .before .before .before .before .before .before .before .before .before .before
     .before .before .before .before .before .before .before .before .before .before .before .before .before
-    .before .before .before .before in
+    .before .before .before .before .before .before .before .before .before .before in
     let l1 = c .before .before .before .before .before .before .before .before .before .before .before .before
-    .before .before .before .before .before .before .before .before .before .before .before .before .loop in
-    let l6 = c .before .before .before .before .before .before .before .before .before .loop6 in
-    let t6 = c .before .before .before .before .before .before .before .before .loop6-test in
-    omega (arith, t6 .taken, l6 .inv .0, l1 .inv .0, l1 .inv .1, st .pre .0 .0)
+    .before .before .before .before .before .before .before .before .before .before .before .loop in
+    let l6 = c .before .before .before .before .before .before .before .before .loop6 in
+    let t6 = c .before .before .before .before .before .before .before .loop6-test in
+    omega (arith, t6 .taken, l6 .inv .0, l1 .inv .0, l1 .inv .1, st .pre .0 .0, st .pre .0 .1)
 
--- src/lib.rt:212:5
+-- src/lib.rt:214:5
 loop6-less :
     tie.Need-loop6-less
     Inv-loop
@@ -4483,14 +4644,14 @@ loop6-less :
 loop6-less c =
     let st = c .before .before .before .before .before .before .before .before .before .before .before .before
     .before .before .before .before .before .before .before .before .before .before .before .before .before
-    .before .before .before .before in
+    .before .before .before .before .before .before .before .before .before .before in
     let l1 = c .before .before .before .before .before .before .before .before .before .before .before .before
-    .before .before .before .before .before .before .before .before .before .before .before .before .loop in
-    let l6 = c .before .before .before .before .before .before .before .before .before .loop6 in
-    let t6 = c .before .before .before .before .before .before .before .before .loop6-test in
-    omega (arith, t6 .taken, l6 .inv .0, l1 .inv .0, l1 .inv .1, st .pre .0 .0)
+    .before .before .before .before .before .before .before .before .before .before .before .loop in
+    let l6 = c .before .before .before .before .before .before .before .before .loop6 in
+    let t6 = c .before .before .before .before .before .before .before .loop6-test in
+    omega (arith, t6 .taken, l6 .inv .0, l1 .inv .0, l1 .inv .1, st .pre .0 .0, st .pre .0 .1)
 
--- src/lib.rt:212:5
+-- src/lib.rt:214:5
 loop6-again :
     tie.Need-loop6-again
     Inv-loop
@@ -4508,26 +4669,26 @@ loop6-again :
 loop6-again c =
     let st = c .before .before .before .before .before .before .before .before .before .before .before .before
     .before .before .before .before .before .before .before .before .before .before .before .before .before
-    .before .before .before .before in
+    .before .before .before .before .before .before .before .before .before .before in
     let l1 = c .before .before .before .before .before .before .before .before .before .before .before .before
-    .before .before .before .before .before .before .before .before .before .before .before .before .loop in
+    .before .before .before .before .before .before .before .before .before .before .before .loop in
     let l5 = c .before .before .before .before .before .before .before .before .before .before .before .before
-    .before .before .before .before .before .loop5 in
-    let l6 = c .before .before .before .before .before .before .before .before .before .loop6 in
-    let t6 = c .before .before .before .before .before .before .before .before .loop6-test in
-    let slot11 = c .before .before .before .before .before .before .before .slot11 in
-    let write-column = c .before .before .write-column in (
-      omega (arith, t6 .taken, l6 .inv .0, l1 .inv .0, l1 .inv .1, st .pre .0 .0),
-      written-more _ _ (l1 .order) _
+    .before .before .before .before .loop5 in
+    let l6 = c .before .before .before .before .before .before .before .before .loop6 in
+    let t6 = c .before .before .before .before .before .before .before .loop6-test in
+    let slot11 = c .before .before .before .before .before .before .slot11 in
+    let write-row = c .before .before .write-row in (
+      omega (arith, t6 .taken, l6 .inv .0, l1 .inv .0, l1 .inv .1, st .pre .0 .0, st .pre .0 .1),
+      written-more _
+          _ (l1 .order) _ (conjuncts (st .args .kinds .now) (st .args .values .now) (st .args .starts .now) (st .args
+          .counts .now) (st .args .p .now)) (l5 .table) (l5 .marks) _ _ _ _ _ _ (l6 .inv .1) (l1 .inv .4 .entered .low
+          _ (t6 .taken)) (slot11 .ensures) (write-row .ensures .0 (conjuncts (st .args .kinds .now) (st .args .values
+          .now) (st .args .starts .now) (st .args .counts .now) (st .args .p .now)) refl refl) (write-row .ensures .1
           (conjuncts (st .args .kinds .now) (st .args .values .now) (st .args .starts .now) (st .args .counts .now)
-          (st .args .p .now)) (l5 .table) _ _ _ _ _ _ (l6 .inv .1) (l1 .inv .4 .entered .low _ (t6 .taken)) (slot11
-          .ensures) (write-column .ensures .0 (conjuncts (st .args .kinds .now) (st .args .values .now) (st .args
-          .starts .now) (st .args .counts .now) (st .args .p .now)) refl refl) (write-column .ensures .1 (conjuncts
-          (st .args .kinds .now) (st .args .values .now) (st .args .starts .now) (st .args .counts .now) (st .args .p
-          .now)) refl refl) (search needs),
+          (st .args .p .now)) refl refl) (search needs),
     )
 
--- src/lib.rt:218:20
+-- src/lib.rt:220:20
 slice-aggregate-write-ands :
     tie.Need-slice-aggregate-write-ands
     Inv-loop
@@ -4555,7 +4716,7 @@ slice-aggregate-write-ands c =
           .keeping .size,
     )
 
--- src/lib.rt:218:40
+-- src/lib.rt:220:40
 add-write-ands :
     tie.Need-add-write-ands
     Inv-loop
@@ -4572,7 +4733,8 @@ add-write-ands :
     μ-loop6
 add-write-ands c =
     let st = c .before .before .before .before .before .before .before .before .before .before .before .before
-    .before .before .before .before .before .before .before .before .before .before .before in
+    .before .before .before .before .before .before .before .before .before .before .before .before .before
+    .before .before .before .before .before in
     let l1 = c .before .before .before .before .before .before .before .before .before .before .before .before
     .before .before .before .before .before .before .loop in
     let l4 = c .before .before .before .before .before .before .before .before .before .before .before .before
@@ -4589,9 +4751,10 @@ add-write-ands c =
       l1 .inv .2,
       st .pre .0
           .0,
+      st .pre .0 .1,
     )
 
--- src/lib.rt:218:5
+-- src/lib.rt:220:5
 write-ands-requires :
     tie.Need-write-ands-requires
     Inv-loop
@@ -4608,7 +4771,8 @@ write-ands-requires :
     μ-loop6
 write-ands-requires c κs =
     let st = c .before .before .before .before .before .before .before .before .before .before .before .before
-    .before .before .before .before .before .before .before .before .before .before .before in
+    .before .before .before .before .before .before .before .before .before .before .before .before .before
+    .before .before .before .before .before in
     let l1 = c .before .before .before .before .before .before .before .before .before .before .before .before
     .before .before .before .before .before .before .loop in
     let l2 = c .before .before .before .before .before .before .before .before .before .before .before .before
@@ -4629,21 +4793,25 @@ write-ands-requires c κs =
     let z = l4 .inv .2 _ _ (l1 .rights) (l2 .inv .1 _ (l1 .inv .4 .shows) .shows) (l1 .inv .4 .keeping) .keeping
     .size in
     let r = ands-asked _ _ (l1 .order) (l6 .w) (l1 .columns) (shown (conjuncts (st .args .kinds .now) (st .args
-    .values .now) (st .args .starts .now) (st .args .counts .now) (st .args .p .now)) (l5 .table)) (st .args
-    .rs .now) (l6 .rs) (l6 .u) (l5 .total) (l4 .keeps) (omega (arith, l6 .inv .0, t6 .left)) (l6 .inv .1)
-    (total-is _ _ _ _ _ _ _ _ _ _ _ _ _ _ _ _ _ _ (l1 .inv .4) _ _ _ (l2 .inv .1) (l2 .inv .0) (t2 .left) _
-    _ (omega (arith, l4 .inv .0, t4 .left)) (l4 .inv .2) _ _ _ (omega (arith, l5 .inv .0, t5 .left)) (l5
-    .inv .2)) (chain-room (st .args .t .now) (st .args .rs .now) (st .args .trees .now) (st .args .used) (l4
-    .kept) (l4 .keeps) (l5 .total) (comparisons payload (firstOf (l1 .order) (l1 .columns)) (shown
-    (conjuncts (st .args .kinds .now) (st .args .values .now) (st .args .starts .now) (st .args .counts
-    .now) (st .args .p .now)) (l5 .table))) _ (rebuilt-answer .ensures) (total-is _ _ _ _ _ _ _ _ _ _ _ _ _
-    _ _ _ _ _ (l1 .inv .4) _ _ _ (l2 .inv .1) (l2 .inv .0) (t2 .left) _ _ (omega (
+    .values .now) (st .args .starts .now) (st .args .counts .now) (st .args .p .now)) (l5 .table) (l5
+    .marks)) (st .args .rs .now) (l6 .rs) (l6 .u) (l5 .total) (l4 .keeps) (omega (
       arith,
-      l4 .inv .0,
-      t4
+      l6 .inv .0,
+      t6
           .left,
-    )) (l4 .inv .2) _ _ _ (omega (arith, l5 .inv .0, t5 .left)) (l5 .inv .2)) _ (is-rewritten .ensures)
-    (if5 .left)) in (
+    )) (l6 .inv .1) (total-is _ _ _ _ _ _ _ _ _ _ _ _ _ _ _ _ _ _ _ _ _ (l1 .inv .4) _ _ _ (l2 .inv .1)
+    (l2 .inv .0) (t2 .left) _ _ (omega (arith, l4 .inv .0, t4 .left)) (l4 .inv .2) _ _ _ (omega (
+      arith,
+      l5
+          .inv .0,
+      t5 .left,
+    )) (l5 .inv .2)) (chain-room (st .args .t .now) (st .args .rs .now) (st .args .trees
+    .now) (st .args .used) (l4 .kept) (l4 .keeps) (l5 .total) (comparisons payload (firstOf (l1 .order) (l1
+    .columns)) (shown (conjuncts (st .args .kinds .now) (st .args .values .now) (st .args .starts .now) (st
+    .args .counts .now) (st .args .p .now)) (l5 .table) (l5 .marks))) _ (rebuilt-answer .ensures) (total-is
+    _ _ _ _ _ _ _ _ _ _ _ _ _ _ _ _ _ _ _ _ _ (l1 .inv .4) _ _ _ (l2 .inv .1) (l2 .inv .0) (t2 .left) _ _
+    (omega (arith, l4 .inv .0, t4 .left)) (l4 .inv .2) _ _ _ (omega (arith, l5 .inv .0, t5 .left)) (l5 .inv
+    .2)) _ (is-rewritten .ensures) (if5 .left)) in (
       omega (
         arith,
         z,
@@ -4656,16 +4824,17 @@ write-ands-requires c κs =
         l1 .inv .2,
         st
             .pre .0 .0,
+        st .pre .0 .1,
       ),
-      omega (arith, st .pre .0 .1),
+      omega (arith, st .pre .0 .2),
       omega (arith, r .0),
       omega (arith, r .0),
       r .1,
     )
 
--- src/lib.rt:41:1
-same-length-3 :
-    tie.Need-same-length-3
+-- src/lib.rt:42:1
+same-length-7 :
+    tie.Need-same-length-7
     Inv-loop
     μ-loop
     Inv-loop3
@@ -4678,9 +4847,26 @@ same-length-3 :
     μ-loop5
     Inv-loop6
     μ-loop6
-same-length-3 c = search needs
+same-length-7 c = search needs
 
--- src/lib.rt:41:1
+-- src/lib.rt:42:1
+same-length-8 :
+    tie.Need-same-length-8
+    Inv-loop
+    μ-loop
+    Inv-loop3
+    μ-loop3
+    Inv-loop2
+    μ-loop2
+    Inv-loop4
+    μ-loop4
+    Inv-loop5
+    μ-loop5
+    Inv-loop6
+    μ-loop6
+same-length-8 c = search needs
+
+-- src/lib.rt:42:1
 returns-5 :
     tie.Need-returns-5
     Inv-loop
@@ -4698,7 +4884,7 @@ returns-5 :
 returns-5 c =
     let st = c .before .before .before .before .before .before .before .before .before .before .before .before
     .before .before .before .before .before .before .before .before .before .before .before .before .before
-    .before in
+    .before .before .before .before .before .before .before .before in
     let l1 = c .before .before .before .before .before .before .before .before .before .before .before .before
     .before .before .before .before .before .before .before .before .before .loop in
     let t1 = c .before .before .before .before .before .before .before .before .before .before .before .before
@@ -4726,24 +4912,24 @@ returns-5 c =
     let t6 = c .before .before .before .before .before .loop6-test in
     let write-ands = c .before .before .write-ands in
     answered-as (st .args .t .now) _ (st .args .trees .now) _ _ _ _ _ (ended _ _ _ _ _ (l1 .inv .0) (l1 .inv .4
-    .stops) (t1 .left) ∙ conclude-rebuilt _ _ _ _ _ _ _ _ _ _ _ _ _ _ _ _ _ _ (l1 .inv .4) _ _ _ (l2 .inv .1)
-    (l2 .inv .0) (t2 .left) _ _ (omega (arith, l4 .inv .0, t4 .left)) (l4 .inv .2) _ _ _ (omega (
+    .stops) (t1 .left) ∙ conclude-rebuilt _ _ _ _ _ _ _ _ _ _ _ _ _ _ _ _ _ _ _ _ _ (l1 .inv .4) _ _ _ (l2 .inv
+    .1) (l2 .inv .0) (t2 .left) _ _ (omega (arith, l4 .inv .0, t4 .left)) (l4 .inv .2) _ _ _ (omega (
       arith,
-      l5 .inv
-          .0,
-      t5 .left,
-    )) (l5 .inv .2) (if3 .left) (if4 .left)) (chain-answered (st .args .t .now) (st .args .rs .now)
-    (st .args .trees .now) (st .args .used) (l4 .kept) (l4 .keeps) (l5 .total) (comparisons payload (firstOf (l1
-    .order) (l1 .columns)) (shown (conjuncts (st .args .kinds .now) (st .args .values .now) (st .args .starts
-    .now) (st .args .counts .now) (st .args .p .now)) (l5 .table))) _ (rebuilt-answer .ensures) (total-is _ _ _
-    _ _ _ _ _ _ _ _ _ _ _ _ _ _ _ (l1 .inv .4) _ _ _ (l2 .inv .1) (l2 .inv .0) (t2 .left) _ _ (omega (
-      arith,
-      l4
+      l5
           .inv .0,
-      t4 .left,
-    )) (l4 .inv .2) _ _ _ (omega (arith, l5 .inv .0, t5 .left)) (l5 .inv .2)) _ (is-rewritten
-    .ensures) (if5 .left) _ _ _ (written-all _ _ _ _ _ _ _ _ _ (omega (arith, l6 .inv .0, t6 .left)) (l6 .inv
-    .1)) (write-ands .ensures))
+      t5 .left,
+    )) (l5 .inv .2) (if3 .left) (if4 .left)) (chain-answered (st .args .t .now) (st .args .rs
+    .now) (st .args .trees .now) (st .args .used) (l4 .kept) (l4 .keeps) (l5 .total) (comparisons payload
+    (firstOf (l1 .order) (l1 .columns)) (shown (conjuncts (st .args .kinds .now) (st .args .values .now) (st
+    .args .starts .now) (st .args .counts .now) (st .args .p .now)) (l5 .table) (l5 .marks))) _ (rebuilt-answer
+    .ensures) (total-is _ _ _ _ _ _ _ _ _ _ _ _ _ _ _ _ _ _ _ _ _ (l1 .inv .4) _ _ _ (l2 .inv .1) (l2 .inv .0)
+    (t2 .left) _ _ (omega (arith, l4 .inv .0, t4 .left)) (l4 .inv .2) _ _ _ (omega (
+      arith,
+      l5 .inv .0,
+      t5
+          .left,
+    )) (l5 .inv .2)) _ (is-rewritten .ensures) (if5 .left) _ _ _ (written-all _ _ _ _ _ _ _ _ _ (omega
+    (arith, l6 .inv .0, t6 .left)) (l6 .inv .1)) (write-ands .ensures))
 
 pub merge-filter-constraints-spec : {M : Type 1} → statement M
 merge-filter-constraints-spec =
@@ -4764,7 +4950,7 @@ merge-filter-constraints-spec =
     empty-requires
     loop-holds
     mul-node
-    element-copy-out-node
+    shared-slice-read-node
     cast-j
     classify-requires
     add-i
@@ -4775,9 +4961,9 @@ merge-filter-constraints-spec =
     array-read-bump
     bump-requires
     array-write-seen
-    mul-add-says
-    array-copy-out-add-says
-    add-says-requires
+    mul-add-in-row
+    array-copy-out-add-in-row
+    add-in-row-requires
     mul-table
     array-set-from-table
     add-bounds
@@ -4822,9 +5008,9 @@ merge-filter-constraints-spec =
     array-read-bump-4
     bump-requires-4
     array-write-seen-4
-    mul-add-says-2
-    array-copy-out-add-says-2
-    add-says-requires-2
+    mul-add-in-row-2
+    array-copy-out-add-in-row-2
+    add-in-row-requires-2
     mul-table-4
     array-set-from-table-4
     mul-kept
@@ -4868,26 +5054,27 @@ merge-filter-constraints-spec =
     loop-again-5
     nothing-passes-requires
     same-length
+    same-length-2
     returns
     loop2-holds
     loop3-holds
-    mul-t194
-    array-read-t197
+    mul-t182
+    array-read-t185
     slot-requires-7
-    mul-t194-2
-    array-read-t197-2
+    mul-t182-2
+    array-read-t185-2
     slot-requires-8
     add-e
     loop3-less
     loop3-again
     mul-c
     array-copy-out-c
-    mul-merge-from
-    array-copy-out-merge-from
-    merge-from-requires
+    mul-merge-rows
+    array-copy-out-merge-rows
+    merge-rows-requires
     mul-table-7
     array-set-from-table-7
-    merge-from-requires-2
+    merge-rows-requires-2
     mul-table-8
     array-set-from-table-8
     add-e-2
@@ -4912,39 +5099,43 @@ merge-filter-constraints-spec =
     loop4-less
     loop4-again
     loop5-holds
-    mul-t241
-    array-read-t244
+    mul-t217
+    array-read-t220
     slot-requires-10
-    mul-resolve-deferred
-    array-copy-out-resolve-deferred
-    resolve-deferred-requires
+    mul-resolve-row
+    array-copy-out-resolve-row
+    resolve-row-requires
     mul-table-9
     array-set-from-table-9
-    comparison-count-requires
+    count-row-requires
     add-total
     add-o
     loop5-less
     loop5-again
     nothing-passes-requires-2
-    same-length-2
+    same-length-3
+    same-length-4
     returns-2
+    same-length-5
     returns-3
     slice-aggregate-rebuilt-answer
     rebuilt-answer-requires
     is-rewritten-requires
+    same-length-6
     returns-4
     loop6-holds
-    mul-t270
-    array-read-t273
+    mul-t240
+    array-read-t243
     slot-requires-11
-    mul-write-column
-    array-copy-out-write-column
-    write-column-requires
+    mul-write-row
+    array-copy-out-write-row
+    write-row-requires
     add-w
     loop6-less
     loop6-again
     slice-aggregate-write-ands
     add-write-ands
     write-ands-requires
-    same-length-3
+    same-length-7
+    same-length-8
     returns-5)

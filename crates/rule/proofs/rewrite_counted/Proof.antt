@@ -1,113 +1,137 @@
-use mathlib.Core.Path.{_≡_, sym}
-use Prim.Native.Nat.{_≤_, _<_}
-use native.Mathlib.Omega.{arith}
-use lib.ListN.{length}
-use Rattle.checking.proofs.Accepted.{checked, checked-used, accepted-root}
-use Rattle.merge.specs.Minterms.{minterms}
-use Rattle.rewrite.specs.Walk.{walked}
-use Rattle.stages.proofs.Answers.{rewrite-9}
-use Rattle.rule.proofs.Merged.{rewrite-merged}
-use Rattle.stages.proofs.Screens.{walked-inputs, node-columns}
 use borrow.Author.Needs.{needs}
 use Rattle.rule.proofs.rewrite_counted.Statement.{statement}
 use Rattle.rule.proofs.rewrite_counted.Tie as tie
 use Rattle.rule.proofs.rewrite_counted.Reads as reads
 use Rattle.rule.proofs.rewrite_counted.Lts as lts
-use Rattle.rewrite.proofs.literals.read_literals.Reads as read-literals-reads
-use Rattle.rewrite.proofs.minterms.minterm_count.Reads as minterm-count-reads
 use Rattle.rewrite.proofs.minterms.minterms.Reads as minterms-reads
-use Rattle.filter_constraint.proofs.merge_filter_constraints.Reads as merge-filter-constraints-reads
+use Rattle.rule.proofs.merge_few.Reads as merge-few-reads
+use Rattle.rule.proofs.merge_many.Reads as merge-many-reads
+use mathlib.Core.Path.{_≡_, sym}
+use Prim.Native.Nat.{_≤_, _<_}
+use native.Mathlib.Omega.{arith}
+use lib.ListN.{length}
+use Rattle.checking.proofs.Accepted.{checked}
+use Rattle.merge.specs.Minterms as mt
+use Rattle.rewrite.specs.Walk.{walked}
+use Rattle.stages.proofs.Answers.{rewrite-9}
+use Rattle.stages.proofs.Screens.{walked-inputs}
 
--- src/rewriting.rt:36:14
-minterm-count-requires : tie.Need-minterm-count-requires
-minterm-count-requires c κs =
-    let st = c .before .before .before .before in
-    accepted-root (st .args .t .now) (st .args .rs .now) (st .args .p .now) (st .args .used) (st .args .root .0)
-    (st .pre .0)
+-- src/lib.rt:122:32
+slice-aggregate-minterms : tie.Need-slice-aggregate-minterms
+slice-aggregate-minterms c = search needs
 
--- src/rewriting.rt:37:9
+-- src/lib.rt:122:9
+minterms-requires : tie.Need-minterms-requires
+minterms-requires c κs =
+    let st = c .before .before .before .before .before .before in
+    let ok = checked (st .args .t .now) (st .args .rs .now) (st .args .p .now) (st .args .used) (st .args .root
+    .0) (st .pre .0) in (
+      walked-inputs (st .args .t .now) (st .args .rs .now) (st .args .p .now) (st .args .used) (st .args .root
+          .0) ok,
+      search needs,
+    )
+
+-- src/lib.rt:124:9
 same-length : tie.Need-same-length
 same-length c = search needs
 
--- src/rewriting.rt:37:9
+-- src/lib.rt:124:9
 returns : tie.Need-returns
 returns c =
-    let st = c .before .before .before .before .before .before in
-    let k : 128 < length (minterms (walked (st .args .rs .now)) (st .args .root .0)) =
-    omega (arith, c .before .minterm-count .ensures, c .if1 .taken) in
-    let h = rewrite-9 (st .args .t .now) (st .args .rs .now) (st .args .p .now) (st .args .used) (st .args .root .0)
-    (st .pre .0) (st .pre .1 .1) k in
+    let st = c .before .before .before .before .before .before .before .before .before in
+    let minterms = c .before .before .minterms in
+    let if1 = c .if1 in
+    let k : 128 < length (mt.minterms (walked (st .args .rs .now)) (st .args .root .0)) = omega (
+      arith,
+      minterms
+          .ensures .0,
+      if1 .taken,
+    ) in
+    let h = rewrite-9 (st .args .t .now) (st .args .rs .now) (st .args .p .now) (st .args .used) (st .args .root
+    .0) (st .pre .0) (st .pre .1 .1) k in
     (sym (h .0), sym (h .1))
 
--- src/rewriting.rt:39:9
-minterms-requires : tie.Need-minterms-requires
-minterms-requires c κs =
-    let st = c .before .before .before .before .before .before .before in
-    let ok = checked (st .args .t .now) (st .args .rs .now) (st .args .p .now) (st .args .used) (st .args .root .0)
-    (st .pre .0) in (
-      walked-inputs (st .args .t .now) (st .args .rs .now) (st .args .p .now) (st .args .used) (st .args .root .0) ok,
-      omega (arith, c .before .before .minterm-count .ensures, c .before .if1 .left),
-    )
+-- src/lib.rt:127:55
+slice-aggregate-merge-few : tie.Need-slice-aggregate-merge-few
+slice-aggregate-merge-few c = search needs
 
--- src/rewriting.rt:41:38
-slice-aggregate-read-literals : tie.Need-slice-aggregate-read-literals
-slice-aggregate-read-literals c = search needs
+-- src/lib.rt:127:9
+merge-few-requires : tie.Need-merge-few-requires
+merge-few-requires c κs =
+    let st = c .before .before .before .before .before .before .before .before .before .before .before .before
+    in
+    let minterms = c .before .before .before .before .before .minterms in
+    let if1 = c .before .before .before .if1 in
+    let if2 = c .before .before .if2 in
+    let few : length (mt.minterms (walked (st .args .rs .now)) (st .args .root .0)) ≤ 128 = omega (
+      arith,
+      minterms .ensures .0,
+      if1 .left,
+    ) in
+    (st .pre .0, (st .pre .1 .0, (st .pre .1 .1, (minterms .ensures .1 few, (if2 .taken, search needs)))))
 
--- src/rewriting.rt:41:9
-read-literals-requires : tie.Need-read-literals-requires
-read-literals-requires c κs =
-    let chain = c .before .before .before .minterms in
-    let few : chain .result .len ≤ 128 = chain .ensures .1 in
-    let long : 128 ≡ length (chain .result .nodes) = slice-aggregate-read-literals c in
-    (few, omega (arith, few, long))
-
--- src/rewriting.rt:46:5
-merge-filter-constraints-requires : tie.Need-merge-filter-constraints-requires
-merge-filter-constraints-requires c κs =
-    let read = c .before .before .before .before .before .before .before .before .before .before in
-    let walk = read .before .before .before .before in
-    let st = walk .before .before .before .before .before .before .before .before in
-    let chain = walk .minterms in
-    let ok = checked (st .args .t .now) (st .args .rs .now) (st .args .p .now) (st .args .used) (st .args .root .0)
-    (st .pre .0) in (
-      (
-        chain .ensures .1,
-        checked-used (st .args .t .now) (st .args .rs .now) (st .args .p .now) (st .args .used) (st .args .root .0) ok,
-      ),
-      (
-        (λ i h. read .read-literals .ensures (st .args .p .now) i h),
-        node-columns (st .args .t .now) (st .args .rs .now) (st .args .p .now) (st .args .used) (st .args .root .0) ok
-            (chain .result .nodes) (chain .result .len) (chain .ensures .0),
-      ),
-    )
-
--- src/rewriting.rt:21:1
+-- src/lib.rt:127:9
 same-length-2 : tie.Need-same-length-2
 same-length-2 c = search needs
 
--- src/rewriting.rt:21:1
+-- src/lib.rt:127:9
 returns-2 : tie.Need-returns-2
-returns-2 c =
-    let call = c .before .before in
-    let read = call .before .before .before .before .before .before .before .before .before .before .before in
-    let walk = read .before .before .before .before in
-    let st = walk .before .before .before .before .before .before .before .before in
-    let chain = walk .minterms in
-    let merged = call .merge-filter-constraints in
-    rewrite-merged (st .args .t .now) (st .args .rs .now) (st .args .p .now) (st .args .used) (st .args .root .0)
-    (st .pre .0) (st .args .trees .now) (st .pre .1 .0) (st .pre .1 .1) (chain .result .nodes) (chain .result .len)
-    (chain .ensures .0) (chain .ensures .1) (merged .result) _ (merged .ensures .0) (merged .ensures .1)
+returns-2 c = search needs
+
+-- src/lib.rt:129:45
+slice-aggregate-merge-many : tie.Need-slice-aggregate-merge-many
+slice-aggregate-merge-many c = search needs
+
+-- src/lib.rt:129:5
+merge-many-requires : tie.Need-merge-many-requires
+merge-many-requires c κs =
+    let st = c .before .before .before .before .before .before .before .before .before .before .before .before
+    in
+    let minterms = c .before .before .before .before .before .minterms in
+    let if1 = c .before .before .before .if1 in
+    let few : length (mt.minterms (walked (st .args .rs .now)) (st .args .root .0)) ≤ 128 = omega (
+      arith,
+      minterms .ensures .0,
+      if1 .left,
+    ) in (
+      st .pre .0,
+      (
+        st .pre .1 .0,
+        (
+          st .pre .1 .1,
+          (
+            minterms .ensures .1 few,
+            (
+              omega (arith, if1 .left),
+              search
+                  needs,
+            ),
+          ),
+        ),
+      ),
+    )
+
+-- src/lib.rt:106:1
+same-length-3 : tie.Need-same-length-3
+same-length-3 c = search needs
+
+-- src/lib.rt:106:1
+returns-3 : tie.Need-returns-3
+returns-3 c = search needs
 
 pub rewrite-counted-spec : {M : Type 1} → statement M
 rewrite-counted-spec =
     tie.close
     (tie.spec
-    minterm-count-requires
+    slice-aggregate-minterms
+    minterms-requires
     same-length
     returns
-    minterms-requires
-    slice-aggregate-read-literals
-    read-literals-requires
-    merge-filter-constraints-requires
+    slice-aggregate-merge-few
+    merge-few-requires
     same-length-2
-    returns-2)
+    returns-2
+    slice-aggregate-merge-many
+    merge-many-requires
+    same-length-3
+    returns-3)

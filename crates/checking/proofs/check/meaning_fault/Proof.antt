@@ -38,7 +38,7 @@ types-ok-requires c κs = search needs
 returns-3 : tie.Need-returns-3
 unfolding meaningFault
 returns-3 c =
-    let st = c .before .before .before .before .before .before .before .before .before in
+    let st = c .before .before .before .before .before .before .before .before .before .before in
     let reached =
     flag-yes {x = reachOk (st .args .t .now) (st .args .p .now) (st .args .r) (st .args .n)}
     (c .before .before .before .before .before .reach-ok .ensures) (c .before .before .before .before .if1 .left) in
@@ -53,7 +53,7 @@ returns-3 c =
 returns-4 : tie.Need-returns-4
 unfolding meaningFault
 returns-4 c =
-    let st = c .before .before .before .before .before .before .before .before .before in
+    let st = c .before .before .before .before .before .before .before .before .before .before in
     let reached =
     flag-yes {x = reachOk (st .args .t .now) (st .args .p .now) (st .args .r) (st .args .n)}
     (c .before .before .before .before .before .reach-ok .ensures) (c .before .before .before .before .if1 .left) in

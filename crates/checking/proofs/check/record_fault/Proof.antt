@@ -16,7 +16,7 @@ shape-ok-requires c κs = search needs
 returns : tie.Need-returns
 unfolding recordFault
 returns c =
-    let st = c .before .before .before .before .before in
+    let st = c .before .before .before .before .before .before in
     rw (← st .pre .1 .1 .0, flag-no (c .before .shape-ok .ensures) (c .if1 .taken))
 
 -- src/check.rt:80:5
@@ -27,7 +27,7 @@ meaning-fault-requires c κs = search needs
 returns-2 : tie.Need-returns-2
 unfolding recordFault
 returns-2 c =
-    let st = c .before .before .before .before .before .before in
+    let st = c .before .before .before .before .before .before .before in
     rw (
       c .meaning-fault .ensures,
       ← st .pre .1 .1 .0,

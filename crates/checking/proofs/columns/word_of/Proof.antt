@@ -14,8 +14,8 @@ mul-result : tie.Need-mul-result
 mul-result c = search needs
 
 -- src/columns.rt:55:16
-element-copy-out-result : tie.Need-element-copy-out-result
-element-copy-out-result c = search needs
+shared-slice-read-result : tie.Need-shared-slice-read-result
+shared-slice-read-result c = search needs
 
 -- src/columns.rt:55:9
 returns : tie.Need-returns
@@ -26,4 +26,4 @@ returns-2 : tie.Need-returns-2
 returns-2 c = search flags
 
 pub word-of-spec : {M : Type 1} → statement M
-word-of-spec = tie.close (tie.spec cast-at mul-result element-copy-out-result returns returns-2)
+word-of-spec = tie.close (tie.spec cast-at mul-result shared-slice-read-result returns returns-2)

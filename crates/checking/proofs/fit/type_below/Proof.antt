@@ -10,8 +10,8 @@ cast-at : tie.Need-cast-at
 cast-at c = search needs
 
 -- src/columns.rt:55:16
-element-copy-out-result : tie.Need-element-copy-out-result
-element-copy-out-result c = search needs
+shared-slice-read-result : tie.Need-shared-slice-read-result
+shared-slice-read-result c = search needs
 
 -- src/columns.rt:55:9
 returns : tie.Need-returns
@@ -22,4 +22,4 @@ returns-2 : tie.Need-returns-2
 returns-2 c = search flags
 
 pub type-below-spec : {M : Type 1} → statement M
-type-below-spec = tie.close (tie.spec cast-at element-copy-out-result returns returns-2)
+type-below-spec = tie.close (tie.spec cast-at shared-slice-read-result returns returns-2)

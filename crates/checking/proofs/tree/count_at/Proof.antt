@@ -15,8 +15,8 @@ mul-wide : tie.Need-mul-wide
 mul-wide c = search needs
 
 -- src/tree.rt:29:21
-element-copy-out-wide : tie.Need-element-copy-out-wide
-element-copy-out-wide c = search needs
+shared-slice-read-wide : tie.Need-shared-slice-read-wide
+shared-slice-read-wide c = search needs
 
 -- src/tree.rt:29:9
 wide-requires : tie.Need-wide-requires
@@ -32,4 +32,4 @@ returns-2 c = (search flags, search needs)
 
 pub count-at-spec : {M : Type 1} → statement M
 count-at-spec =
-    tie.close (tie.spec cast-at mul-wide element-copy-out-wide wide-requires returns returns-2)
+    tie.close (tie.spec cast-at mul-wide shared-slice-read-wide wide-requires returns returns-2)

@@ -5,17 +5,12 @@ use Rattle.checking.proofs.tree.tree_step.Statement.{statement}
 use Rattle.checking.proofs.tree.tree_step.Tie as tie
 use Rattle.checking.proofs.tree.tree_step.Reads as reads
 use Rattle.checking.proofs.tree.tree_step.Lts as lts
-use Rattle.records.proofs.record.inputs_of.Reads as inputs-of-reads
-use Rattle.records.proofs.record.record_at.Reads as record-at-reads
+use Rattle.records.proofs.record.inputs_at.Reads as inputs-at-reads
 use Rattle.checking.proofs.tree.count_inputs.Reads as count-inputs-reads
 
--- src/tree.rt:52:51
-record-at-requires : tie.Need-record-at-requires
-record-at-requires c κs = search needs
-
 -- src/tree.rt:52:41
-inputs-of-requires : tie.Need-inputs-of-requires
-inputs-of-requires c κs = search needs
+inputs-at-requires : tie.Need-inputs-at-requires
+inputs-at-requires c κs = search needs
 
 -- src/tree.rt:52:17
 count-inputs-requires : tie.Need-count-inputs-requires
@@ -32,21 +27,18 @@ cast-result c = search needs
 -- src/tree.rt:48:1
 returns : tie.Need-returns
 returns c =
-    rw (← c .before .before .before .record-at .ensures, ← c .before .before .inputs-of .ensures, ← c .before .count-inputs .ensures .0)
-    (omega arith)
+    rw (← c .before .before .inputs-at .ensures, ← c .before .count-inputs .ensures .0) (omega arith)
 
 -- src/tree.rt:48:1
 returns-2 : tie.Need-returns-2
 returns-2 c =
-    rw (← c .before .before .before .record-at .ensures, ← c .before .before .inputs-of .ensures, ← c .before .count-inputs .ensures .0)
-    (omega arith)
+    rw (← c .before .before .inputs-at .ensures, ← c .before .count-inputs .ensures .0) (omega arith)
 
 pub tree-step-spec : {M : Type 1} → statement M
 tree-step-spec =
     tie.close
     (tie.spec
-    record-at-requires
-    inputs-of-requires
+    inputs-at-requires
     count-inputs-requires
     add-s
     cast-result

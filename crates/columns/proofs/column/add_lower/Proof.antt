@@ -5,7 +5,7 @@ use Rattle.columns.proofs.column.add_lower.Tie as tie
 
 -- src/column.rt:87:9
 returns : tie.Need-returns
-returns c = ((λ t. rw (c .if1 .taken)), (refl, refl))
+returns c = ((λ t a. rw (c .if1 .taken)), refl)
 
 -- src/column.rt:93:9
 tighten-lower-requires : tie.Need-tighten-lower-requires
@@ -18,12 +18,12 @@ crosses-requires c κs = search needs
 -- src/column.rt:82:1
 returns-2 : tie.Need-returns-2
 returns-2 c = (
-  (λ t. rw (
-    c .before .before .before .if1 .left,
+  (λ t a. rw (
+    c .before .before .if1 .left,
     c .crosses .ensures,
     c .before .tighten-lower .ensures,
   )),
-  (refl, refl),
+  refl,
 )
 
 pub add-lower-spec : {M : Type 1} → statement M

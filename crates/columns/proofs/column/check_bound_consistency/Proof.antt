@@ -9,7 +9,7 @@ crosses-requires c κs = search needs
 
 -- src/column.rt:63:1
 returns : tie.Need-returns
-returns c = ((λ t. rw (c .before .crosses .ensures)), (refl, refl))
+returns c = ((λ t a. rw (c .before .crosses .ensures)), refl)
 
 pub check-bound-consistency-spec : {M : Type 1} → statement M
 check-bound-consistency-spec = tie.close (tie.spec crosses-requires returns)

@@ -6,7 +6,7 @@ use Rattle.columns.proofs.column.empty.Tie as tie
 -- src/column.rt:47:1
 returns : tie.Need-returns
 unfolding excludedBy allowedBy disallowedBy gather
-returns c = ((λ t. refl), refl)
+returns c = ((λ t a. refl), refl)
 
 pub empty-spec : {M : Type 1} → statement M
 empty-spec = tie.close (tie.spec returns)

@@ -5,7 +5,7 @@ use Rattle.columns.proofs.column.require_nullability.Tie as tie
 
 -- src/column.rt:156:9
 returns : tie.Need-returns
-returns c = ((λ t. rw (c .if1 .taken)), (refl, refl))
+returns c = ((λ t a. rw (c .if1 .taken)), refl)
 
 -- src/column.rt:168:22
 nullability-kept-requires : tie.Need-nullability-kept-requires
@@ -18,12 +18,12 @@ nullability-clashes-requires c κs = search needs
 -- src/column.rt:151:1
 returns-2 : tie.Need-returns-2
 returns-2 c = (
-  (λ t. rw (
-    c .before .before .before .if1 .left,
+  (λ t a. rw (
+    c .before .before .if1 .left,
     c .nullability-clashes .ensures,
     c .before .nullability-kept .ensures,
   )),
-  (refl, refl),
+  refl,
 )
 
 pub require-nullability-spec : {M : Type 1} → statement M

@@ -1,33 +1,42 @@
-use mathlib.Core.Path.{_∙_}
-use Prim.Native.Nat.{_-_}
-use Rattle.constraints.specs.Column as q
-use Rattle.columns.specs.Abstraction.{columnOf, listOf}
-use Rattle.columns.proofs.Insertions.{live-add, dead-add}
+use borrow.Author.Needs.{needs}
 use Rattle.columns.proofs.marks.add_allowed.Statement.{statement}
 use Rattle.columns.proofs.marks.add_allowed.Tie as tie
+use Rattle.columns.proofs.marks.add_allowed.Reads as reads
+use Rattle.columns.proofs.marks.add_allowed.Lts as lts
+use Rattle.columns.proofs.marks.insert_list.Reads as insert-list-reads
+use mathlib.Core.Path.{_∙_}
+use Rattle.constraints.specs.Column as q
+use Rattle.columns.specs.Abstraction.{columnOf, numbered, listOf}
+use Rattle.columns.proofs.Insertions.{live-add, dead-add}
 
--- src/marks.rt:255:9
+-- src/marks.rt:270:9
 returns : tie.Need-returns
 returns c =
-    let st = c .before in (
-      (λ t k. dead-add (q.Allow (listOf (t .starts) (t .counts) (t .pool) (st .args .j))) (columnOf t (st .args .c))
-          (c .if1 .taken)),
+    let st = c .before .before in
+    let if1 = c .if1 in (
+      (λ t k. dead-add (q.Allow (listOf (t .starts) (t .counts) (t .pool) (st .args .j))) (columnOf t (numbered
+          (st .args .marks .now) (st .args .c))) (if1 .taken)),
       st .pre .0,
     )
 
--- src/marks.rt:257:5
+-- src/marks.rt:272:5
 insert-list-requires : tie.Need-insert-list-requires
-insert-list-requires c κs = c .before .pre
+insert-list-requires c κs = search needs
 
--- src/marks.rt:248:1
+-- src/marks.rt:263:1
+same-length : tie.Need-same-length
+same-length c = search needs
+
+-- src/marks.rt:263:1
 returns-2 : tie.Need-returns-2
 returns-2 c =
-    let st = c .before .before in (
-      (λ t k. c .insert-list .ensures .0 t k ∙
-          live-add (q.Allow (listOf (t .starts) (t .counts) (t .pool) (st .args .j))) (columnOf t (st .args .c))
-          (c .before .if1 .left)),
-      c .insert-list .ensures .1 .1,
+    let st = c .before .before .before .before .before .before in
+    let if1 = c .before .before .before .before .if1 in
+    let insert-list = c .before .before .insert-list in (
+      (λ t k. insert-list .ensures .0 t k ∙ live-add (q.Allow (listOf (t .starts) (t .counts) (t .pool) (st .args
+          .j))) (columnOf t (numbered (st .args .marks .now) (st .args .c))) (if1 .left)),
+      insert-list .ensures .1 .1,
     )
 
 pub add-allowed-spec : {M : Type 1} → statement M
-add-allowed-spec = tie.close (tie.spec returns insert-list-requires returns-2)
+add-allowed-spec = tie.close (tie.spec returns insert-list-requires same-length returns-2)

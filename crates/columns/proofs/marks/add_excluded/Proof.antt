@@ -1,34 +1,44 @@
-use mathlib.Core.Path.{_∙_}
-use Prim.Native.Nat.{_-_}
-use lib.ListN.{getD}
-use Rattle.constraints.specs.Column as q
-use Rattle.columns.specs.Abstraction.{columnOf}
-use Rattle.columns.proofs.Insertions.{live-add, dead-add}
+use borrow.Author.Needs.{needs}
 use Rattle.columns.proofs.marks.add_excluded.Statement.{statement}
 use Rattle.columns.proofs.marks.add_excluded.Tie as tie
+use Rattle.columns.proofs.marks.add_excluded.Reads as reads
+use Rattle.columns.proofs.marks.add_excluded.Lts as lts
+use Rattle.columns.proofs.marks.insert_excluded.Reads as insert-excluded-reads
+use mathlib.Core.Path.{_∙_}
+use lib.ListN.{getD}
+use Rattle.constraints.specs.Column as q
+use Rattle.columns.specs.Abstraction.{columnOf, numbered}
+use Rattle.columns.proofs.Insertions.{live-add, dead-add}
 
--- src/marks.rt:227:9
+-- src/marks.rt:242:9
 returns : tie.Need-returns
 returns c =
-    let st = c .before .before .before in (
-      (λ t e f. dead-add (q.Exclude (getD (st .args .values .now) (st .args .j) 0)) (columnOf t (st .args .c))
-          (c .if1 .taken)),
+    let st = c .before .before .before .before in
+    let if1 = c .if1 in (
+      (λ t e f. dead-add (q.Exclude (getD (st .args .values .now) (st .args .j) 0)) (columnOf t (numbered (st
+          .args .marks .now) (st .args .c))) (if1 .taken)),
       st .pre .0,
     )
 
--- src/marks.rt:229:5
+-- src/marks.rt:244:5
 insert-excluded-requires : tie.Need-insert-excluded-requires
-insert-excluded-requires c κs = c .before .before .before .pre
+insert-excluded-requires c κs = search needs
 
--- src/marks.rt:220:1
+-- src/marks.rt:235:1
+same-length : tie.Need-same-length
+same-length c = search needs
+
+-- src/marks.rt:235:1
 returns-2 : tie.Need-returns-2
 returns-2 c =
-    let st = c .before .before .before .before in (
-      (λ t e f. c .insert-excluded .ensures .0 t e f ∙
-          live-add (q.Exclude (getD (st .args .values .now) (st .args .j) 0)) (columnOf t (st .args .c))
-          (c .before .if1 .left)),
-      c .insert-excluded .ensures .1,
+    let st = c .before .before .before .before .before .before .before .before in
+    let if1 = c .before .before .before .before .if1 in
+    let insert-excluded = c .before .before .insert-excluded in (
+      (λ t e f. insert-excluded .ensures .0 t e f ∙ live-add (q.Exclude (getD (st .args .values .now) (st .args
+          .j) 0)) (columnOf t (numbered (st .args .marks .now) (st .args .c))) (if1 .left)),
+      insert-excluded .ensures
+          .1,
     )
 
 pub add-excluded-spec : {M : Type 1} → statement M
-add-excluded-spec = tie.close (tie.spec returns insert-excluded-requires returns-2)
+add-excluded-spec = tie.close (tie.spec returns insert-excluded-requires same-length returns-2)

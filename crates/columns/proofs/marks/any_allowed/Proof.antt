@@ -1,74 +1,94 @@
+use Rattle.columns.proofs.marks.any_allowed.Statement.{statement}
+use Rattle.columns.proofs.marks.any_allowed.Tie as tie
+use Rattle.columns.proofs.marks.any_allowed.Reads as reads
+use Rattle.columns.proofs.marks.any_allowed.Lts as lts
+use Rattle.columns.proofs.marks.any_feasible.Reads as any-feasible-reads
+use Rattle.records.proofs.bytes.byte.Reads as byte-reads
 use mathlib.Core.Path.{_≡_, sym, _∙_, ap}
 use mathlib.Core.Option.{none}
 use Prim.Native.Nat.{ℕ, _≤_, _-_}
 use native.Mathlib.Omega.{arith}
 use lib.ListN.{getD}
-use Rattle.columns.specs.Abstraction.{conjuncts, allowedBy}
+use Rattle.columns.specs.Abstraction.{conjuncts, numbered, allowedBy}
 use Rattle.columns.proofs.Pigeon.{marked-at}
 use Rattle.columns.proofs.Lists.{feasible-first, skip-allowed, none-allowed}
 use borrow.Author.Needs.{needs}
-use Rattle.columns.proofs.marks.any_allowed.Statement.{statement}
-use Rattle.columns.proofs.marks.any_allowed.Tie as tie
 
 abbrev Inv-loop : tie.InvT-loop
-Inv-loop kinds values starts counts pool c mks n i₀ i = (i ≤ n) × (allowedBy kinds starts counts pool mks i ≡ none)
+Inv-loop kinds values starts counts pool marks c n i₀ i =
+    (i ≤ n) × (allowedBy kinds starts counts pool marks i ≡ none)
 
 abbrev μ-loop : tie.MeasureT-loop
-μ-loop kinds values starts counts pool c mks n i₀ i = n - i
+μ-loop kinds values starts counts pool marks c n i₀ i =
+    n - i
 
+-- src/marks.rt:527:5
 loop-holds : tie.Need-loop-holds Inv-loop μ-loop
-loop-holds c = (search needs, none-allowed _ _ _ _ _)
+loop-holds c =
+    (search needs, none-allowed _ _ _ _ _)
 
-slice-aggregate-byte : tie.Need-slice-aggregate-byte Inv-loop μ-loop
-slice-aggregate-byte c = search needs
-
+-- src/marks.rt:528:13
 byte-requires : tie.Need-byte-requires Inv-loop μ-loop
 byte-requires c κs = search needs
 
+-- src/marks.rt:529:24
 cast-byte : tie.Need-cast-byte Inv-loop μ-loop
 cast-byte c = search needs
 
+-- src/marks.rt:529:12
 byte-requires-2 : tie.Need-byte-requires-2 Inv-loop μ-loop
 byte-requires-2 c κs = search needs
 
+-- src/marks.rt:530:13
 any-feasible-requires : tie.Need-any-feasible-requires Inv-loop μ-loop
 any-feasible-requires c κs = search needs
 
+-- src/marks.rt:530:13
 returns : tie.Need-returns Inv-loop μ-loop
 returns c =
-    let st = c .before .before .before .before .before .before .before .before .before .before .before .before .before
+    let st = c .before .before .before .before .before .before .before .before .before .before .before .before
     in
-    c .any-feasible .ensures ∙ feasible-first
-    (conjuncts (st .args .kinds .now) (st .args .values .now) (st .args .starts .now) (st .args .counts .now)
-    (st .args .pool .now)) (st .args .c) _
-    (marked-at (st .args .c .marks) (c .before .before .before .before .before .before .loop .i)
-    (st .args .c .len) _ (c .before .before .before .before .before .loop-test .taken)
-    (sym (c .before .before .before .byte .ensures))) (sym (c .before .before .byte2 .ensures) ∙
-    c .before .if1 .taken)
+    let loop = c .before .before .before .before .before .loop in
+    let loop-test = c .before .before .before .before .loop-test in
+    let byte = c .before .before .before .byte in
+    let byte2 = c .before .before .byte2 in
+    let any-feasible = c .any-feasible in
+    let if1 = c .before .if1 in
+    any-feasible .ensures ∙ feasible-first (conjuncts (st .args .kinds .now) (st .args .values .now) (st .args
+    .starts .now) (st .args .counts .now) (st .args .pool .now)) (numbered (st .args .marks .now) (st .args .c))
+    _ (marked-at (st .args .marks .now) (loop .i) (st .args .c .len) _ (loop-test .taken) (sym (byte .ensures)))
+    (sym (byte2 .ensures) ∙ if1 .taken)
 
+-- src/marks.rt:532:9
 add-i : tie.Need-add-i Inv-loop μ-loop
 add-i c = search needs
 
+-- src/marks.rt:527:5
 loop-less : tie.Need-loop-less Inv-loop μ-loop
 loop-less c = search needs
 
+-- src/marks.rt:527:5
 loop-again : tie.Need-loop-again Inv-loop μ-loop
 loop-again c =
-    let st = c .before .before .before .before .before .before .before .before .before .before .before .before in (
+    let st = c .before .before .before .before .before .before .before .before .before .before .before in
+    let loop = c .before .before .before .before .loop in
+    let byte = c .before .before .byte in
+    let byte2 = c .before .byte2 in
+    let if1 = c .if1 in (
       search needs,
-      skip-allowed (st .args .kinds .now) (st .args .starts .now) (st .args .counts .now)
-          (st .args .pool .now) (st .args .c .marks) (c .before .before .before .before .before .loop .i)
-          (c .before .before .before .before .before .loop .inv .1)
-          (λ e. c .if1 .left (c .before .byte2 .ensures ∙ ap (λ (m : ℕ). getD (st .args .kinds .now) m 0)
-          (c .before .before .byte .ensures) ∙ e)),
+      skip-allowed (st .args .kinds .now) (st .args .starts .now) (st .args .counts .now) (st .args
+          .pool .now) (st .args .marks .now) (loop .i) (loop .inv .1) (λ e. if1 .left (byte2 .ensures ∙ ap (λ (m : ℕ).
+          getD (st .args .kinds .now) m 0) (byte .ensures) ∙ e)),
     )
 
+-- src/marks.rt:513:1
 returns-2 : tie.Need-returns-2 Inv-loop μ-loop
 returns-2 c =
-    let e : c .before .loop .i ≡ c .before .before .before .before .before .before .before .before .args .c .len =
-    omega arith in
-    let h = rw e at (c .before .loop .inv .1) in
-    rw h
+    let st = c .before .before .before .before .before .before .before .before in
+    let loop = c .before .loop in
+    let loop-test = c .loop-test in
+    let e : loop .i ≡ st .args .c .len = omega (arith, loop .inv .0, loop-test .left) in
+    let h = rw e at (loop .inv .1) in rw h
 
 pub any-allowed-spec : {M : Type 1} → statement M
 any-allowed-spec =
@@ -77,7 +97,6 @@ any-allowed-spec =
     Inv-loop
     μ-loop
     loop-holds
-    slice-aggregate-byte
     byte-requires
     cast-byte
     byte-requires-2

@@ -1,96 +1,121 @@
-use Prim.Native.Nat.{_-_}
-use borrow.Author.Tests.{not-true, not-false}
 use borrow.Author.Needs.{needs}
 use Rattle.columns.proofs.marks.is_feasible.Statement.{statement}
 use Rattle.columns.proofs.marks.is_feasible.Tie as tie
+use Rattle.columns.proofs.marks.is_feasible.Reads as reads
+use Rattle.columns.proofs.marks.is_feasible.Lts as lts
+use Rattle.columns.proofs.bound.clears_lower.Reads as clears-lower-reads
+use Rattle.columns.proofs.bound.clears_upper.Reads as clears-upper-reads
+use Rattle.columns.proofs.marks.allows.Reads as allows-reads
+use Rattle.columns.proofs.marks.disallows.Reads as disallows-reads
+use Rattle.columns.proofs.marks.excludes.Reads as excludes-reads
+use borrow.Author.Tests.{not-true, not-false}
 
+-- src/marks.rt:468:9
 clears-lower-requires : tie.Need-clears-lower-requires
 clears-lower-requires c κs = search needs
 
+-- src/marks.rt:469:9
 returns : tie.Need-returns
-returns c = rw (← c .before .clears-lower .ensures, not-true (c .before .clears-lower .result) (c .if1 .taken))
+returns c =
+    let clears-lower = c .before .clears-lower in
+    let if1 = c .if1 in
+    rw (← clears-lower .ensures, not-true (clears-lower .result) (if1 .taken))
 
+-- src/marks.rt:472:9
 clears-upper-requires : tie.Need-clears-upper-requires
 clears-upper-requires c κs = search needs
 
+-- src/marks.rt:473:9
 returns-2 : tie.Need-returns-2
-returns-2 c = rw (
-  ← c .before .before .before .clears-lower .ensures,
-  not-false (c .before .before .before .clears-lower .result) (c .before .before .if1 .left),
-  ← c .before .clears-upper .ensures,
-  not-true (c .before .clears-upper .result) (c .if2 .taken),
-)
+returns-2 c =
+    let clears-lower = c .before .before .before .clears-lower in
+    let clears-upper = c .before .clears-upper in
+    let if1 = c .before .before .if1 in
+    let if2 = c .if2 in
+    rw (
+      ← clears-lower .ensures,
+      not-false (clears-lower .result) (if1 .left),
+      ← clears-upper .ensures,
+      not-true
+          (clears-upper .result) (if2 .taken),
+    )
 
-slice-aggregate-excludes : tie.Need-slice-aggregate-excludes
-slice-aggregate-excludes c = search needs
-
+-- src/marks.rt:475:8
 excludes-requires : tie.Need-excludes-requires
 excludes-requires c κs = search needs
 
+-- src/marks.rt:476:9
 returns-3 : tie.Need-returns-3
 returns-3 c =
-    let low = c .before .before .before .before .before .before .before .clears-lower in
-    let upp = c .before .before .before .before .before .clears-upper in
+    let clears-lower = c .before .before .before .before .before .clears-lower in
+    let clears-upper = c .before .before .before .clears-upper in
+    let if1 = c .before .before .before .before .if1 in
+    let if2 = c .before .before .if2 in
+    let excludes = c .before .excludes in
+    let if3 = c .if3 in
     rw (
-      ← low .ensures,
-      not-false (low .result) (c .before .before .before .before .before .before .if1 .left),
-      ← upp .ensures,
-      not-false (upp .result) (c .before .before .before .before .if2 .left),
-      ← c .before .excludes .ensures,
-      c .if3 .taken,
+      ← clears-lower .ensures,
+      not-false (clears-lower .result) (if1 .left),
+      ← clears-upper .ensures,
+      not-false (clears-upper .result) (if2 .left),
+      ← excludes .ensures,
+      if3 .taken,
     )
 
-slice-aggregate-allows : tie.Need-slice-aggregate-allows
-slice-aggregate-allows c = search needs
-
+-- src/marks.rt:478:9
 allows-requires : tie.Need-allows-requires
 allows-requires c κs = search needs
 
+-- src/marks.rt:479:9
 returns-4 : tie.Need-returns-4
 returns-4 c =
-    let exc = c .before .before .before .before .excludes in
-    let two = c .before .before .before .before .before .before .before .if2 in
-    let one = c .before .before .before .before .before .before .before .before .before .if1 in
-    let low = c .before .before .before .before .before .before .before .before .before .before .clears-lower in
-    let upp = c .before .before .before .before .before .before .before .before .clears-upper in
-    let all = c .before .allows in
+    let clears-lower = c .before .before .before .before .before .before .before .clears-lower in
+    let clears-upper = c .before .before .before .before .before .clears-upper in
+    let if1 = c .before .before .before .before .before .before .if1 in
+    let if2 = c .before .before .before .before .if2 in
+    let excludes = c .before .before .before .excludes in
+    let if3 = c .before .before .if3 in
+    let allows = c .before .allows in
+    let if4 = c .if4 in
     rw (
-      ← low .ensures,
-      not-false (low .result) (one .left),
-      ← upp .ensures,
-      not-false (upp .result) (two .left),
-      ← exc .ensures,
-      c .before .before .before .if3 .left,
-      ← all .ensures,
-      not-true (all .result) (c .if4 .taken),
+      ← clears-lower .ensures,
+      not-false (clears-lower .result) (if1 .left),
+      ← clears-upper .ensures,
+      not-false (clears-upper .result) (if2 .left),
+      ← excludes .ensures,
+      if3 .left,
+      ← allows .ensures,
+      not-true
+          (allows .result) (if4 .taken),
     )
 
-slice-aggregate-disallows : tie.Need-slice-aggregate-disallows
-slice-aggregate-disallows c =
-    let st = c .before .before .before .before .before .before .before .before .before .before .before .before .before .before .before .before .before in
-    search (needs, st .good .1 .1 .1 .1 .1 .0)
-
+-- src/marks.rt:481:6
 disallows-requires : tie.Need-disallows-requires
 disallows-requires c κs = search needs
 
+-- src/marks.rt:455:1
 returns-5 : tie.Need-returns-5
 returns-5 c =
-    let exc = c .before .before .before .before .before .before .excludes in
-    let two = c .before .before .before .before .before .before .before .before .before .if2 in
-    let one = c .before .before .before .before .before .before .before .before .before .before .before .if1 in
-    let low = c .before .before .before .before .before .before .before .before .before .before .before .before .clears-lower in
-    let upp = c .before .before .before .before .before .before .before .before .before .before .clears-upper in
-    let all = c .before .before .before .allows in
+    let clears-lower = c .before .before .before .before .before .before .before .before .clears-lower in
+    let clears-upper = c .before .before .before .before .before .before .clears-upper in
+    let if1 = c .before .before .before .before .before .before .before .if1 in
+    let if2 = c .before .before .before .before .before .if2 in
+    let excludes = c .before .before .before .before .excludes in
+    let if3 = c .before .before .before .if3 in
+    let allows = c .before .before .allows in
+    let if4 = c .before .if4 in
+    let disallows = c .disallows in
     rw (
-      ← low .ensures,
-      not-false (low .result) (one .left),
-      ← upp .ensures,
-      not-false (upp .result) (two .left),
-      ← exc .ensures,
-      c .before .before .before .before .before .if3 .left,
-      ← all .ensures,
-      not-false (all .result) (c .before .before .if4 .left),
-      ← c .disallows .ensures,
+      ← clears-lower .ensures,
+      not-false (clears-lower .result) (if1 .left),
+      ← clears-upper .ensures,
+      not-false (clears-upper .result) (if2 .left),
+      ← excludes .ensures,
+      if3 .left,
+      ← allows .ensures,
+      not-false
+          (allows .result) (if4 .left),
+      ← disallows .ensures,
     )
 
 pub is-feasible-spec : {M : Type 1} → statement M
@@ -101,12 +126,9 @@ is-feasible-spec =
     returns
     clears-upper-requires
     returns-2
-    slice-aggregate-excludes
     excludes-requires
     returns-3
-    slice-aggregate-allows
     allows-requires
     returns-4
-    slice-aggregate-disallows
     disallows-requires
     returns-5)

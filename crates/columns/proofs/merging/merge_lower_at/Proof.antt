@@ -13,7 +13,7 @@ add-lower-requires c κs = search needs
 -- src/merging.rt:33:1
 returns : tie.Need-returns
 returns c = (
-  (λ t. rw (c .before .add-lower .ensures .0 t, c .before .before .lower-changes .ensures t)),
+  (λ t a. rw (c .before .add-lower .ensures .0 t a, c .before .before .lower-changes .ensures t a)),
   c .before .add-lower .ensures .1,
 )
 

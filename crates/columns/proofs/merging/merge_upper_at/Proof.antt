@@ -13,7 +13,7 @@ add-upper-requires c κs = search needs
 -- src/merging.rt:43:1
 returns : tie.Need-returns
 returns c = (
-  (λ t. rw (c .before .add-upper .ensures .0 t, c .before .before .upper-changes .ensures t)),
+  (λ t a. rw (c .before .add-upper .ensures .0 t a, c .before .before .upper-changes .ensures t a)),
   c .before .add-upper .ensures .1,
 )
 

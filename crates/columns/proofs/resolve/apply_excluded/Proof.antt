@@ -2,7 +2,7 @@ use mathlib.Core.Path.{_∙_, ap, refl}
 use mathlib.Core.Bool.{false}
 use Prim.Native.Nat.{ℕ, _-_}
 use Rattle.constraints.specs.Column as q
-use Rattle.columns.specs.Abstraction.{columnOf}
+use Rattle.columns.specs.Abstraction.{numbered, columnOf}
 use Rattle.constraints.specs.Bound as b
 use Rattle.constraints.specs.declared.column.ExcludedResolution.the-variants.{Drop, Keep, TightenLower}
 use Rattle.constraints.specs.declared.column.ExcludedResolution.the-variants.{TightenUpper}
@@ -11,83 +11,75 @@ use borrow.Author.Needs.{needs}
 use Rattle.columns.proofs.resolve.apply_excluded.Statement.{statement}
 use Rattle.columns.proofs.resolve.apply_excluded.Tie as tie
 
--- src/resolve.rt:175:9
 literal-at-requires : tie.Need-literal-at-requires
 literal-at-requires c κs = search needs
 
--- src/resolve.rt:176:9
 classify-excluded-requires : tie.Need-classify-excluded-requires
 classify-excluded-requires c κs = search needs
 
--- src/resolve.rt:178:37
 enum-told : tie.Need-enum-told
 enum-told c = search needs
 
--- src/resolve.rt:179:37
 enum-told-2 : tie.Need-enum-told-2
 enum-told-2 c = search needs
 
--- src/resolve.rt:179:37
 insert-excluded-requires : tie.Need-insert-excluded-requires
-insert-excluded-requires c κs = c .before .before .before .before .before .before .pre
+insert-excluded-requires c κs = search needs
 
--- src/resolve.rt:180:45
 enum-told-3 : tie.Need-enum-told-3
 enum-told-3 c = search needs
 
--- src/resolve.rt:180:45
 open-lower-requires : tie.Need-open-lower-requires
 open-lower-requires c κs = search needs
 
--- src/resolve.rt:181:45
 enum-told-4 : tie.Need-enum-told-4
 enum-told-4 c = search needs
 
--- src/resolve.rt:181:45
 open-upper-requires : tie.Need-open-upper-requires
 open-upper-requires c κs = search needs
 
--- src/resolve.rt:167:1
 returns : tie.Need-returns
 returns c =
-    let st = c .before .before .before .before .before .before in (
-      (λ t e f. applied Drop _ _ (columnOf t (st .args .c)) _ _ (c .before .before .classify-excluded .ensures t)
+    let st = c .before .before .before .before .before .before .before in (
+      (λ t e f. applied Drop _ _ (columnOf t (numbered (st .args .own .now) (st .args .c))) _ _
+          (c .before .before .classify-excluded .ensures t (st .args .own .now))
           (c .before .before .before .literal-at .ensures) (c .enum-told .given .1) refl),
       st .pre .0,
     )
 
--- src/resolve.rt:167:1
-returns-2 : tie.Need-returns-2
-returns-2 c = (
-  (λ t e f. applied Keep _ _
-      (columnOf t (c .before .before .before .before .before .before .before .args .c)) _ _
-      (c .before .before .before .classify-excluded .ensures t) (c .before .before .before .before .literal-at .ensures)
-      (c .before .enum-told2 .given .1) (c .insert-excluded .ensures .0 t e f)),
-  c .insert-excluded .ensures .1,
-)
+same-length : tie.Need-same-length
+same-length c = search needs
 
--- src/resolve.rt:167:1
-returns-3 : tie.Need-returns-3
-returns-3 c =
-    let st = c .before .before .before .before .before .before .before in (
-      (λ t e f. applied TightenLower _ _ (columnOf t (st .args .c)) _ _
-          (c .before .before .before .classify-excluded .ensures t)
-          (c .before .before .before .before .literal-at .ensures) (c .before .enum-told3 .given .1)
-          (c .open-lower .ensures .0 t ∙ ap (λ (v : ℕ). q.setLower (b.at false v) (columnOf t (st .args .c)))
-          (c .before .before .before .before .literal-at .ensures))),
-      rw (c .open-lower .ensures .1 .0, c .open-lower .ensures .1 .1) (st .pre .0),
+returns-2 : tie.Need-returns-2
+returns-2 c =
+    let st = c .before .before .before .before .before .before .before .before .before .before .before in (
+      (λ t e f. applied Keep _ _ (columnOf t (numbered (st .args .own .now) (st .args .c))) _ _
+          (c .before .before .before .before .before .before .classify-excluded .ensures t (st .args .own .now))
+          (c .before .before .before .before .before .before .before .literal-at .ensures) (c .before .before .before .before .enum-told2 .given .1)
+          (c .before .before .insert-excluded .ensures .0 t e f)),
+      c .before .before .insert-excluded .ensures .1,
     )
 
--- src/resolve.rt:167:1
+returns-3 : tie.Need-returns-3
+returns-3 c =
+    let st = c .before .before .before .before .before .before .before .before in (
+      (λ t e f. applied TightenLower _ _ (columnOf t (numbered (st .args .own .now) (st .args .c))) _ _
+          (c .before .before .before .classify-excluded .ensures t (st .args .own .now))
+          (c .before .before .before .before .literal-at .ensures) (c .before .enum-told3 .given .1)
+          (c .open-lower .ensures .0 t (st .args .own .now) ∙
+          ap (λ (v : ℕ). q.setLower (b.at false v) (columnOf t (numbered (st .args .own .now) (st .args .c)))) (c .before .before .before .before .literal-at .ensures))),
+      rw (c .open-lower .ensures .1) (st .pre .0),
+    )
+
 returns-4 : tie.Need-returns-4
 returns-4 c =
-    let st = c .before .before .before .before .before .before .before in (
-      (λ t e f. applied TightenUpper _ _ (columnOf t (st .args .c)) _ _
-          (c .before .before .before .classify-excluded .ensures t)
+    let st = c .before .before .before .before .before .before .before .before in (
+      (λ t e f. applied TightenUpper _ _ (columnOf t (numbered (st .args .own .now) (st .args .c))) _ _
+          (c .before .before .before .classify-excluded .ensures t (st .args .own .now))
           (c .before .before .before .before .literal-at .ensures) (c .before .enum-told4 .given .1)
-          (c .open-upper .ensures .0 t ∙ ap (λ (v : ℕ). q.setUpper (b.at false v) (columnOf t (st .args .c)))
-          (c .before .before .before .before .literal-at .ensures))),
-      rw (c .open-upper .ensures .1 .0, c .open-upper .ensures .1 .1) (st .pre .0),
+          (c .open-upper .ensures .0 t (st .args .own .now) ∙
+          ap (λ (v : ℕ). q.setUpper (b.at false v) (columnOf t (numbered (st .args .own .now) (st .args .c)))) (c .before .before .before .before .literal-at .ensures))),
+      rw (c .open-upper .ensures .1) (st .pre .0),
     )
 
 pub apply-excluded-spec : {M : Type 1} → statement M
@@ -104,6 +96,7 @@ apply-excluded-spec =
     enum-told-4
     open-upper-requires
     returns
+    same-length
     returns-2
     returns-3
     returns-4)

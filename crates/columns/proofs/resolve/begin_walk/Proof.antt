@@ -6,7 +6,7 @@ use Rattle.columns.proofs.resolve.begin_walk.Tie as tie
 -- src/resolve.rt:205:1
 returns : tie.Need-returns
 unfolding excludedBy allowedBy disallowedBy gather
-returns c = ((λ t. refl), refl)
+returns c = ((λ t a. refl), refl)
 
 pub begin-walk-spec : {M : Type 1} → statement M
 begin-walk-spec = tie.close (tie.spec returns)

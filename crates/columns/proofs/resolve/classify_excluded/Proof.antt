@@ -6,7 +6,7 @@ classify-at-requires : tie.Need-classify-at-requires
 classify-at-requires c κs = search needs
 
 returns : tie.Need-returns
-returns c = λ t. c .classify-at .ensures
+returns c = λ t a. c .classify-at .ensures
 
 pub classify-excluded-spec : {M : Type 1} → statement M
 classify-excluded-spec = tie.close (tie.spec classify-at-requires returns)

@@ -12,34 +12,27 @@ enum-told c = search needs
 enum-known-f : tie.Need-enum-known-f
 enum-known-f c = search needs
 
-slice-aggregate-disallows : tie.Need-slice-aggregate-disallows
-slice-aggregate-disallows c = search
-    (needs, c .before .before .before .before .before .before .before .before .before .before .good .1 .1 .1 .1 .0)
-
 disallows-requires : tie.Need-disallows-requires
 disallows-requires c κs = search needs
 
 returns : tie.Need-returns
-returns c = λ t e. rw (← c .before .before .fixed-value .ensures t, c .enum-told .given .1)
+returns c =
+    let st = c .before .before .before .before .before .before .before .before in
+    λ t e. rw (← c .before .before .fixed-value .ensures t (st .args .marks .now), c .enum-told .given .1)
 
 returns-2 : tie.Need-returns-2
-returns-2 c = λ t e. rw (
-  ← c .before .before .before .before .before .fixed-value .ensures t,
-  c .before .before .before .f .given .1,
-  e .0,
-  e .1,
-  e .2,
-  e .3,
-) (c .disallows .ensures)
+returns-2 c =
+    let st = c .before .before .before .before .before .before .before .before .before .before in
+    λ t e. rw (
+      ← c .before .before .before .before .fixed-value .ensures t (st .args .marks .now),
+      c .before .before .f .given .1,
+      e .0,
+      e .1,
+      e .2,
+      e .3,
+    ) (c .disallows .ensures)
 
 pub fixed-disallowed-spec : {M : Type 1} → statement M
 fixed-disallowed-spec =
     tie.close
-    (tie.spec
-    fixed-value-requires
-    enum-told
-    enum-known-f
-    slice-aggregate-disallows
-    disallows-requires
-    returns
-    returns-2)
+    (tie.spec fixed-value-requires enum-told enum-known-f disallows-requires returns returns-2)

@@ -6,7 +6,7 @@ fixed-at-requires : tie.Need-fixed-at-requires
 fixed-at-requires c κs = search needs
 
 returns : tie.Need-returns
-returns c = λ t. c .fixed-at .ensures
+returns c = λ t a. c .fixed-at .ensures
 
 pub fixed-value-spec : {M : Type 1} → statement M
 fixed-value-spec = tie.close (tie.spec fixed-at-requires returns)

@@ -7,19 +7,15 @@ use borrow.Author.Needs.{needs}
 use Rattle.columns.proofs.resolve.has_value_constraint.Statement.{statement}
 use Rattle.columns.proofs.resolve.has_value_constraint.Tie as tie
 
--- src/resolve.rt:266:9
 is-absent-requires : tie.Need-is-absent-requires
 is-absent-requires c κs = search needs
 
--- src/resolve.rt:267:9
 returns : tie.Need-returns
 returns c = λ t e. rw (← c .before .is-absent .ensures, not-true (c .before .is-absent .result) (c .if1 .taken))
 
--- src/resolve.rt:269:9
 is-absent-requires-2 : tie.Need-is-absent-requires-2
 is-absent-requires-2 c κs = search needs
 
--- src/resolve.rt:270:9
 returns-2 : tie.Need-returns-2
 returns-2 c = λ t e. rw (
   ← c .before .before .before .is-absent .ensures,
@@ -28,82 +24,59 @@ returns-2 c = λ t e. rw (
   not-true (c .before .is-absent2 .result) (c .if2 .taken),
 )
 
--- src/resolve.rt:272:24
-slice-aggregate-has-kind : tie.Need-slice-aggregate-has-kind
-slice-aggregate-has-kind c = search needs
-
--- src/resolve.rt:272:8
 has-kind-requires : tie.Need-has-kind-requires
 has-kind-requires c κs = search needs
 
--- src/resolve.rt:273:9
 returns-3 : tie.Need-returns-3
 returns-3 c =
-    let st = c .before .before .before .before .before .before .before .before .before in
+    let st = c .before .before .before .before .before .before .before .before in
     λ t e. rw (
-      ← c .before .before .before .before .before .before .is-absent .ensures,
-      not-false (c .before .before .before .before .before .before .is-absent .result)
-          (c .before .before .before .before .before .if1 .left),
-      ← c .before .before .before .before .is-absent2 .ensures,
-      not-false (c .before .before .before .before .is-absent2 .result) (c .before .before .before .if2 .left),
-      no-excluded (t .kinds) (t .values) (st .args .c .marks) (st .args .c .len),
+      ← c .before .before .before .before .before .is-absent .ensures,
+      not-false (c .before .before .before .before .before .is-absent .result) (c .before .before .before .before .if1 .left),
+      ← c .before .before .before .is-absent2 .ensures,
+      not-false (c .before .before .before .is-absent2 .result) (c .before .before .if2 .left),
+      no-excluded (t .kinds) (t .values) (st .args .marks .now) (st .args .c .len),
       e,
       ← c .before .has-kind .ensures,
       c .if3 .taken,
     )
 
--- src/resolve.rt:275:24
-slice-aggregate-has-kind-2 : tie.Need-slice-aggregate-has-kind-2
-slice-aggregate-has-kind-2 c = search needs
-
--- src/resolve.rt:275:8
 has-kind-requires-2 : tie.Need-has-kind-requires-2
 has-kind-requires-2 c κs = search needs
 
--- src/resolve.rt:276:9
 returns-4 : tie.Need-returns-4
 returns-4 c =
-    let st = c .before .before .before .before .before .before .before .before .before .before .before .before in
+    let st = c .before .before .before .before .before .before .before .before .before .before in
     λ t e. rw (
-      ← c .before .before .before .before .before .before .before .before .before .is-absent .ensures,
-      not-false (c .before .before .before .before .before .before .before .before .before .is-absent .result)
-          (c .before .before .before .before .before .before .before .before .if1 .left),
-      ← c .before .before .before .before .before .before .before .is-absent2 .ensures,
-      not-false (c .before .before .before .before .before .before .before .is-absent2 .result)
-          (c .before .before .before .before .before .before .if2 .left),
-      no-excluded (t .kinds) (t .values)
-          (st .args .c .marks) (st .args .c .len),
-      no-allowed (t .kinds) (t .starts) (t .counts) (t .pool)
-          (st .args .c .marks) (st .args .c .len),
+      ← c .before .before .before .before .before .before .before .is-absent .ensures,
+      not-false (c .before .before .before .before .before .before .before .is-absent .result) (c .before .before .before .before .before .before .if1 .left),
+      ← c .before .before .before .before .before .is-absent2 .ensures,
+      not-false (c .before .before .before .before .before .is-absent2 .result) (c .before .before .before .before .if2 .left),
+      no-excluded (t .kinds) (t .values) (st .args .marks .now) (st .args .c .len),
+      no-allowed (t .kinds) (t .starts) (t .counts) (t .pool) (st .args .marks .now) (st .args .c .len),
       e,
-      ← c .before .before .before .before .has-kind .ensures,
-      c .before .before .before .if3 .left,
+      ← c .before .before .before .has-kind .ensures,
+      c .before .before .if3 .left,
       ← c .before .has-kind2 .ensures,
       c .if4 .taken,
     )
 
--- src/resolve.rt:260:1
 returns-5 : tie.Need-returns-5
 returns-5 c =
-    let st = c .before .before .before .before .before .before .before .before .before .before .before .before in
+    let st = c .before .before .before .before .before .before .before .before .before .before in
     λ t e. rw (
-      ← c .before .before .before .before .before .before .before .before .before .is-absent .ensures,
-      not-false (c .before .before .before .before .before .before .before .before .before .is-absent .result)
-          (c .before .before .before .before .before .before .before .before .if1 .left),
-      ← c .before .before .before .before .before .before .before .is-absent2 .ensures,
-      not-false (c .before .before .before .before .before .before .before .is-absent2 .result)
-          (c .before .before .before .before .before .before .if2 .left),
-      no-excluded (t .kinds) (t .values)
-          (st .args .c .marks) (st .args .c .len),
-      no-allowed (t .kinds) (t .starts) (t .counts) (t .pool)
-          (st .args .c .marks) (st .args .c .len),
+      ← c .before .before .before .before .before .before .before .is-absent .ensures,
+      not-false (c .before .before .before .before .before .before .before .is-absent .result) (c .before .before .before .before .before .before .if1 .left),
+      ← c .before .before .before .before .before .is-absent2 .ensures,
+      not-false (c .before .before .before .before .before .is-absent2 .result) (c .before .before .before .before .if2 .left),
+      no-excluded (t .kinds) (t .values) (st .args .marks .now) (st .args .c .len),
+      no-allowed (t .kinds) (t .starts) (t .counts) (t .pool) (st .args .marks .now) (st .args .c .len),
       e,
-      ← c .before .before .before .before .has-kind .ensures,
-      c .before .before .before .if3 .left,
+      ← c .before .before .before .has-kind .ensures,
+      c .before .before .if3 .left,
       ← c .before .has-kind2 .ensures,
       c .if4 .left,
-    )
-    (sym (Bool·not-not (st .args .c .strict)))
+    ) (sym (Bool·not-not (st .args .c .strict)))
 
 pub has-value-constraint-spec : {M : Type 1} → statement M
 has-value-constraint-spec =
@@ -113,10 +86,8 @@ has-value-constraint-spec =
     returns
     is-absent-requires-2
     returns-2
-    slice-aggregate-has-kind
     has-kind-requires
     returns-3
-    slice-aggregate-has-kind-2
     has-kind-requires-2
     returns-4
     returns-5)

@@ -1,50 +1,75 @@
-use mathlib.Core.Path.{_∙_, ap, refl}
-use Prim.Native.Nat.{ℕ, _-_}
+use mathlib.Core.Path.{_≡_, refl, _∙_, ap}
+use mathlib.Core.List.{List}
+use Prim.Native.Nat.{ℕ, zero, suc, _≤_, _<_, _-_}
+use native.Mathlib.Omega.{arith}
+use lib.ListN.{length, getD}
 use Rattle.constraints.specs.Payload.{payload}
 use Rattle.constraints.specs.Column as q
 use Rattle.constraints.specs.Resolve as z
-use Rattle.columns.specs.Abstraction.{conjuncts, columnOf}
+use Rattle.columns.specs.Abstraction.{Conjuncts, conjuncts, numbered, columnOf, Fine}
 use Rattle.columns.specs.Steps.{stepMarks}
-use Rattle.columns.proofs.Numbers.{fine-zero}
+use Rattle.columns.proofs.Numbers.{fine-zero, marked-same}
+use Rattle.columns.proofs.Pigeon.{few}
 use Rattle.columns.proofs.Resolutions.{walk-law}
 use borrow.Author.Needs.{needs}
 use Rattle.columns.proofs.resolve.resolve_deferred.Statement.{statement}
 use Rattle.columns.proofs.resolve.resolve_deferred.Tie as tie
 
+-- the copy a has the numbers of b: what is said of n numbers of b is true of a
+steps-same : (t : Conjuncts) (a b : List ℕ) (n : ℕ) (cc : q.ColumnConstraints ℕ) →
+    ((i : ℕ) → i < n → getD a i 0 ≡ getD b i 0) → stepMarks t a n cc ≡ stepMarks t b n cc
+unfolding stepMarks
+steps-same t a b zero cc h = refl
+steps-same t a b (suc n) cc h = rw (steps-same t a b n cc (λ i l. h i (omega arith)), h n (omega arith))
+
+fine-same : (m : ℕ) (a b : List ℕ) (n : ℕ) → ((i : ℕ) → i < n → getD a i 0 ≡ getD b i 0) → Fine m b n → Fine m a n
+fine-same m a b n h f i l =
+    rw (h i l, marked-same a b i (getD b i 0) (λ j k. h j (omega arith))) (f i l)
+
 null-conflict-requires : tie.Need-null-conflict-requires
 null-conflict-requires c κs = search needs
+
+copied-requires : tie.Need-copied-requires
+copied-requires c κs =
+    let st = c .before .before .before .before .before .before .before .before .before in
+    let k : st .args .c .len ≤ length (st .args .own .now) = few _ _ _ (st .pre .0) in
+    (k, omega (arith, k, st .pre .1))
 
 begin-walk-requires : tie.Need-begin-walk-requires
 begin-walk-requires c κs = search needs
 
 slice-aggregate-step-marks : tie.Need-slice-aggregate-step-marks
-slice-aggregate-step-marks c = search
-    (needs, c .before .before .before .before .before .before .before .before .before .good .1 .1 .1 .1 .1 .0)
+slice-aggregate-step-marks c = search needs
 
 step-marks-requires : tie.Need-step-marks-requires
 step-marks-requires c κs = (
-  fine-zero _ _ (c .before .begin-walk .ensures .1),
-  c .before .before .before .before .before .before .before .before .before .pre,
+  fine-zero _ _ _ (c .before .before .begin-walk .ensures .1),
+  fine-same _ _ _ _ (c .before .before .before .copied .ensures) (c .before .before .before .before .before .before .before .before .before .before .before .before .before .pre .0),
 )
 
 with-lists-requires : tie.Need-with-lists-requires
 with-lists-requires c κs = search needs
 
+same-length : tie.Need-same-length
+same-length c = search needs
+
 returns : tie.Need-returns
 returns c =
-    let st = c .before .before .before .before .before .before .before .before .before .before .before .before .before
-    in
+    let st = c .before .before .before .before .before .before .before .before .before .before .before .before .before .before .before .before .before .before .before .before in
+    let walked = c .before .before .before .before .before .before .step-marks in
     let tables = conjuncts (st .args .kinds .now) (st .args .values .now) (st .args .starts .now)
     (st .args .counts .now) (st .args .pool .now) in (
       c .with-lists .ensures .0 ∙ ap (λ (x : q.ColumnConstraints ℕ). z.withLists payload x)
-          (walk-law tables (st .args .c) (columnOf tables (c .before .before .before .step-marks .result))
-          (c .before .before .before .before .before .before .before .null-conflict .result)
-          (c .before .before .before .step-marks .ensures .0 tables refl refl ∙
-          ap (λ (x : q.ColumnConstraints ℕ). stepMarks tables (st .args .c .marks) (st .args .c .len) x)
-          (c .before .before .before .before .before .begin-walk .ensures .0 tables))
-          (c .before .before .before .before .before .before .before .null-conflict .ensures tables refl)),
-      rw (c .with-lists .ensures .1 .0, c .with-lists .ensures .1 .1)
-          (c .before .before .before .step-marks .ensures .1),
+          (walk-law tables (numbered (st .args .own .now) (st .args .c))
+          (columnOf tables (numbered (walked .last .1 .1 .0) (walked .result)))
+          (c .before .before .before .before .before .before .before .before .before .before .before .before .null-conflict .result)
+          (walked .ensures .0 tables refl refl ∙
+          steps-same tables (c .before .before .before .before .before .before .before .before .before .before .copied .result) (st .args .own .now) (st .args .c .len)
+          (columnOf tables (numbered (st .args .own .now) (c .before .before .before .before .before .before .before .before .before .begin-walk .result))) (c .before .before .before .before .before .before .before .before .before .before .copied .ensures) ∙
+          ap (λ (x : q.ColumnConstraints ℕ). stepMarks tables (st .args .own .now) (st .args .c .len) x)
+          (c .before .before .before .before .before .before .before .before .before .begin-walk .ensures .0 tables (st .args .own .now)))
+          (c .before .before .before .before .before .before .before .before .before .before .before .before .null-conflict .ensures tables refl)),
+      rw (c .with-lists .ensures .1) (walked .ensures .1),
     )
 
 pub resolve-deferred-spec : {M : Type 1} → statement M
@@ -52,8 +77,10 @@ resolve-deferred-spec =
     tie.close
     (tie.spec
     null-conflict-requires
+    copied-requires
     begin-walk-requires
     slice-aggregate-step-marks
     step-marks-requires
     with-lists-requires
+    same-length
     returns)

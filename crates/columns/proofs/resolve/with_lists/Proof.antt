@@ -1,6 +1,6 @@
 use mathlib.Core.Path.{refl}
 use Prim.Native.Nat.{_-_}
-use Rattle.columns.specs.Abstraction.{conjuncts, columnOf}
+use Rattle.columns.specs.Abstraction.{conjuncts, numbered, columnOf}
 use Rattle.columns.proofs.Resolutions.{lists-law, lists-dead}
 use borrow.Author.Needs.{needs}
 use Rattle.columns.proofs.resolve.with_lists.Statement.{statement}
@@ -8,10 +8,11 @@ use Rattle.columns.proofs.resolve.with_lists.Tie as tie
 
 returns : tie.Need-returns
 returns c =
-    let st = c .before .before .before .before .before .before in (
+    let st = c .before .before .before .before .before .before .before in (
       lists-dead (columnOf (conjuncts (st .args .kinds .now) (st .args .values .now) (st .args .starts .now)
-          (st .args .counts .now) (st .args .pool .now)) (st .args .c)) (c .if1 .taken),
-      (refl, refl),
+          (st .args .counts .now) (st .args .pool .now)) (numbered (st .args .marks .now) (st .args .c)))
+          (c .if1 .taken),
+      refl,
     )
 
 any-allowed-requires : tie.Need-any-allowed-requires
@@ -22,20 +23,15 @@ fixed-disallowed-requires c κs = search needs
 
 returns-2 : tie.Need-returns-2
 returns-2 c =
-    let st = c .before .before .before .before .before .before .before .before in
+    let st = c .before .before .before .before .before .before .before .before .before in
     let tables = conjuncts (st .args .kinds .now) (st .args .values .now) (st .args .starts .now)
     (st .args .counts .now) (st .args .pool .now) in (
-      lists-law (columnOf tables (st .args .c)) (c .before .any-allowed .result) (c .fixed-disallowed .result)
-          (c .before .before .if1 .left) (c .before .any-allowed .ensures)
+      lists-law (columnOf tables (numbered (st .args .marks .now) (st .args .c))) (c .before .any-allowed .result)
+          (c .fixed-disallowed .result) (c .before .before .if1 .left) (c .before .any-allowed .ensures)
           (c .fixed-disallowed .ensures tables (refl, refl, refl, refl)),
-      (refl, refl),
+      refl,
     )
 
 pub with-lists-spec : {M : Type 1} → statement M
 with-lists-spec =
-    tie.close
-    (tie.spec
-    returns
-    any-allowed-requires
-    fixed-disallowed-requires
-    returns-2)
+    tie.close (tie.spec returns any-allowed-requires fixed-disallowed-requires returns-2)
