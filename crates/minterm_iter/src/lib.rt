@@ -1,6 +1,6 @@
 // `MintermIter` as the Rust has it: a struct with the lent records and the nodes still to visit. Its methods are thin:
 // the work is done by `rooted` and `step_at`, on plain slices and stacks. The walk itself is
-// `rewrite::minterms::next_minterm`; the merging runs it over a stack of its own, with no copy for each conjunct.
+// `rewrite::minterms::next_minterm`; the merging has all conjuncts at once from `rewrite::minterms::minterms`.
 ghost use mathlib.Core.Path.{_≡_};
 ghost use mathlib.Core.List.{[], _∷_};
 ghost use Rattle.minterm_iter.specs.Iter.{stackIn, Walkable, Next};
