@@ -6,7 +6,7 @@ use mathlib.Core.Path.{_≡_, refl, sym, _∙_, ap, subst}
 use native.Mathlib.Omega.{arith}
 use lib.ListN.{length}
 use lib.Dec.{ltb, eqb}
-use borrow.Author.Tests.{ltb-true, eqb-true, eqb-false}
+use borrow.Author.Tests.{ltb-true, lt-ltb, eqb-true, eqb-false}
 use Rattle.records.specs.Bytes.{first}
 use Rattle.records.specs.Record.{node, fieldsAt, decode, recordAt, inputs}
 use Rattle.records.specs.Shape.{shapeOk}
@@ -61,11 +61,14 @@ isAccepted : CheckAnswer → Bool
 isAccepted (Refused k) = false
 isAccepted Accepted = true
 
+pub not-accepted : (k : ℕ) → Refused k ≡ Accepted → ⊥
+unfolding isAccepted
+not-accepted k e = true≢false (sym (ap isAccepted e))
+
 -- an answer that is Accepted comes from every test before it
 passed : (b : Bool) (x : CheckAnswer) (k : ℕ) → cond b x (Refused k) ≡ Accepted → (b ≡ true) × (x ≡ Accepted)
-unfolding isAccepted
 passed true x k e = (refl, e)
-passed false x k e = absurd (true≢false (sym (ap isAccepted e)))
+passed false x k e = absurd (not-accepted k e)
 
 -- checking accepts only checked screens
 pub checked : (t rs p : List ℕ) (used root : ℕ) → checkAnswer t rs p used root ≡ Accepted → Checked t rs p used root
@@ -85,6 +88,29 @@ checked t rs p used root e =
           (no-fault (λ (i : ℕ). recordFault t rs p (node i)) n used (eqb-true (firstFault t rs p used) 0 (d .0)) h);
       root-truth = eqb-true (typeAt t rs (node root)) 3 (f .0);
     }
+
+-- no fault at any of the first u: none among them
+first-zero : (f : ℕ → ℕ) (u : ℕ) → ((n : ℕ) → n < u → f n ≡ 0) → first f u ≡ 0
+unfolding first
+first-zero f zero h = refl
+first-zero f (suc u) h = rw (first-zero f u (λ n k. h n (omega arith)), h u (omega arith))
+
+faultless : (t rs p : List ℕ) (n : ℕ) → CheckedRecord t rs p n → recordFault t rs p (node n) ≡ 0
+unfolding recordFault meaningFault recordAt
+faultless t rs p n k = rw (k .shape, k .reach, k .served, k .types)
+
+-- checking accepts every checked screen; that it accepts no other is `checked`
+pub checked-accepted :
+    (t rs p : List ℕ) (used root : ℕ) → Checked t rs p used root → checkAnswer t rs p used root ≡ Accepted
+unfolding checkAnswer recordsAnswer firstFault
+checked-accepted t rs p used root k =
+    rw (
+      k .table,
+      k .sizes,
+      lt-ltb root used (k .root-used),
+      first-zero (λ (i : ℕ). recordFault t rs p (node i)) used (λ n h. faultless t rs p n (k .records n h)),
+      k .root-truth,
+    )
 
 -- within the limits
 pub checked-used : (t rs p : List ℕ) (used root : ℕ) → Checked t rs p used root → used ≤ 4096

@@ -16,8 +16,8 @@ use Rattle.records.specs.declared.record.Node.{Node}
 use Rattle.records.specs.declared.record.Record.{Record}
 use Rattle.checking.specs.declared.check.CheckAnswer.{CheckAnswer}
 use Rattle.checking.specs.declared.check.CheckAnswer.the-variants as check
-use Rattle.checking.specs.declared.columns.ColumnsAnswer.{ColumnsAnswer}
-use Rattle.checking.specs.declared.columns.ColumnsAnswer.the-variants as columns
+use Rattle.checking.specs.declared.reads.ColumnsAnswer.{ColumnsAnswer}
+use Rattle.checking.specs.declared.reads.ColumnsAnswer.the-variants as columns
 
 -- of two numbers in a range, a test picks one in it
 pick : (b : Bool) (x y : ℕ) → x ≤ 7 → y ≤ 7 → cond b x y ≤ 7

@@ -1,9 +1,9 @@
 pub mod Sizes
 pub mod Tables
+pub mod Steps
 pub mod Bits
 pub mod Accepted
 pub mod Answers
 pub mod Lists
-mod Types
 mod Others
 mod Cases

@@ -8,7 +8,7 @@ use native.Mathlib.Omega.{arith}
 use lib.ListN.{length}
 use borrow.Author.Tests.{leb-true}
 use Rattle.records.proofs.Laws.{and-left, and-right}
-use Rattle.checking.specs.Check.{sizesOk}
+use Rattle.checking.specs.Check.{typesKnown, tableOk, sizesOk}
 
 pub used-small : (rs p : List ℕ) (used : ℕ) → sizesOk rs p used ≡ true → used ≤ 4096
 unfolding sizesOk
@@ -21,3 +21,7 @@ used-lent rs p used e =
     let h : used ≤ length rs / 16 =
     leb-true used (length rs / 16) (and-left (leb used (length rs / 16)) (eqb (length p % 8) 0 && leb (length p / 8) 8192) f) in
     omega arith
+
+pub table-known : (t : List ℕ) → tableOk t ≡ true → typesKnown t ≡ true
+unfolding tableOk
+table-known t e = and-right (leb (length t) 64) (typesKnown t) e

@@ -12,8 +12,8 @@ use Rattle.records.specs.declared.record.Record.{Record}
 use Rattle.records.specs.declared.record.Record.the-variants as kind
 use Rattle.checking.specs.declared.check.CheckAnswer.{CheckAnswer}
 use Rattle.checking.specs.declared.check.CheckAnswer.the-variants as check
-use Rattle.checking.specs.declared.columns.ColumnsAnswer.{ColumnsAnswer}
-use Rattle.checking.specs.declared.columns.ColumnsAnswer.the-variants as columns
+use Rattle.checking.specs.declared.reads.ColumnsAnswer.{ColumnsAnswer}
+use Rattle.checking.specs.declared.reads.ColumnsAnswer.the-variants as columns
 
 -- bit c of a word
 abbrev pub bit : ℕ → ℕ → Bool

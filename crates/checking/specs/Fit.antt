@@ -1,14 +1,13 @@
 -- Numbers 5, 6 and 7 of 01: what a record asks of the table, of the pool and of the records below it.
 -- t is the column table, rs the records, p the pool.
-use Prim.Native.Nat.{ℕ, _+_, _/_, _<_}
+use Prim.Native.Nat.{ℕ, _+_, _/_}
 use mathlib.Core.List.{List, [], _∷_}
 use mathlib.Core.Bool.{Bool, true, false, cond, not, _&&_}
-use mathlib.Core.Path.{_≡_}
 use lib.ListN.{length, getD}
 use lib.Dec.{ltb, leb, eqb}
 use Rattle.records.specs.Bytes.{valueAt, all}
 use Rattle.records.specs.Operator.{isComparison, isLeftOut}
-use Rattle.records.specs.Record.{node, recordAt, inputs}
+use Rattle.records.specs.Record.{recordAt, inputs}
 use Rattle.records.specs.Shape.{inType}
 use Rattle.records.specs.declared.operator.Operator.{Operator}
 use Rattle.records.specs.declared.record.Node.{Node}
@@ -85,10 +84,6 @@ typeOf t (kind.IsIn equal x list) = 3
 
 unfoldable pub typeAt : List ℕ → List ℕ → Node → ℕ
 typeAt t rs n = typeOf t (recordAt rs n)
-
--- a table with the types of the records below n
-unfoldable pub Typed : List ℕ → List ℕ → List ℕ → ℕ → Type 0
-Typed t rs types n = (a : ℕ) → a < n → getD types a 0 ≡ typeAt t rs (node a)
 
 -- two values of one type
 unfoldable pub sameType : ℕ → ℕ → Bool

@@ -1,4 +1,5 @@
 pub mod Fit
+pub mod Step
 pub mod Check
 pub mod Table
 pub mod Tree

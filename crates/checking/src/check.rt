@@ -1,23 +1,17 @@
 // Checking a screen: limits and table, then records from 0 up, then the root's type. The first fault is the answer.
 ghost use mathlib.Core.Path.{_≡_};
-ghost use Prim.Native.Nat.{_*_, _≤_, _<_};
+ghost use Prim.Native.Nat.{_*_, _≤_, _<_, min};
 ghost use lib.ListN.{length};
-ghost use Rattle.records.specs.Record.{fieldsAt, decode};
-ghost use Rattle.checking.specs.Fit.{Typed};
-ghost use Rattle.checking.specs.Check.{typesKnown, tableOk, sizesOk, meaningFault, recordFault, firstFault};
-ghost use Rattle.checking.specs.Check.{recordsAnswer, checkAnswer};
-use crate::fit::reach_ok;
-use crate::fit::served_ok;
-use crate::fit::type_at;
-use crate::fit::type_of;
-use crate::fit::types_ok;
-use records::record::Fields;
+ghost use mathlib.Core.Bool.{true};
+ghost use Rattle.records.specs.Record.{node};
+ghost use Rattle.checking.specs.Check.{typesKnown, tableOk, sizesOk, firstFault, recordsAnswer, checkAnswer};
+ghost use Rattle.checking.specs.Step.{Entered};
+ghost use Rattle.checking.specs.Tree.{Counted};
+ghost use Rattle.checking.specs.declared.check.CheckAnswer.the-variants.{Accepted};
+use crate::step::record_step;
 use records::record::Node;
-use records::record::Record;
-use records::record::decode_fields;
 use records::record::fields_in;
 use records::shape::known_type;
-use records::shape::shape_ok;
 
 // What checking answers: a refusal with its number, 1 to 7, or that the screen is accepted.
 pub enum CheckAnswer {
@@ -62,90 +56,79 @@ fn sizes_ok(rs: &[u8], p: &[u8], used: u64) -> bool
     false
 }
 
-fn meaning_fault(t: &[u8], rs: &[u8], p: &[u8], types: &[u8], r: Record, n: Node) -> u32
-    requires { ⌜ n .0 < length (now types) ⌝ }
-    requires { ⌜ Typed (now t) (now rs) (now types) (n .0) ⌝ }
-    ensures { λ f. ⌜ f ≡ meaningFault (now (t .entry)) (now (rs .entry)) (now (p .entry)) r n ⌝ }
+// 4,097 for every count above 4,096.
+fn cut(count: u32) -> u16
+    ensures { λ r. ⌜ r ≡ min count 4097 ⌝ }
 {
-    if !reach_ok(t, p, r, n) {
-        return 5;
-    }
-    if !served_ok(rs, r) {
-        return 6;
-    }
-    if !types_ok(types, rs, r, n) {
-        return 7;
-    }
-    0
+    if count < 4097 { count as u16 } else { 4097 }
 }
 
-// The fault of the record n whose fields are f and which decodes to r.
-fn record_fault(t: &[u8], rs: &[u8], p: &[u8], types: &[u8], f: Fields, r: Record, n: Node) -> u32
-    requires { ⌜ n .0 < length (now types) ⌝ }
-    requires { ⌜ Typed (now t) (now rs) (now types) (n .0) ⌝ }
-    requires { ⌜ f ≡ fieldsAt (now rs) n ⌝ }
-    requires { ⌜ r ≡ decode f ⌝ }
-    ensures { λ fault. ⌜ fault ≡ recordFault (now (t .entry)) (now (rs .entry)) (now (p .entry)) n ⌝ }
-{
-    if !shape_ok(f) {
-        return 4;
-    }
-    meaning_fault(t, rs, p, types, r, n)
-}
-
-// The number of the first fault among the records below `used`, or 0. Each record is decoded once; its type stays in
-// a table for the records that name it.
-fn fault_below(t: &[u8], rs: &[u8], p: &[u8], used: u32, types: &mut [u8]) -> u32
+// The number of the first fault among the records below `used`, or 0. Each record is read once; its entry and its tree
+// count stay in tables for the records that name it.
+fn fault_below(t: &[u8], rs: &[u8], p: &[u8], used: u32, types: &mut [u8], trees: &mut [u16]) -> u32
     requires { ⌜ used ≤ length (now types) ⌝ }
+    requires { ⌜ used ≤ length (now trees) ⌝ }
     requires { ⌜ 16 * used ≤ length (now rs) ⌝ }
+    requires { ⌜ typesKnown (now t) ≡ true ⌝ }
     ensures { λ f. ⌜ f ≡ firstFault (now (t .entry)) (now (rs .entry)) (now (p .entry)) used ⌝ }
+    ensures { λ f. ⌜ (f ≡ 0 → Entered (now (t .entry)) (now (rs .entry)) (now (types .exit)) used) ⌝ }
+    ensures { λ f. ⌜ (f ≡ 0 → Counted (now (rs .entry)) (now (trees .exit)) used) ⌝ }
 {
     let mut i: u32 = 0;
     while i < used {
         let f = fields_in(rs, Node(i));
-        let r = decode_fields(f);
-        let fault = record_fault(t, rs, p, types, f, r, Node(i));
-        if fault != 0 {
-            return fault;
+        let s = record_step(t, p, types, trees, f, Node(i));
+        if s.fault != 0 {
+            return s.fault;
         }
-        types[i as usize] = type_of(t, r);
+        types[i as usize] = s.entry;
+        trees[i as usize] = cut(s.tree);
         i += 1;
     }
     0
 }
 
-// Most screens have few records, and a small table costs less to clear.
-fn first_fault(t: &[u8], rs: &[u8], p: &[u8], used: u32) -> u32
-    requires { ⌜ used ≤ 4096 ⌝ }
+fn records_answer(
+    t: &[u8],
+    rs: &[u8],
+    p: &[u8],
+    used: u32,
+    root: u32,
+    types: &mut [u8],
+    trees: &mut [u16],
+) -> CheckAnswer
+    requires { ⌜ used ≤ length (now types) ⌝ }
+    requires { ⌜ used ≤ length (now trees) ⌝ }
     requires { ⌜ 16 * used ≤ length (now rs) ⌝ }
-    ensures { λ f. ⌜ f ≡ firstFault (now (t .entry)) (now (rs .entry)) (now (p .entry)) used ⌝ }
+    requires { ⌜ typesKnown (now t) ≡ true ⌝ }
+    requires { ⌜ root < used ⌝ }
+    ensures { λ a. ⌜ a ≡ recordsAnswer (now (t .entry)) (now (rs .entry)) (now (p .entry)) used (node root) ⌝ }
+    ensures { λ a. ⌜ (a ≡ Accepted → Counted (now (rs .entry)) (now (trees .exit)) used) ⌝ }
 {
-    if used <= 64 {
-        let mut small = [0u8; 64];
-        return fault_below(t, rs, p, used, &mut small);
-    }
-    let mut types = [0u8; 4096];
-    fault_below(t, rs, p, used, &mut types)
-}
-
-fn records_answer(t: &[u8], rs: &[u8], p: &[u8], used: u32, root: Node) -> CheckAnswer
-    requires { ⌜ used ≤ 4096 ⌝ }
-    requires { ⌜ 16 * used ≤ length (now rs) ⌝ }
-    ensures { λ a. ⌜ a ≡ recordsAnswer (now (t .entry)) (now (rs .entry)) (now (p .entry)) used root ⌝ }
-{
-    let f = first_fault(t, rs, p, used);
+    let f = fault_below(t, rs, p, used, types, trees);
     if f != 0 {
         return CheckAnswer::Refused(f);
     }
-    let ty = type_at(t, rs, root);
-    if ty == 3 {
-        return CheckAnswer::Accepted;
+    if types[root as usize] % 4 != 3 {
+        return CheckAnswer::Refused(7);
     }
-    CheckAnswer::Refused(7)
+    CheckAnswer::Accepted
 }
 
-pub fn check_screen(t: &[u8], rs: &[u8], p: &[u8], used: u64, root: u64) -> CheckAnswer
+// Checking, and the tree counts of an accepted screen's records, each 4,097 if above 4,096. `types` is room to work in.
+pub fn check_counted(
+    t: &[u8],
+    rs: &[u8],
+    p: &[u8],
+    used: u64,
+    root: u64,
+    types: &mut [u8],
+    trees: &mut [u16],
+) -> CheckAnswer
+    requires { ⌜ (used ≤ 4096 → used ≤ length (now types)) ⌝ }
+    requires { ⌜ (used ≤ 4096 → used ≤ length (now trees)) ⌝ }
     ensures { λ a. ⌜ a ≡ checkAnswer (now (t .entry)) (now (rs .entry)) (now (p .entry)) used root ⌝ }
+    ensures { λ a. ⌜ (a ≡ Accepted → Counted (now (rs .entry)) (now (trees .exit)) used) ⌝ }
 {
     if !table_ok(t) {
         return CheckAnswer::Refused(1);
@@ -156,5 +139,19 @@ pub fn check_screen(t: &[u8], rs: &[u8], p: &[u8], used: u64, root: u64) -> Chec
     if used <= root {
         return CheckAnswer::Refused(3);
     }
-    records_answer(t, rs, p, used as u32, Node(root as u32))
+    records_answer(t, rs, p, used as u32, root as u32, types, trees)
+}
+
+// Most screens have few records, and small tables cost less to clear.
+pub fn check_screen(t: &[u8], rs: &[u8], p: &[u8], used: u64, root: u64) -> CheckAnswer
+    ensures { λ a. ⌜ a ≡ checkAnswer (now (t .entry)) (now (rs .entry)) (now (p .entry)) used root ⌝ }
+{
+    if used <= 64 {
+        let mut few = [0u8; 64];
+        let mut small = [0u16; 64];
+        return check_counted(t, rs, p, used, root, &mut few, &mut small);
+    }
+    let mut types = [0u8; 4096];
+    let mut trees = [0u16; 4096];
+    check_counted(t, rs, p, used, root, &mut types, &mut trees)
 }

@@ -1,8 +1,8 @@
 // Checking a screen: document 01, 'Answers by operation'.
-// Read in the order of the data's way: what a record asks of the table, the pool and the records below it (fit), the
-// answer of checking, then the two answers that need one pass over all records, the tree count and the columns read.
-// Nothing here writes a lent byte, and no public function asks anything of the bytes it is given.
+// Read in the order of the data's way: a list in the pool (fit), one record from what is known of those below it (step), the
+// answer of checking with the tree counts, then the columns read.
+// Nothing here writes a byte of a screen, and no public answer asks anything of the bytes it is given.
 pub mod check;
-pub mod columns;
+pub mod reads;
 pub mod fit;
-pub mod tree;
+pub mod step;

@@ -16,7 +16,9 @@ use Rattle.columns.specs.declared.column.ColumnConstraints.{ColumnConstraints}
 use Rattle.merge.specs.Collect.{isIn, enter, update}
 use Rattle.rewrite.specs.Walk.{firstOf}
 use Rattle.stages.specs.Rows.{stride, rowOf, RowsKept}
-use Rattle.filter_constraint.specs.State.{pastColumn, columnAt, Shows, Entered, Keeps, Edges, edgesOf}
+use Rattle.filter_constraint.specs.Words.{pastColumn, columnsOf}
+use Rattle.filter_constraint.proofs.Encoding.{columns-size}
+use Rattle.filter_constraint.specs.State.{columnAt, Shows, Fits, Entered, Keeps, Edges, edgesOf}
 
 -- ---- the first entries of an array
 pub first-kept : (a : List ℕ) (i v n : ℕ) → n ≤ i → firstOf (set a i v) n ≡ firstOf a n
@@ -201,3 +203,19 @@ edges-more x y z i a b n l E h la lb =
 -- A column below 64 stands in its own place.
 pub low-slot : (a x : ℕ) → a < 64 → x ≡ a % 64 → x ≡ a
 low-slot a x h e = omega (arith, h, e)
+
+-- ---- the sizes and the numbers behind a stage
+-- A column stored with its row.
+pub fits-set : (cells cells′ ms ms′ : List ℕ) (a : ℕ) (c : ColumnConstraints) → Fits cells ms → a < 64 → RowsKept ms ms′ a
+    → Fine (stride ms′) (rowOf ms′ a) (c .len) → columnsOf cells′ ≡ set (columnsOf cells) a c → length cells′ ≡ length cells
+    → Fits cells′ ms′
+fits-set cells cells′ ms ms′ a c F la K f e l =
+    record {
+      size = l ∙ F .size;
+      narrow = rw (K .size) (F .narrow);
+      fine = λ b lb. subst (λ t. Fine (stride ms′) (rowOf ms′ b) (getD t b pastColumn .len)) (sym e)
+          (by-test (eqb a b)
+          (λ h. rw (← eqb-true a b h, getD-set-same (columnsOf cells) a c pastColumn (rw (columns-size cells) la)) f)
+          (λ h. let d : (b ≡ a → ⊥) = λ p. eqb-false a b h (sym p) in
+          rw (getD-set-other (columnsOf cells) a b c pastColumn d, K .others b lb h, K .size) (F .fine b lb)));
+    }

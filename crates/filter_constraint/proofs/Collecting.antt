@@ -13,15 +13,16 @@ use Rattle.constraints.specs.Column as q
 use Rattle.constraints.specs.Column.{Constraint, Require, add, addAll}
 use Rattle.constraints.specs.Payload.{payload}
 use Rattle.constraints.specs.declared.column.Nullability.the-variants.{NonNull}
-use Rattle.columns.specs.Abstraction.{Conjuncts, Numbered, numbered, columnOf, Fine}
+use Rattle.columns.specs.Abstraction.{Conjuncts, numbered, columnOf, Fine, excludedBy, allowedBy, disallowedBy, gather}
 use Rattle.columns.specs.declared.column.ColumnConstraints.{ColumnConstraints}
 use Rattle.merge.specs.Classify.{Conjunct, Bounds, Equality, Recorded, NonNullPair, Opaque, classify}
-use Rattle.merge.specs.Collect.{Collected, begin, collect, collectOne, enter, update, requireNonNull}
+use Rattle.merge.specs.Collect.{Collected, begin, collect, collectOne, enter, addTo, requireNonNull}
 use Rattle.truth.specs.FromBytes.{aexprOf}
 use Rattle.rewrite.specs.Read.{conjunctIn}
 use Rattle.rewrite.specs.declared.classify.Conjunct as code
 use Rattle.rewrite.specs.Walk.{firstOf}
-use Rattle.filter_constraint.specs.State.{pastColumn, columnAt, Shows, Entered, Keeps, Edges, Collects, collectTo, edgesOf}
+use Rattle.filter_constraint.specs.Words.{pastColumn}
+use Rattle.filter_constraint.specs.State.{Table, Shows, Added, Entered, Keeps, Edges, Collects, collectTo, edgesOf}
 use Rattle.rewrite.proofs.Telling.{fine-same}
 use Rattle.stages.specs.Rows.{stride, rowOf, RowsKept}
 use Rattle.stages.proofs.Lending.{rows-same}
@@ -88,33 +89,31 @@ collect-end R nodes i n b l e h = go b refl
         ap (collectTo R nodes) q
 
 -- ---- before the first conjunct
-pub collect-none : (t : Conjuncts) (ms : List ℕ) (R : ℕ → AExpr ℕ) (nodes : List ℕ) (c : ColumnConstraints)
-    → ((a : List ℕ) → columnOf t (numbered a c) ≡ q.empty) → c .len ≡ 0
-    → Collects t (replicate 64 c) ms (replicate 64 false) (replicate 260 0) 0 (replicate 260 0) 0 (replicate 130 0)
-    (replicate 130 0) (replicate 130 0) 0 0 false (collectTo R nodes 0)
-unfolding collectTo firstOf edgesOf
-collect-none t ms R nodes c e z =
+pub collect-none : (t : Conjuncts) (table : List ColumnConstraints) (ms : List ℕ) (R : ℕ → AExpr ℕ) (nodes : List ℕ)
+    (order kept lefts rights equals : List ℕ) → table ≡ replicate 64 pastColumn → length order ≡ 260 → length kept ≡ 260
+    → length lefts ≡ 130 → length rights ≡ 130 → length equals ≡ 130
+    → Collects t table ms (replicate 64 false) order 0 kept 0 lefts rights equals 0 0 false (collectTo R nodes 0)
+unfolding collectTo firstOf edgesOf excludedBy allowedBy disallowedBy gather
+collect-none t table ms R nodes order kept lefts rights equals e lo lk ll lr le =
     record {
       shows = record {
-        size = length-replicate 64 c;
-        column = λ a h. ap (λ d. columnOf t (numbered (rowOf ms a) d)) (getD-replicate 64 a c pastColumn h)
-            ∙ e (rowOf ms a);
-        fine = λ a h. subst (λ d. Fine (stride ms) (rowOf ms a) (d .len)) (sym (getD-replicate 64 a c pastColumn h))
-            (none a);
+        size = ap length e ∙ length-replicate 64 pastColumn;
+        column = λ a h. ap (λ d. columnOf t (numbered (rowOf ms a) d)) (here a h);
+        fine = λ a h i l. absurd (none a h i l);
       };
       entered = record {
-        order-size = length-replicate {A = ℕ} 260 0;
+        order-size = lo;
         seen-size = length-replicate 64 false;
         listed = refl;
         known = λ a h. getD-replicate 64 a false false h;
         distinct = λ o h. absurd (omega arith);
         low = λ o h. absurd (omega arith);
       };
-      keeping = record { size = length-replicate {A = ℕ} 260 0; listed = refl };
+      keeping = record { size = lk; listed = refl };
       linked = record {
-        left-size = length-replicate {A = ℕ} 130 0;
-        right-size = length-replicate {A = ℕ} 130 0;
-        equal-size = length-replicate {A = ℕ} 130 0;
+        left-size = ll;
+        right-size = lr;
+        equal-size = le;
         listed = refl;
         low-left = λ o h. absurd (omega arith);
         low-right = λ o h. absurd (omega arith);
@@ -123,83 +122,99 @@ collect-none t ms R nodes c e z =
       stops = refl;
     }
   where
-    none : (a : ℕ) → Fine (stride ms) (rowOf ms a) (c .len)
-    none a i h = absurd (omega (arith, h, z))
+    here : (a : ℕ) → a < 64 → getD table a pastColumn ≡ pastColumn
+    here a h = ap (λ l. getD l a pastColumn) e ∙ getD-replicate 64 a pastColumn pastColumn h
+
+    none : (a : ℕ) → a < 64 → (i : ℕ) → i < getD table a pastColumn .len → ⊥
+    none a h i l = let z : getD table a pastColumn .len ≡ 0 = ap (λ d. d .len) (here a h) in omega (arith, l, z)
 
 -- what a conjunct is, once its form in code is known
 pub read-as : (rs p : List ℕ) (n : ℕ) (k k′ : code.Conjunct) → conjunctIn p n k ≡ classify (aexprOf rs p) n → k ≡ k′
     → classify (aexprOf rs p) n ≡ conjunctIn p n k′
 read-as rs p n k k′ e h = sym e ∙ ap (conjunctIn p n) h
 
+-- ---- what the calls for one column give
+pub required : (t : Conjuncts) (table table′ : List ColumnConstraints) (ms : List ℕ) (T : Table) (a x : ℕ)
+    (c r : ColumnConstraints) → Shows t table ms T → a < 64 → x ≡ a % 64 → c ≡ getD table x pastColumn
+    → ((m : List ℕ) → columnOf t (numbered m r) ≡ add payload (Require NonNull) (columnOf t (numbered m c)))
+    → r .len ≡ c .len → table′ ≡ set table x r → Shows t table′ ms (requireNonNull payload a T)
+required t table table′ ms T a x c r S la ex hc er el et =
+    let p : x ≡ a = low-slot a x la ex in
+    let h : c ≡ getD table a pastColumn = hc ∙ ap (λ y. getD table y pastColumn) p in
+    subst (λ u. Shows t u ms (requireNonNull payload a T)) (sym (et ∙ ap (λ y. set table y r) p))
+    (shows-set t table ms ms T a r (add payload (Require NonNull) (T a)) S la (rows-same ms a)
+    (er (rowOf ms a) ∙ ap (λ d. add payload (Require NonNull) (columnOf t (numbered (rowOf ms a) d))) h
+    ∙ ap (add payload (Require NonNull)) (S .column a la))
+    (fine-same (stride ms) (rowOf ms a) (getD table a pastColumn .len) (r .len) (el ∙ ap (λ d. d .len) h) (S .fine a la)))
+
+pub added : (t : Conjuncts) (table table′ : List ColumnConstraints) (ms ms′ : List ℕ) (T : Table) (a x : ℕ)
+    (c r : ColumnConstraints) (l : List (Constraint ℕ)) → Shows t table ms T → a < 64 → x ≡ a % 64
+    → c ≡ getD table x pastColumn
+    → columnOf t (numbered (rowOf ms′ x) r) ≡ addAll payload l (columnOf t (numbered (rowOf ms x) c))
+    → Fine (stride ms′) (rowOf ms′ x) (r .len) → RowsKept ms ms′ x → table′ ≡ set table x r
+    → Added t table′ ms′ a l (r .unsat) T
+added t table table′ ms ms′ T a x c r l S la ex hc er f K et =
+    let p : x ≡ a = low-slot a x la ex in
+    let e : columnOf t (numbered (rowOf ms′ a) r) ≡ addAll payload l (T a) =
+    (rw p at (er ∙ ap (λ d. addAll payload l (columnOf t (numbered (rowOf ms x) d))) hc))
+    ∙ ap (addAll payload l) (S .column a la) in
+    record {
+      shows = subst (λ u. Shows t u ms′ (addTo payload a l T)) (sym (et ∙ ap (λ y. set table y r) p))
+          (shows-set t table ms ms′ T a r (addAll payload l (T a)) S la (rw p at K) e (rw p at f));
+      stops = ap (λ d. d .unsat) e;
+    }
+
+pub entered-at : (order : List ℕ) (columns : ℕ) (seen : List Bool) (l : List ℕ) (a x o : ℕ) → Entered order columns seen l
+    → a < 64 → columns < 260 → x ≡ a % 64 → o ≡ cond (getD seen x false) columns (columns + 1)
+    → Entered (set order columns a) o (set seen x true) (enter a l)
+entered-at order columns seen l a x o E la lc ex eo =
+    let p : x ≡ a = low-slot a x la ex in rw p (entered-more order columns seen l a o E la lc (rw p at eo))
+
 -- ---- one conjunct, by its form
 module _ (t : Conjuncts) (table : List ColumnConstraints) (ms : List ℕ) (seen : List Bool) (order : List ℕ) (columns : ℕ)
     (kept : List ℕ) (keeps : ℕ) (lefts rights equals : List ℕ) (edges bounds : ℕ) (unsat : Bool) (s : Collected ℕ)
-    (C : Collects t table ms seen order columns kept keeps lefts rights equals edges bounds unsat s) (lc : columns + 1 < 260)
+    (C : Collects t table ms seen order columns kept keeps lefts rights equals edges bounds unsat s) (s′ : Collected ℕ)
+    (k : Conjunct ℕ) (es : s′ ≡ collectOne payload k s)
   where
-    -- a column with what it is told
-    told-column : (a : ℕ) (c : Numbered) (l : List (Constraint ℕ)) → a < 64
-        → columnOf t c ≡ addAll payload l (columnOf t (columnAt table ms a))
-        → columnOf t c ≡ addAll payload l (s .constraints a)
-    told-column a c l la e = e ∙ ap (addAll payload l) (C .shows .column a la)
+    pub bounds-turn : (table′ : List ColumnConstraints) (ms′ : List ℕ) (seen′ : List Bool) (order′ : List ℕ) (a o : ℕ)
+        (l : List (Constraint ℕ)) (u : Bool) → k ≡ Bounds a l
+        → ((m : List ℕ) → Entered order columns seen m → Entered order′ o seen′ (enter a m))
+        → ((T : Table) → Shows t table ms T → Added t table′ ms′ a l u T)
+        → Collects t table′ ms′ seen′ order′ o kept keeps lefts rights equals edges (bounds + 1) u s′
+    bounds-turn table′ ms′ seen′ order′ a o l u ek en ad =
+        let A : Added t table′ ms′ a l u (s .constraints) = ad (s .constraints) (C .shows) in
+        subst (Collects t table′ ms′ seen′ order′ o kept keeps lefts rights equals edges (bounds + 1) u)
+        (sym (es ∙ ap (λ m. collectOne payload m s) ek))
+        (record {
+          shows = A .shows;
+          entered = en (s .order) (C .entered);
+          keeping = C .keeping;
+          linked = C .linked;
+          bounded = add-one bounds ∙ ap suc (C .bounded);
+          stops = A .stops;
+        })
 
-    pub bounds-turn : (ms′ : List ℕ) (s′ : Collected ℕ) (a x o : ℕ) (c : ColumnConstraints) (l : List (Constraint ℕ))
-        (k : Conjunct ℕ) → k ≡ (Bounds a l) → s′ ≡ collectOne payload k s → a < 64 → x ≡ a % 64
-        → o ≡ cond (getD seen x false) columns (columns + 1)
-        → columnOf t (numbered (rowOf ms′ x) c) ≡ addAll payload l (columnOf t (columnAt table ms x))
-        → Fine (stride ms′) (rowOf ms′ x) (c .len) → RowsKept ms ms′ x
-        → Collects t (set table x c) ms′ (set seen x true) (set order columns a) o kept keeps lefts rights equals edges
-        (bounds + 1) (c .unsat) s′
-    bounds-turn ms′ s′ a x o c l k ek es la ex eo ec f K =
-        let p : x ≡ a = low-slot a x la ex in
-        subst (Collects t (set table x c) ms′ (set seen x true) (set order columns a) o kept keeps lefts rights equals edges
-        (bounds + 1) (c .unsat)) (sym (es ∙ ap (λ m. collectOne payload m s) ek)) (rw p (go (rw p at eo) (told-column a (numbered (rowOf ms′ a) c) l la (rw p at ec)) (rw p at f) (rw p at K)))
-      where
-        go : o ≡ cond (getD seen a false) columns (columns + 1)
-            → columnOf t (numbered (rowOf ms′ a) c) ≡ addAll payload l (s .constraints a)
-            → Fine (stride ms′) (rowOf ms′ a) (c .len) → RowsKept ms ms′ a
-            → Collects t (set table a c) ms′ (set seen a true) (set order columns a) o kept keeps lefts rights equals edges
-            (bounds + 1) (c .unsat) (collectOne payload (Bounds a l) s)
-        go eo ec f K =
-            record {
-              shows = shows-set t table ms ms′ (s .constraints) a c (addAll payload l (s .constraints a)) (C .shows) la K ec f;
-              entered = entered-more order columns seen (s .order) a o (C .entered) la (omega arith) eo;
-              keeping = C .keeping;
-              linked = C .linked;
-              bounded = add-one bounds ∙ ap suc (C .bounded);
-              stops = ap (λ d. d .unsat) ec;
-            }
+    pub recorded-turn : (table′ : List ColumnConstraints) (ms′ : List ℕ) (seen′ : List Bool) (order′ : List ℕ) (a o n : ℕ)
+        (l : List (Constraint ℕ)) (stops u : Bool) → k ≡ Recorded stops n a l → keeps < 260
+        → ((m : List ℕ) → Entered order columns seen m → Entered order′ o seen′ (enter a m))
+        → ((T : Table) → Shows t table ms T → Added t table′ ms′ a l u T)
+        → Collects t table′ ms′ seen′ order′ o (set kept keeps n) (keeps + 1) lefts rights equals edges bounds (stops && u) s′
+    recorded-turn table′ ms′ seen′ order′ a o n l stops u ek lk en ad =
+        let A : Added t table′ ms′ a l u (s .constraints) = ad (s .constraints) (C .shows) in
+        subst (Collects t table′ ms′ seen′ order′ o (set kept keeps n) (keeps + 1) lefts rights equals edges bounds (stops && u))
+        (sym (es ∙ ap (λ m. collectOne payload m s) ek))
+        (record {
+          shows = A .shows;
+          entered = en (s .order) (C .entered);
+          keeping = keeps-more kept keeps n (s .opaque) lk (C .keeping);
+          linked = C .linked;
+          bounded = C .bounded;
+          stops = ap (λ b. stops && b) (A .stops);
+        })
 
-    pub recorded-turn : (ms′ : List ℕ) (s′ : Collected ℕ) (a x o n : ℕ) (c : ColumnConstraints) (l : List (Constraint ℕ)) (stops : Bool)
-        (k : Conjunct ℕ) → k ≡ (Recorded stops n a l) → s′ ≡ collectOne payload k s → a < 64 → keeps < 260 → x ≡ a % 64
-        → o ≡ cond (getD seen x false) columns (columns + 1)
-        → columnOf t (numbered (rowOf ms′ x) c) ≡ addAll payload l (columnOf t (columnAt table ms x))
-        → Fine (stride ms′) (rowOf ms′ x) (c .len) → RowsKept ms ms′ x
-        → Collects t (set table x c) ms′ (set seen x true) (set order columns a) o (set kept keeps n) (keeps + 1) lefts rights
-        equals edges bounds (stops && c .unsat) s′
-    recorded-turn ms′ s′ a x o n c l stops k ek es la lk ex eo ec f K =
-        let p : x ≡ a = low-slot a x la ex in
-        subst (Collects t (set table x c) ms′ (set seen x true) (set order columns a) o (set kept keeps n) (keeps + 1) lefts
-        rights equals edges bounds (stops && c .unsat)) (sym (es ∙ ap (λ m. collectOne payload m s) ek)) (rw p (go (rw p at eo) (told-column a (numbered (rowOf ms′ a) c) l la (rw p at ec)) (rw p at f) (rw p at K)))
-      where
-        go : o ≡ cond (getD seen a false) columns (columns + 1)
-            → columnOf t (numbered (rowOf ms′ a) c) ≡ addAll payload l (s .constraints a)
-            → Fine (stride ms′) (rowOf ms′ a) (c .len) → RowsKept ms ms′ a
-            → Collects t (set table a c) ms′ (set seen a true) (set order columns a) o (set kept keeps n) (keeps + 1) lefts
-            rights equals edges bounds (stops && c .unsat) (collectOne payload (Recorded stops n a l) s)
-        go eo ec f K =
-            record {
-              shows = shows-set t table ms ms′ (s .constraints) a c (addAll payload l (s .constraints a)) (C .shows) la K ec f;
-              entered = entered-more order columns seen (s .order) a o (C .entered) la (omega arith) eo;
-              keeping = keeps-more kept keeps n (s .opaque) lk (C .keeping);
-              linked = C .linked;
-              bounded = C .bounded;
-              stops = ap (λ d. stops && d .unsat) ec;
-            }
-
-    pub opaque-turn : (s′ : Collected ℕ) (n : ℕ) (k : Conjunct ℕ) → k ≡ Opaque n → s′ ≡ collectOne payload k s → keeps < 260
-        → unsat ≡ false
+    pub opaque-turn : (n : ℕ) → k ≡ Opaque n → keeps < 260 → unsat ≡ false
         → Collects t table ms seen order columns (set kept keeps n) (keeps + 1) lefts rights equals edges bounds unsat s′
-    opaque-turn s′ n k ek es lk h =
+    opaque-turn n ek lk h =
         subst (Collects t table ms seen order columns (set kept keeps n) (keeps + 1) lefts rights equals edges bounds unsat)
         (sym (es ∙ ap (λ m. collectOne payload m s) ek))
         (record {
@@ -212,106 +227,49 @@ module _ (t : Conjuncts) (table : List ColumnConstraints) (ms : List ℕ) (seen 
         })
 
     -- two columns that are not null
-    module _ (a b o o′ : ℕ) (c d : ColumnConstraints) (la : a < 64) (lb : b < 64)
-        (eo : o ≡ cond (getD seen a false) columns (columns + 1))
-        (ec : (m : List ℕ) → columnOf t (numbered m c) ≡ add payload (Require NonNull)
-        (columnOf t (numbered m (getD table a pastColumn))))
-        (fc : Fine (stride ms) (rowOf ms a) (c .len))
-        (eo′ : o′ ≡ cond (getD (set seen a true) b false) o (o + 1))
-        (ed : (m : List ℕ) → columnOf t (numbered m d) ≡ add payload (Require NonNull)
-        (columnOf t (numbered m (getD (set table a c) b pastColumn))))
+    module _ (table₁ table₂ : List ColumnConstraints) (seen₁ seen₂ : List Bool) (order₁ order₂ : List ℕ) (a b o o′ n : ℕ)
+        (h : unsat ≡ false)
+        (en : (m : List ℕ) → Entered order columns seen m → Entered order₁ o seen₁ (enter a m))
+        (ra : (u : Conjuncts) (m : List ℕ) (T : Table) → Shows u table m T → Shows u table₁ m (requireNonNull payload a T))
+        (fn : (m : List ℕ) → Entered order₁ o seen₁ m → Entered order₂ o′ seen₂ (enter b m))
+        (rb : (u : Conjuncts) (m : List ℕ) (T : Table) → Shows u table₁ m T → Shows u table₂ m (requireNonNull payload b T))
       where
-        one-shown : Shows t (set table a c) ms (requireNonNull payload a (s .constraints))
-        one-shown =
-            shows-set t table ms ms (s .constraints) a c (add payload (Require NonNull) (s .constraints a)) (C .shows) la
-            (rows-same ms a) (ec (rowOf ms a) ∙ ap (add payload (Require NonNull)) (C .shows .column a la)) fc
-
-        two-shown : Fine (stride ms) (rowOf ms b) (d .len)
-            → Shows t (set (set table a c) b d) ms (requireNonNull payload b (requireNonNull payload a (s .constraints)))
-        two-shown fd =
-            shows-set t (set table a c) ms ms (requireNonNull payload a (s .constraints)) b d
-            (add payload (Require NonNull) (requireNonNull payload a (s .constraints) b)) one-shown lb (rows-same ms b)
-            (ed (rowOf ms b) ∙ ap (add payload (Require NonNull)) (one-shown .column b lb)) fd
-
-        low-more : o < 260
-        low-more = go (getD seen a false) eo
-          where
-            go : (x : Bool) → o ≡ cond x columns (columns + 1) → o < 260
-            go true e = omega arith
-            go false e = omega arith
-
-        two-entered : Entered (set (set order columns a) o b) o′ (set (set seen a true) b true) (enter b (enter a (s .order)))
-        two-entered =
-            entered-more (set order columns a) o (set seen a true) (enter a (s .order)) b o′
-            (entered-more order columns seen (s .order) a o (C .entered) la (omega arith) eo) lb low-more eo′
-
-        equality-at : Fine (stride ms) (rowOf ms b) (d .len) → (s′ : Collected ℕ) (n : ℕ) → s′ ≡ collectOne payload (Equality a b n) s → edges < 130 → unsat ≡ false
-            → Collects t (set (set table a c) b d) ms (set (set seen a true) b true) (set (set order columns a) o b) o′ kept keeps
-            (set lefts edges a) (set rights edges b) (set equals edges n) (edges + 1) bounds unsat s′
-        equality-at fd s′ n es le h =
-            subst (Collects t (set (set table a c) b d) ms (set (set seen a true) b true) (set (set order columns a) o b) o′ kept
-            keeps (set lefts edges a) (set rights edges b) (set equals edges n) (edges + 1) bounds unsat) (sym es)
+        pub equality-turn : k ≡ Equality a b n → edges < 130 → a < 64 → b < 64
+            → Collects t table₂ ms seen₂ order₂ o′ kept keeps (set lefts edges a) (set rights edges b) (set equals edges n)
+            (edges + 1) bounds unsat s′
+        equality-turn ek le la lb =
+            subst (Collects t table₂ ms seen₂ order₂ o′ kept keeps (set lefts edges a) (set rights edges b) (set equals edges n)
+            (edges + 1) bounds unsat) (sym (es ∙ ap (λ m. collectOne payload m s) ek))
             (record {
-              shows = two-shown fd;
-              entered = two-entered;
+              shows = rb t ms (requireNonNull payload a (s .constraints)) (ra t ms (s .constraints) (C .shows));
+              entered = fn (enter a (s .order)) (en (s .order) (C .entered));
               keeping = C .keeping;
               linked = edges-more lefts rights equals edges a b n (s .edges) (C .linked) le la lb;
               bounded = C .bounded;
               stops = h;
             })
 
-        pair-at : Fine (stride ms) (rowOf ms b) (d .len) → (s′ : Collected ℕ) (n : ℕ) → s′ ≡ collectOne payload (NonNullPair n a b) s → keeps < 260 → unsat ≡ false
-            → Collects t (set (set table a c) b d) ms (set (set seen a true) b true) (set (set order columns a) o b) o′
-            (set kept keeps n) (keeps + 1) lefts rights equals edges bounds unsat s′
-        pair-at fd s′ n es lk h =
-            subst (Collects t (set (set table a c) b d) ms (set (set seen a true) b true) (set (set order columns a) o b) o′
-            (set kept keeps n) (keeps + 1) lefts rights equals edges bounds unsat) (sym es)
+        pub pair-turn : k ≡ NonNullPair n a b → keeps < 260
+            → Collects t table₂ ms seen₂ order₂ o′ (set kept keeps n) (keeps + 1) lefts rights equals edges bounds unsat s′
+        pair-turn ek lk =
+            subst (Collects t table₂ ms seen₂ order₂ o′ (set kept keeps n) (keeps + 1) lefts rights equals edges bounds unsat)
+            (sym (es ∙ ap (λ m. collectOne payload m s) ek))
             (record {
-              shows = two-shown fd;
-              entered = two-entered;
+              shows = rb t ms (requireNonNull payload a (s .constraints)) (ra t ms (s .constraints) (C .shows));
+              entered = fn (enter a (s .order)) (en (s .order) (C .entered));
               keeping = keeps-more kept keeps n (s .opaque) lk (C .keeping);
               linked = C .linked;
               bounded = C .bounded;
               stops = h;
             })
 
-    module _ (s′ : Collected ℕ) (a b x y o o′ n : ℕ) (c d : ColumnConstraints) (k : Conjunct ℕ) (la : a < 64) (lb : b < 64)
-        (ex : x ≡ a % 64) (ey : y ≡ b % 64) (h : unsat ≡ false)
-        (eo : o ≡ cond (getD seen x false) columns (columns + 1))
-        (ec : (m : List ℕ) → columnOf t (numbered m c) ≡ add payload (Require NonNull)
-        (columnOf t (numbered m (getD table x pastColumn))))
-        (sc : c .len ≡ getD table x pastColumn .len)
-        (eo′ : o′ ≡ cond (getD (set seen x true) y false) o (o + 1))
-        (ed : (m : List ℕ) → columnOf t (numbered m d) ≡ add payload (Require NonNull)
-        (columnOf t (numbered m (getD (set table x c) y pastColumn))))
-        (sd : d .len ≡ getD (set table x c) y pastColumn .len)
-      where
-        here : x ≡ a
-        here = low-slot a x la ex
-
-        there : y ≡ b
-        there = low-slot b y lb ey
-
-        fine-c : Fine (stride ms) (rowOf ms a) (c .len)
-        fine-c = fine-same (stride ms) (rowOf ms a) (getD table a pastColumn .len) (c .len) (rw here at sc)
-            (C .shows .fine a la)
-
-        fine-d : Fine (stride ms) (rowOf ms b) (d .len)
-        fine-d =
-            fine-same (stride ms) (rowOf ms b) (getD (set table a c) b pastColumn .len) (d .len) (rw (here, there) at sd)
-            ((one-shown a b o o′ c d la lb (rw here at eo) (rw here at ec) fine-c (rw (here, there) at eo′)
-            (rw (here, there) at ed) .fine b lb))
-
-        pub equality-turn : k ≡ Equality a b n → s′ ≡ collectOne payload k s → edges < 130
-            → Collects t (set (set table x c) y d) ms (set (set seen x true) y true) (set (set order columns a) o b) o′ kept keeps
-            (set lefts edges a) (set rights edges b) (set equals edges n) (edges + 1) bounds unsat s′
-        equality-turn ek es le =
-            rw (here, there) (equality-at a b o o′ c d la lb (rw here at eo) (rw here at ec) fine-c (rw (here, there) at eo′)
-            (rw (here, there) at ed) fine-d s′ n (es ∙ ap (λ m. collectOne payload m s) ek) le h)
-
-        pub pair-turn : k ≡ NonNullPair n a b → s′ ≡ collectOne payload k s → keeps < 260
-            → Collects t (set (set table x c) y d) ms (set (set seen x true) y true) (set (set order columns a) o b) o′
-            (set kept keeps n) (keeps + 1) lefts rights equals edges bounds unsat s′
-        pair-turn ek es lk =
-            rw (here, there) (pair-at a b o o′ c d la lb (rw here at eo) (rw here at ec) fine-c (rw (here, there) at eo′)
-            (rw (here, there) at ed) fine-d s′ n (es ∙ ap (λ m. collectOne payload m s) ek) lk h)
+-- Where reading ended, all is collected.
+pub collected-all : (t : Conjuncts) (table : List ColumnConstraints) (ms : List ℕ) (seen : List Bool) (order : List ℕ) (columns : ℕ)
+    (kept : List ℕ) (keeps : ℕ) (lefts rights equals : List ℕ) (edges bounds : ℕ) (unsat : Bool) (R : ℕ → AExpr ℕ)
+    (nodes : List ℕ) (i n : ℕ)
+    → Collects t table ms seen order columns kept keeps lefts rights equals edges bounds unsat (collectTo R nodes i)
+    → i ≤ n → (ltb i n && not unsat) ≡ false
+    → Collects t table ms seen order columns kept keeps lefts rights equals edges bounds unsat (collectTo R nodes n)
+collected-all t table ms seen order columns kept keeps lefts rights equals edges bounds unsat R nodes i n C l h =
+    subst (Collects t table ms seen order columns kept keeps lefts rights equals edges bounds unsat)
+    (collect-end R nodes i n unsat l (C .stops) h) C

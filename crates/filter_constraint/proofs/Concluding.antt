@@ -23,21 +23,20 @@ use Rattle.merge.specs.Emit.{anyUnsat, comparisons, propagated, resolved, rewri
 use Rattle.merge.specs.Rebuild.{comparisonNodes}
 use Rattle.merge.specs.Write.{writeComparisons, outcomeBytes}
 use Rattle.merge.specs.Rewrite.{writtenIf}
-use Rattle.merge.specs.declared.rewrite.RewriteAnswer.{RewriteAnswer}
-use Rattle.merge.specs.declared.rewrite.RewriteAnswer.the-variants as answer
+use Rattle.merge.specs.declared.answer.RewriteAnswer.{RewriteAnswer}
+use Rattle.merge.specs.declared.answer.RewriteAnswer.the-variants as answer
 use Rattle.rewrite.specs.Walk.{firstOf}
 use Rattle.rewrite.specs.Written.{chainAt, andsTo}
 use Rattle.stages.specs.Reckon.{reckoned, reckonedAnswer}
 use Rattle.stages.specs.Rewritten.{isRewritten}
 use Rattle.stages.specs.Rows.{stride, rowOf}
-use Rattle.filter_constraint.specs.State.{pastColumn, columnAt, Table, Shows, Entered, Keeps, Edges, edgesOf, Collects, collectTo}
-use Rattle.filter_constraint.specs.State.{Passed, Kept, resolveAll, resolvedIn, Resolved, shown, Written}
+use Rattle.filter_constraint.specs.State.{columnAt, Table, Shows, Entered, Keeps, Edges, edgesOf, Collects, collectTo}
+use Rattle.filter_constraint.specs.Words.{pastColumn}
+use Rattle.filter_constraint.specs.State.{Spread, Kept, resolveAll, resolvedIn, Resolved, shown, Written}
 use Rattle.stages.proofs.Answers.{chain-written, chain-unwritten}
 use Rattle.rewrite.proofs.Walks.{first-length}
 use Rattle.filter_constraint.proofs.Arrays.{low-slot}
-use Rattle.filter_constraint.proofs.Collecting.{collect-end}
 use Rattle.stages.proofs.Chains.{chain-bytes, chain-not-empty}
-use Rattle.filter_constraint.proofs.Propagating.{passed-end}
 use Rattle.stages.proofs.Reckons.{ChainRoom, rewritten-room}
 use Rattle.filter_constraint.proofs.Resolving.{comparisons-more, comparisons-upto, comparisons-agree, in-first, same-comparisons}
 
@@ -69,62 +68,52 @@ conclude-stopped R nodes n b e h = stopped (collectTo R nodes n) (sym e ∙ h)
     stopped s h =
         outcome-by s true (rewrites payload s) (ap (λ b. b || anyUnsat (s .order) (resolved payload s)) h) refl
 
--- What was collected where reading ended is all.
-pub ended : (R : ℕ → AExpr ℕ) (nodes : List ℕ) (i n : ℕ) (b : Bool) → i ≤ n → b ≡ collectTo R nodes i .unsat
-    → (ltb i n && not b) ≡ false → outcomeTo R nodes n ≡ conclude payload (collectTo R nodes i)
+pub outcome-is : (R : ℕ → AExpr ℕ) (nodes : List ℕ) (n : ℕ) → outcomeTo R nodes n ≡ conclude payload (collectTo R nodes n)
 unfolding collectTo
-ended R nodes i n b l e h = ap (conclude payload) (sym (collect-end R nodes i n b l e h))
-
-pub ended-stopped : (R : ℕ → AExpr ℕ) (nodes : List ℕ) (i n : ℕ) (b : Bool) → i ≤ n → b ≡ collectTo R nodes i .unsat
-    → (ltb i n && not b) ≡ false → b ≡ true → outcomeTo R nodes n ≡ NothingPasses
-ended-stopped R nodes i n b l e h y =
-    conclude-stopped R nodes n b (e ∙ ap (λ s. s .unsat) (collect-end R nodes i n b l e h)) y
+outcome-is R nodes n = refl
 
 -- ---- The ends of the loops behind collecting.
 module _ (t : Conjuncts) (table₁ table₂ table₃ : List ColumnConstraints) (ms₁ ms₂ ms₃ : List ℕ) (seen : List Bool) (order : List ℕ)
     (columns : ℕ) (kept₁ : List ℕ) (keeps₁ : ℕ) (kept : List ℕ) (keeps : ℕ) (lefts rights equals : List ℕ)
     (edges bounds : ℕ) (stop : Bool) (s : Collected ℕ)
     (C : Collects t table₁ ms₁ seen order columns kept₁ keeps₁ lefts rights equals edges bounds stop s)
-    (p : ℕ) (emitted going : Bool)
-    (passed : (T : Table) → Shows t table₁ ms₁ T
-    → Passed t table₂ ms₂ (edgesOf lefts rights equals edges) columns p emitted going T)
-    (lp : p ≤ columns) (tp : (ltb p columns && going) ≡ false) (e : ℕ) (dropped : Bool) (ee : e ≡ edges)
-    (keeping : (T : Table) (l rights : List ℕ) → Shows t table₂ ms₂ T → Keeps kept₁ keeps₁ l
-    → Kept T (edgesOf lefts rights equals e) kept keeps dropped l)
-    (o : ℕ) (unsat : Bool) (total : ℕ) (eo : o ≡ columns)
-    (resolving : (T : Table) → Shows t table₂ ms₂ T → Resolved t table₃ ms₃ (firstOf order o) stop unsat total T) where
+    (live : stop ≡ false) (emitted : Bool) (passes : ℕ)
+    (spread : (T : Table) (equals : List ℕ) → Shows t table₁ ms₁ T
+    → Spread t table₂ ms₂ (edgesOf lefts rights equals edges) columns emitted passes T)
+    (dropped : Bool)
+    (keeping : (u : Conjuncts) (m : List ℕ) (T : Table) (l rights : List ℕ) → Shows u table₂ m T → Keeps kept₁ keeps₁ l
+    → Kept T (edgesOf lefts rights equals edges) kept keeps dropped l)
+    (unsat : Bool) (total : ℕ)
+    (resolving : (T : Table) → Shows t table₂ ms₂ T → Resolved t table₃ ms₃ (firstOf order columns) false unsat total T) where
   columns-are : columns ≡ length (s .order)
   columns-are = sym (first-length order columns) ∙ ap length (C .entered .listed)
 
-  at-end : Shows t table₂ ms₂ (propagate payload columns (edgesOf lefts rights equals edges) (s .constraints))
-      × (emitted ≡ propagateEmitted payload columns (edgesOf lefts rights equals edges) (s .constraints))
-  at-end =
-      passed-end t table₂ ms₂ (edgesOf lefts rights equals edges) columns p emitted going (s .constraints) lp tp
-      (passed (s .constraints) (C .shows))
+  at-end : Spread t table₂ ms₂ (edgesOf lefts rights equals edges) columns emitted passes (s .constraints)
+  at-end = spread (s .constraints) equals (C .shows)
 
   spread-shown : Shows t table₂ ms₂ (propagated payload s)
   spread-shown =
       subst (Shows t table₂ ms₂)
       (ap (λ k. propagate payload k (edgesOf lefts rights equals edges) (s .constraints)) columns-are
-      ∙ ap (λ es. propagate payload (length (s .order)) es (s .constraints)) (C .linked .listed)) (at-end .0)
+      ∙ ap (λ es. propagate payload (length (s .order)) es (s .constraints)) (C .linked .listed)) (at-end .shows)
 
   spread-emitted : emitted ≡ propagateEmitted payload (length (s .order)) (s .edges) (s .constraints)
   spread-emitted =
-      at-end .1
+      at-end .emits
       ∙ ap (λ k. propagateEmitted payload k (edgesOf lefts rights equals edges) (s .constraints)) columns-are
       ∙ ap (λ es. propagateEmitted payload (length (s .order)) es (s .constraints)) (C .linked .listed)
 
-  K : Kept (propagated payload s) (edgesOf lefts rights equals e) kept keeps dropped (s .opaque)
-  K = keeping (propagated payload s) (s .opaque) rights spread-shown (C .keeping)
+  K : Kept (propagated payload s) (edgesOf lefts rights equals edges) kept keeps dropped (s .opaque)
+  K = keeping t ms₂ (propagated payload s) (s .opaque) rights spread-shown (C .keeping)
 
-  Q : Resolved t table₃ ms₃ (firstOf order o) stop unsat total (propagated payload s)
+  Q : Resolved t table₃ ms₃ (firstOf order columns) false unsat total (propagated payload s)
   Q = resolving (propagated payload s) spread-shown
 
-  edges-are : edgesOf lefts rights equals e ≡ s .edges
-  edges-are = ap (edgesOf lefts rights equals) ee ∙ C .linked .listed
+  edges-are : edgesOf lefts rights equals edges ≡ s .edges
+  edges-are = C .linked .listed
 
-  order-is : firstOf order o ≡ s .order
-  order-is = ap (firstOf order) eo ∙ C .entered .listed
+  order-is : firstOf order columns ≡ s .order
+  order-is = C .entered .listed
 
   kept-are : firstOf kept keeps ≡ s .opaque ++ keptEqualities payload (propagated payload s) (s .edges)
   kept-are = K .keeping .listed ∙ ap (λ es. s .opaque ++ keptEqualities payload (propagated payload s) es) edges-are
@@ -134,8 +123,8 @@ module _ (t : Conjuncts) (table₁ table₂ table₃ : List ColumnConstraints) (
 
   unsat-is : unsat ≡ (s .unsat || anyUnsat (s .order) (resolved payload s))
   unsat-is =
-      Q .stops ∙ ap (λ l. stop || anyUnsat l (resolved payload s)) order-is
-      ∙ ap (λ b. b || anyUnsat (s .order) (resolved payload s)) (C .stops)
+      Q .stops ∙ ap (λ l. anyUnsat l (resolved payload s)) order-is
+      ∙ ap (λ b. b || anyUnsat (s .order) (resolved payload s)) (sym live ∙ C .stops)
 
   -- what the array of resolved columns is written out as
   written-comparisons :
@@ -145,7 +134,7 @@ module _ (t : Conjuncts) (table₁ table₂ table₃ : List ColumnConstraints) (
       comparisons-agree order (shown t table₃ ms₃) (resolved payload s) columns
       (λ w h. Q .shows .column (getD order w 0) (C .entered .low w h)
       ∙ ap (λ b. cond b (resolved payload s (getD order w 0)) (propagated payload s (getD order w 0)))
-      (in-first order w o (rw eo h)))
+      (in-first order w columns h))
       ∙ ap (λ l. comparisons payload l (resolved payload s)) (C .entered .listed)
 
   resolved-count : total ≡ length (comparisons payload (s .order) (resolved payload s))
@@ -231,61 +220,37 @@ module _ (t rs trees : List ℕ) (used : ℕ) (kept : List ℕ) (keeps total : �
         some : 0 < length (firstOf kept keeps) + length cs
         some = rw (← et) (room .some)
 
--- Room for the comparisons of one column of those that are still to be written.
-pub column-room :
-    (t : List ℕ) (used : ℕ) (order : List ℕ) (w columns : ℕ) (T : Table) (sent rs : List ℕ) (u total keeps : ℕ)
-    → w < columns → Written t used sent (comparisons payload (firstOf order w) T) u rs
-    → total ≡ length (comparisons payload (firstOf order columns) T)
-    → (used + 3 * total + (keeps + total - 1) ≤ 4096) × (16 * (used + 3 * total + (keeps + total - 1)) ≤ length sent)
-    × (0 < keeps + total)
-    → (u ≤ 4096) × (16 * (u + 3 * length (collectColumnComparisons payload (T (getD order w 0)))) ≤ length rs)
-column-room t used order w columns T sent rs u total keeps l W et room =
-    let d : w + 1 + (columns - (w + 1)) ≡ columns = omega (arith, l) in
-    let m = comparisons-more order w T in
-    let n : length (comparisons payload (firstOf order (w + 1)) T) ≤ length (comparisons payload (firstOf order columns) T) =
-    subst (λ k. length (comparisons payload (firstOf order (w + 1)) T) ≤ length (comparisons payload (firstOf order k) T)) d
-    (comparisons-upto order T (w + 1) (columns - (w + 1))) in
-    let e = W .end in
-    let z = W .size in
-    let a = room .0 in
-    let b = room .1 in
-    (omega (arith, e, et, m, n, a), omega (arith, e, z, et, m, n, b))
+-- The comparisons read kinds and values only.
+comparisons-same : (s s′ : Conjuncts) (table : List ColumnConstraints) (ms : List ℕ) (l : List ℕ) → s .kinds ≡ s′ .kinds
+    → s .values ≡ s′ .values → comparisons payload l (shown s table ms) ≡ comparisons payload l (shown s′ table ms)
+comparisons-same s s′ table ms [] ek ev = refl
+comparisons-same s s′ table ms (a ∷ l) ek ev =
+    ap (λ k. ofColumn a k ++ comparisons payload l (shown s table ms)) (same-comparisons s s′ (columnAt table ms a) ek ev)
+    ∙ ap (λ k. ofColumn a (collectColumnComparisons payload (shown s′ table ms a)) ++ k) (comparisons-same s s′ table ms l ek ev)
 
--- What `write_column` asks for the column at place x of the array.
-pub column-asked :
-    (t : List ℕ) (used : ℕ) (order : List ℕ) (w columns : ℕ) (s : Conjuncts) (table : List ColumnConstraints)
-    (ms sent rs : List ℕ) (u total keeps x : ℕ)
-    → w < columns → getD order w 0 < 64 → x ≡ getD order w 0 % 64
-    → Written t used sent (comparisons payload (firstOf order w) (shown s table ms)) u rs
+-- What `write_comparisons` asks.
+pub room-asked : (s s′ : Conjuncts) (table : List ColumnConstraints) (ms order : List ℕ) (columns used total keeps len : ℕ)
     → total ≡ length (comparisons payload (firstOf order columns) (shown s table ms))
-    → (used + 3 * total + (keeps + total - 1) ≤ 4096) × (16 * (used + 3 * total + (keeps + total - 1)) ≤ length sent)
-    × (0 < keeps + total)
-    → (u ≤ 4096) × ((s′ : Conjuncts) → s′ .kinds ≡ s .kinds → s′ .values ≡ s .values
-    → 16 * (u + 3 * length (collectColumnComparisons payload (columnOf s′ (columnAt table ms x)))) ≤ length rs)
-column-asked t used order w columns s table ms sent rs u total keeps x l la ex W et room =
-    let r = column-room t used order w columns (shown s table ms) sent rs u total keeps l W et room in
-    let p : x ≡ getD order w 0 = low-slot (getD order w 0) x la ex in
-    (r .0, λ s′ ek ev. rw (p, same-comparisons s′ s (columnAt table ms (getD order w 0)) ek ev) (r .1))
-
--- All columns written.
-pub written-all : (t : List ℕ) (used : ℕ) (order : List ℕ) (w columns : ℕ) (T : Table) (sent rs : List ℕ) (u : ℕ)
-    → w ≡ columns → Written t used sent (comparisons payload (firstOf order w) T) u rs
-    → Written t used sent (comparisons payload (firstOf order columns) T) u rs
-written-all t used order w columns T sent rs u e W =
-    subst (λ k. Written t used sent (comparisons payload (firstOf order k) T) u rs) e W
+    → (used + 3 * total + (keeps + total - 1) ≤ 4096) × (16 * (used + 3 * total + (keeps + total - 1)) ≤ len)
+    × (0 < keeps + total) → s′ .kinds ≡ s .kinds → s′ .values ≡ s .values
+    → (used + 3 * length (comparisons payload (firstOf order columns) (shown s′ table ms)) ≤ 4096)
+    × (16 * (used + 3 * length (comparisons payload (firstOf order columns) (shown s′ table ms))) ≤ len)
+room-asked s s′ table ms order columns used total keeps len et room ek ev =
+    let e : total ≡ length (comparisons payload (firstOf order columns) (shown s′ table ms)) =
+    et ∙ ap length (sym (comparisons-same s′ s table ms (firstOf order columns) ek ev)) in
+    let a = room .0 in
+    let b = room .1 in (omega (arith, e, a), omega (arith, e, b))
 
 -- What `write_ands` asks.
 pub ands-asked :
-    (t : List ℕ) (used : ℕ) (order : List ℕ) (w columns : ℕ) (T : Table) (sent rs : List ℕ) (u total keeps : ℕ)
-    → w ≡ columns → Written t used sent (comparisons payload (firstOf order w) T) u rs
-    → total ≡ length (comparisons payload (firstOf order columns) T)
+    (t : List ℕ) (used : ℕ) (cs : List (ℕ × ColumnComparison ℕ)) (sent rs : List ℕ) (u total keeps : ℕ)
+    → Written t used sent cs u rs → total ≡ length cs
     → (used + 3 * total + (keeps + total - 1) ≤ 4096) × (16 * (used + 3 * total + (keeps + total - 1)) ≤ length sent)
     × (0 < keeps + total)
     → (u + (keeps + total) ≤ 4097) × (16 * (u + (keeps + total)) ≤ length rs + 16)
-ands-asked t used order w columns T sent rs u total keeps ew W et room =
-    let a = written-all t used order w columns T sent rs u ew W in
-    let e = a .end in
-    let z = a .size in
+ands-asked t used cs sent rs u total keeps W et room =
+    let e = W .end in
+    let z = W .size in
     let x = room .0 in
     let y = room .1 in
     let v = room .2 in

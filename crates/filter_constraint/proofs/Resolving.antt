@@ -4,7 +4,7 @@ use mathlib.Core.Path.{_≡_, refl, sym, _∙_, ap, subst}
 use mathlib.Core.Bool.{Bool, true, false, cond, _||_, or-true, or-false}
 use mathlib.Core.List.{List, [], _∷_, _++_, append-nil, map}
 use mathlib.Core.Option.{Option, none, some}
-use Prim.Native.Nat.{ℕ, zero, suc, _+_, _*_, _<_, _≤_, _%_}
+use Prim.Native.Nat.{ℕ, zero, suc, _+_, _-_, _*_, _<_, _≤_, _%_}
 use native.Mathlib.Omega.{arith}
 use native.Mathlib.Numerals.{add-one}
 use lib.ListN.{length, getD, set, length-append}
@@ -25,7 +25,8 @@ use Rattle.merge.specs.Emit.{ofColumn, anyUnsat, comparisons}
 use Rattle.merge.specs.Write.{writeComparison, writeComparisons}
 use Rattle.rewrite.specs.Walk.{firstOf}
 use Rattle.stages.specs.Rows.{stride, rowOf, RowsKept}
-use Rattle.filter_constraint.specs.State.{pastColumn, columnAt, Table, Shows, resolveAll, resolvedIn, Resolved, shown, Written}
+use Rattle.filter_constraint.specs.Words.{pastColumn}
+use Rattle.filter_constraint.specs.State.{columnAt, Table, Shows, resolveAll, resolvedIn, Resolved, shown, Written}
 use Rattle.stages.proofs.Emitting.{of-column-length, write-append}
 use Rattle.filter_constraint.proofs.Arrays.{shows-set, is-in-snoc, low-slot}
 use Rattle.filter_constraint.proofs.Propagating.{or-assoc}
@@ -267,3 +268,62 @@ same-comparisons s s′ c ek ev = go (fixedAt payload (columnOf s c .lower) (col
     go : (o : Option ℕ) → collectBy o (columnOf s c) ≡ collectBy o (columnOf s′ c)
     go (some v) = refl
     go none = rw (ek, ev)
+
+-- ---- the same, as the code has it: c₀ is the column loaded, table′ what is stored
+pub resolved-stored : (t : Conjuncts) (table table′ : List ColumnConstraints) (ms ms′ : List ℕ) (order : List ℕ) (o : ℕ)
+    (held unsat : Bool) (total : ℕ) (T : Table) (x : ℕ) (c₀ c : ColumnConstraints) (k : ℕ)
+    → Resolved t table ms (firstOf order o) held unsat total T → getD order o 0 < 64
+    → isIn (getD order o 0) (firstOf order o) ≡ false → x ≡ getD order o 0 % 64 → c₀ ≡ getD table x pastColumn
+    → columnOf t (numbered (rowOf ms′ x) c) ≡ resolveDeferred payload (columnOf t (numbered (rowOf ms x) c₀))
+    → Fine (stride ms′) (rowOf ms′ x) (c .len) → RowsKept ms ms′ x
+    → k ≡ length (collectColumnComparisons payload (columnOf t (numbered (rowOf ms′ x) c))) → table′ ≡ set table x c
+    → Resolved t table′ ms′ (firstOf order (o + 1)) held (unsat || c .unsat) (total + k) T
+resolved-stored t table table′ ms ms′ order o held unsat total T x c₀ c k P la new ex hc ec f K ek et =
+    subst (λ u. Resolved t u ms′ (firstOf order (o + 1)) held (unsat || c .unsat) (total + k) T) (sym et)
+    (resolved-more t table ms ms′ order o held unsat total T P x c k la new ex
+    (ec ∙ ap (λ d. resolveDeferred payload (columnOf t (numbered (rowOf ms x) d))) hc) f K ek)
+
+-- What `write_row` asks of the column loaded from place x.
+pub row-asked :
+    (t : List ℕ) (used : ℕ) (order : List ℕ) (w columns : ℕ) (s : Conjuncts) (table : List ColumnConstraints)
+    (ms sent rs : List ℕ) (u x : ℕ) (c : ColumnConstraints)
+    → w < columns → getD order w 0 < 64 → x ≡ getD order w 0 % 64 → c ≡ getD table x pastColumn
+    → Written t used sent (comparisons payload (firstOf order w) (shown s table ms)) u rs
+    → (used + 3 * length (comparisons payload (firstOf order columns) (shown s table ms)) ≤ 4096)
+    × (16 * (used + 3 * length (comparisons payload (firstOf order columns) (shown s table ms))) ≤ length sent)
+    → (u ≤ 4096) × ((s′ : Conjuncts) → s′ .kinds ≡ s .kinds → s′ .values ≡ s .values
+    → 16 * (u + 3 * length (collectColumnComparisons payload (columnOf s′ (numbered (rowOf ms x) c)))) ≤ length rs)
+row-asked t used order w columns s table ms sent rs u x c l la ex hc W room =
+    let T : Table = shown s table ms in
+    let d : w + 1 + (columns - (w + 1)) ≡ columns = omega (arith, l) in
+    let m = comparisons-more order w T in
+    let n : length (comparisons payload (firstOf order (w + 1)) T) ≤ length (comparisons payload (firstOf order columns) T) =
+    subst (λ k. length (comparisons payload (firstOf order (w + 1)) T) ≤ length (comparisons payload (firstOf order k) T)) d
+    (comparisons-upto order T (w + 1) (columns - (w + 1))) in
+    let e = W .end in
+    let z = W .size in
+    let a = room .0 in
+    let b = room .1 in
+    let p : x ≡ getD order w 0 = low-slot (getD order w 0) x la ex in
+    let g : 16 * (u + 3 * length (collectColumnComparisons payload (T (getD order w 0)))) ≤ length rs =
+    omega (arith, e, z, m, n, b) in
+    let h : c ≡ getD table (getD order w 0) pastColumn = hc ∙ ap (λ y. getD table y pastColumn) p in (
+      omega (arith, e, m, n, a),
+      λ s′ ek ev. rw (p, h, same-comparisons s′ s (columnAt table ms (getD order w 0)) ek ev) g,
+    )
+
+pub written-loaded :
+    (t : List ℕ) (used : ℕ) (order : List ℕ) (w : ℕ) (s : Conjuncts) (table : List ColumnConstraints) (ms : List ℕ)
+    (x u u′ : ℕ) (rs₀ rs rs′ : List ℕ) (c : ColumnConstraints)
+    → Written t used rs₀ (comparisons payload (firstOf order w) (shown s table ms)) u rs
+    → getD order w 0 < 64 → x ≡ getD order w 0 % 64 → c ≡ getD table x pastColumn
+    → u′ ≡ u + 3 * length (collectColumnComparisons payload (columnOf s (numbered (rowOf ms x) c)))
+    → rs′ ≡ writeComparisons t u (ofColumn (getD order w 0) (collectColumnComparisons payload
+    (columnOf s (numbered (rowOf ms x) c)))) rs
+    → length rs′ ≡ length rs
+    → Written t used rs₀ (comparisons payload (firstOf order (w + 1)) (shown s table ms)) u′ rs′
+written-loaded t used order w s table ms x u u′ rs₀ rs rs′ c W la ex hc eu er el =
+    written-more t used order w s table ms x u u′ rs₀ rs rs′ W la ex
+    (eu ∙ ap (λ d. u + 3 * length (collectColumnComparisons payload (columnOf s (numbered (rowOf ms x) d)))) hc)
+    (er ∙ ap (λ d. writeComparisons t u (ofColumn (getD order w 0) (collectColumnComparisons payload
+    (columnOf s (numbered (rowOf ms x) d)))) rs) hc) el

@@ -1,38 +1,25 @@
--- What the arrays of the merging hold: the tables and lists of `Collected`, Propagate and Emit.
-use Rattle.merge.specs.Classify.{classify}
-use Rattle.merge.specs.Passes.{passTimes}
+-- What the slices of the merging stand for: the tables and lists of `Collected`, Propagate and Emit.
 use mathlib.Core.Path.{_≡_}
 use mathlib.Core.Bool.{Bool, true, false, cond, _||_}
 use mathlib.Core.List.{List, [], _∷_, _++_, map}
-use Prim.Native.Nat.{ℕ, zero, suc, _+_, _-_, _*_, _<_}
+use Prim.Native.Nat.{ℕ, zero, suc, _+_, _-_, _*_, _<_, _≤_}
 use lib.ListN.{length, getD}
 use Rattle.truth.specs.AExpr.{AExpr}
 use Rattle.constraints.specs.Column as q
 use Rattle.constraints.specs.Comparisons.{ColumnComparison}
 use Rattle.constraints.specs.Payload.{payload}
 use Rattle.constraints.specs.Resolve.{resolveDeferred}
-use Rattle.constraints.specs.declared.column.Nullability.the-variants.{Unconstrained}
 use Rattle.columns.specs.Abstraction.{Conjuncts, Numbered, numbered, columnOf, Fine}
-use Rattle.columns.specs.declared.bound.Bound.the-variants.{Absent}
 use Rattle.columns.specs.declared.column.ColumnConstraints.{ColumnConstraints}
-use Rattle.merge.specs.Collect.{Collected, begin, collect, isIn}
-use Rattle.merge.specs.Propagate.{pass, passAny, passEmitted, propagate, propagateEmitted}
+use Rattle.merge.specs.Classify.{classify}
+use Rattle.merge.specs.Collect.{Collected, begin, collect, isIn, addTo}
 use Rattle.merge.specs.Emit.{keptEqualities, droppedEquality, anyUnsat, comparisons}
+use Rattle.merge.specs.Passes.{passTimes, passCount}
+use Rattle.merge.specs.Propagate.{mergeEdge, edgeAny, edgeEmitted, pass, passAny, passEmitted, propagate, propagateEmitted}
 use Rattle.merge.specs.Write.{writeComparisons}
 use Rattle.rewrite.specs.Walk.{firstOf}
 use Rattle.stages.specs.Rows.{stride, rowOf}
-
--- What a read past an array of columns gives.
-abbrev pub pastColumn : ColumnConstraints
-pastColumn =
-    record {
-      lower = Absent;
-      upper = Absent;
-      len = 0;
-      strict = false;
-      nullability = Unconstrained;
-      unsat = false;
-    }
+use Rattle.filter_constraint.specs.Words.{pastColumn, columnsOf}
 
 abbrev pub Table : Type 0
 Table = ℕ → q.ColumnConstraints ℕ
@@ -47,6 +34,12 @@ pub record Shows (t : Conjuncts) (table : List ColumnConstraints) (marks : List 
   pub size : length table ≡ 64
   pub column : (a : ℕ) → a < 64 → columnOf t (columnAt table marks a) ≡ T a
   pub fine : (a : ℕ) → a < 64 → Fine (stride marks) (rowOf marks a) (getD table a pastColumn .len)
+
+-- What every stage asks of the words and the numbers, and leaves: the sizes, and fine numbers in every row.
+pub record Fits (cells marks : List ℕ) : Type 0 where
+  pub size : length cells ≡ 512
+  pub narrow : stride marks ≤ 128
+  pub fine : (a : ℕ) → a < 64 → Fine (stride marks) (rowOf marks a) (getD (columnsOf cells) a pastColumn .len)
 
 -- The columns that entered, in their order, and a flag for each that did.
 pub record Entered (order : List ℕ) (columns : ℕ) (seen : List Bool) (l : List ℕ) : Type 0 where
@@ -76,6 +69,10 @@ pub record Edges (lefts rights equals : List ℕ) (edges : ℕ) (l : List (ℕ �
   pub low-left : (e : ℕ) → e < edges → getD lefts e 0 < 64
   pub low-right : (e : ℕ) → e < edges → getD rights e 0 < 64
 
+-- The columns of the first n edges have a place in the table.
+abbrev pub EdgesBelow : List ℕ → List ℕ → ℕ → Type 0
+EdgesBelow lefts rights n = (e : ℕ) → e < n → (getD lefts e 0 < 64) × (getD rights e 0 < 64)
+
 -- ---- Collect: the arrays stand for what was collected.
 pub record Collects (t : Conjuncts) (table : List ColumnConstraints) (marks : List ℕ) (seen : List Bool) (order : List ℕ) (columns : ℕ)
     (kept : List ℕ) (keeps : ℕ) (lefts rights equals : List ℕ) (edges bounds : ℕ) (unsat : Bool)
@@ -91,11 +88,24 @@ pub record Collects (t : Conjuncts) (table : List ColumnConstraints) (marks : Li
 unfoldable pub collectTo : (ℕ → AExpr ℕ) → List ℕ → ℕ → Collected ℕ
 collectTo R nodes i = collect payload (map (classify R) (firstOf nodes i)) begin
 
--- ---- Propagate: a pass as far as its edges es, over the table that the array stood for when it began.
-pub record Merged (t : Conjuncts) (table : List ColumnConstraints) (marks : List ℕ) (es : List (ℕ × ℕ × ℕ)) (held emitted any : Bool)
+-- One column with what it is told, over the table that the array stood for; whether the column is then impossible.
+pub record Added (t : Conjuncts) (table : List ColumnConstraints) (marks : List ℕ) (a : ℕ) (l : List (q.Constraint ℕ))
+    (unsat : Bool) (T : ℕ → q.ColumnConstraints ℕ) : Type 0 where
+  pub shows : Shows t table marks (addTo payload a l T)
+  pub stops : unsat ≡ q.addAll payload l (T a) .unsat
+
+-- ---- Propagate: one edge, over the table that the array stood for.
+pub record EdgeMerged (t : Conjuncts) (table : List ColumnConstraints) (marks : List ℕ) (a b : ℕ) (emitted any : Bool)
+    (T : ℕ → q.ColumnConstraints ℕ) : Type 0 where
+  pub shows : Shows t table marks (mergeEdge payload a b T)
+  pub emits : emitted ≡ edgeEmitted payload a b T
+  pub changes : any ≡ edgeAny payload a b T
+
+-- A pass as far as its edges es, over the table that the array stood for when it began.
+pub record Merged (t : Conjuncts) (table : List ColumnConstraints) (marks : List ℕ) (es : List (ℕ × ℕ × ℕ)) (emitted any : Bool)
     (T : ℕ → q.ColumnConstraints ℕ) : Type 0 where
   pub shows : Shows t table marks (pass payload es T)
-  pub emits : emitted ≡ (held || passEmitted payload es T)
+  pub emits : emitted ≡ passEmitted payload es T
   pub changes : any ≡ passAny payload es T
 
 -- After p passes of at most n; what is left to do gives what all give.
@@ -108,6 +118,15 @@ pub record Passed (t : Conjuncts) (table : List ColumnConstraints) (marks : List
   pub emits :
       (emitted || cond going (propagateEmitted payload (n - p) es (passTimes payload p es T)) false) ≡
       propagateEmitted payload n es T
+  pub counts :
+      p + cond going (passCount payload (n - p) es (passTimes payload p es T)) 0 ≡ passCount payload n es T
+
+-- All passes of at most n.
+pub record Spread (t : Conjuncts) (table : List ColumnConstraints) (marks : List ℕ) (es : List (ℕ × ℕ × ℕ)) (n : ℕ)
+    (emitted : Bool) (passes : ℕ) (T : ℕ → q.ColumnConstraints ℕ) : Type 0 where
+  pub shows : Shows t table marks (propagate payload n es T)
+  pub emits : emitted ≡ propagateEmitted payload n es T
+  pub counts : passes ≡ passCount payload n es T
 
 -- ---- The kept equalities, as far as the edges es.
 pub record Kept (table : ℕ → q.ColumnConstraints ℕ) (es : List (ℕ × ℕ × ℕ)) (kept : List ℕ) (keeps : ℕ)

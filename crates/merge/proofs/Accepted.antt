@@ -12,39 +12,50 @@ use Rattle.records.specs.declared.operator.Operator.{Operator}
 use Rattle.records.specs.declared.operator.Operator.the-variants as operator
 use Rattle.records.specs.declared.record.Record.{Record}
 use Rattle.records.specs.declared.record.Record.the-variants as kind
-use Rattle.truth.specs.AExpr.{Missing, Inputs, WF}
+use Rattle.records.specs.Operator.{isComparison}
+use Rattle.truth.specs.Comparison.{Comparison, Eq, NotEq, Lt, LtEq, Gt, GtEq}
+use Rattle.truth.specs.AExpr.{AExpr, BinaryExpr, Missing, Inputs, WF}
+use Rattle.truth.specs.AExpr.{BinaryOp, Compare, EqValidity, NotEqValidity, And, Or, Xor, LogicalAnd, LogicalOr}
 use Rattle.truth.specs.FromBytes.{binaryExpr, toAExpr, aexprOf, aexprAt}
 
-binary-inputs : (n : ℕ) (o : Operator) (x y : ℕ) → (x < n) × (y < n) → Inputs n (binaryExpr o x y)
-binary-inputs n operator.Eq x y h = h
-binary-inputs n operator.EqValidity x y h = h
-binary-inputs n operator.NotEq x y h = h
-binary-inputs n operator.NotEqValidity x y h = h
-binary-inputs n operator.Lt x y h = h
-binary-inputs n operator.LtEq x y h = h
-binary-inputs n operator.Gt x y h = h
-binary-inputs n operator.GtEq x y h = h
-binary-inputs n operator.Plus x y h = tt
-binary-inputs n operator.Minus x y h = tt
-binary-inputs n operator.Multiply x y h = tt
-binary-inputs n operator.RustDivide x y h = tt
-binary-inputs n operator.TrueDivide x y h = tt
-binary-inputs n operator.FloorDivide x y h = tt
-binary-inputs n operator.Modulus x y h = tt
-binary-inputs n operator.And x y h = h
-binary-inputs n operator.Or x y h = h
-binary-inputs n operator.Xor x y h = h
-binary-inputs n operator.LogicalAnd x y h = h
-binary-inputs n operator.LogicalOr x y h = h
+-- What holds of a binary record of every operator: by what the operator takes, values or Truths.
+pub binary-ind :
+    (C : AExpr ℕ → Type 0) (x y : ℕ) → C Missing → (o : Operator) →
+    (isComparison o ≡ true → (c : Comparison) → C (BinaryExpr (Compare c) x y)) →
+    (isComparison o ≡ true → C (BinaryExpr EqValidity x y) × C (BinaryExpr NotEqValidity x y)) →
+    (isComparison o ≡ false → (b : BinaryOp) → C (BinaryExpr b x y)) → C (binaryExpr o x y)
+binary-ind C x y m operator.Eq v w l = v refl Eq
+binary-ind C x y m operator.EqValidity v w l = w refl .0
+binary-ind C x y m operator.NotEq v w l = v refl NotEq
+binary-ind C x y m operator.NotEqValidity v w l = w refl .1
+binary-ind C x y m operator.Lt v w l = v refl Lt
+binary-ind C x y m operator.LtEq v w l = v refl LtEq
+binary-ind C x y m operator.Gt v w l = v refl Gt
+binary-ind C x y m operator.GtEq v w l = v refl GtEq
+binary-ind C x y m operator.Plus v w l = m
+binary-ind C x y m operator.Minus v w l = m
+binary-ind C x y m operator.Multiply v w l = m
+binary-ind C x y m operator.RustDivide v w l = m
+binary-ind C x y m operator.TrueDivide v w l = m
+binary-ind C x y m operator.FloorDivide v w l = m
+binary-ind C x y m operator.Modulus v w l = m
+binary-ind C x y m operator.And v w l = l refl And
+binary-ind C x y m operator.Or v w l = l refl Or
+binary-ind C x y m operator.Xor v w l = l refl Xor
+binary-ind C x y m operator.LogicalAnd v w l = l refl LogicalAnd
+binary-ind C x y m operator.LogicalOr v w l = l refl LogicalOr
 
-one : (n x : ℕ) → (ltb x n && true) ≡ true → x < n
+binary-inputs : (n : ℕ) (o : Operator) (x y : ℕ) → (x < n) × (y < n) → Inputs n (binaryExpr o x y)
+binary-inputs n o x y h = binary-ind (Inputs n) x y tt o (λ e c. h) (λ e. (h, h)) (λ e b. h)
+
+pub one : (n x : ℕ) → (ltb x n && true) ≡ true → x < n
 one n x h = ltb-true x n (and-eq-true-iff (ltb x n) true .0 h .0)
 
-two : (n x y : ℕ) → (ltb x n && (ltb y n && true)) ≡ true → (x < n) × (y < n)
+pub two : (n x y : ℕ) → (ltb x n && (ltb y n && true)) ≡ true → (x < n) × (y < n)
 two n x y h =
     let q = and-eq-true-iff (ltb x n) (ltb y n && true) .0 h in (ltb-true x n (q .0), one n y (q .1))
 
-three : (n x y z : ℕ) → (ltb x n && (ltb y n && (ltb z n && true))) ≡ true → (x < n) × (y < n) × (z < n)
+pub three : (n x y z : ℕ) → (ltb x n && (ltb y n && (ltb z n && true))) ≡ true → (x < n) × (y < n) × (z < n)
 three n x y z h =
     let q = and-eq-true-iff (ltb x n) (ltb y n && (ltb z n && true)) .0 h in
     let s = two n y z (q .1) in

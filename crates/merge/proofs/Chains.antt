@@ -69,52 +69,85 @@ pub allTrue-append : (N : ℕ → Bool) (l m : List ℕ) → allTrue N (l ++ m) 
 allTrue-append N [] m = refl
 allTrue-append N (n ∷ l) m = rw (allTrue-append N l m) (sym (and-assoc (N n) (allTrue N l) (allTrue N m)))
 
--- ---- the conjuncts are nodes up to the root
-abbrev pub Below : ℕ → List ℕ → Type 0
-Below u [] = Unit {0}
-Below u (n ∷ l) = (n < u) × Below u l
+-- ---- what an And hands down to its sides, the conjuncts of a root that has it have
+abbrev pub Every : (ℕ → Type 0) → List ℕ → Type 0
+Every N [] = Unit {0}
+Every N (n ∷ l) = N n × Every N l
 
-pub below-more : (u w : ℕ) (l : List ℕ) → u ≤ w → Below u l → Below w l
-below-more u w [] h b = tt
-below-more u w (n ∷ l) h b = let k : n < u = b .0 in (omega arith, below-more u w l h (b .1))
+pub every-app : (N : ℕ → Type 0) (l m : List ℕ) → Every N l → Every N m → Every N (l ++ m)
+every-app N [] m h k = k
+every-app N (n ∷ l) m h k = (h .0, every-app N l m (h .1) k)
 
-pub below-app : (u : ℕ) (l m : List ℕ) → Below u l → Below u m → Below u (l ++ m)
-below-app u [] m h k = k
-below-app u (n ∷ l) m h k = (h .0, below-app u l m (h .1) k)
+pub every-map : (N M : ℕ → Type 0) → ((n : ℕ) → N n → M n) → (l : List ℕ) → Every N l → Every M l
+every-map N M f [] h = tt
+every-map N M f (n ∷ l) h = (f n (h .0), every-map N M f l (h .1))
+
+-- both sides of an And have it
+abbrev pub Sides : (ℕ → Type 0) → Option (ℕ × ℕ) → Type 0
+Sides N none = Unit {0}
+Sides N (some s) = N (s .0) × N (s .1)
+
+pub sides-binary : (N : ℕ → Type 0) (b : BinaryOp) (x y : ℕ) → N x × N y → Sides N (sidesOf b x y)
+sides-binary N (Compare o) x y h = tt
+sides-binary N EqValidity x y h = tt
+sides-binary N NotEqValidity x y h = tt
+sides-binary N And x y h = h
+sides-binary N Or x y h = tt
+sides-binary N Xor x y h = tt
+sides-binary N LogicalAnd x y h = h
+sides-binary N LogicalOr x y h = tt
+
+sides-below : {Val : Type 0} (n : ℕ) (r : AExpr Val) → Inputs n r → Sides (λ a. a < n) (andSides r)
+sides-below n (Column c) i = tt
+sides-below n (Literal v) i = tt
+sides-below n Null i = tt
+sides-below n (BinaryExpr b x y) i = sides-binary (λ a. a < n) b x y i
+sides-below n (Not x) i = tt
+sides-below n (IsNull x) i = tt
+sides-below n (IsNotNull x) i = tt
+sides-below n (IsBetween c d x y z) i = tt
+sides-below n (ListLiteral k l) i = tt
+sides-below n (IsIn k x y) i = tt
+sides-below n Missing i = tt
 
 module _ {Val : Type 0} (R : ℕ → AExpr Val) (wf : (n : ℕ) → Inputs n (R n)) where
-  low-step : (n : ℕ) → ((a : ℕ) → a < n → Below (suc n) (minterms R a)) → (r : AExpr Val) → Inputs n r →
-      Below (suc n) (mintermsBy n (λ a. minterms R a) (andSides r))
-  low-step n h (Column c) i = (omega arith, tt)
-  low-step n h (Literal v) i = (omega arith, tt)
-  low-step n h Null i = (omega arith, tt)
-  low-step n h (BinaryExpr b x y) i = go b
+  module _ (N : ℕ → Type 0) (down : (n : ℕ) → N n → Sides N (andSides (R n))) where
+    minterms-under-have : (m n : ℕ) → n < m → N n → Every N (minterms R n)
+    minterms-under-have zero n h k = absurd (omega arith)
+    minterms-under-have (suc m) n h k =
+        subst (Every N) (sym (minterms-law R n (wf n)))
+        (go (andSides (R n)) (sides-below n (R n) (wf n)) (down n k)
+        (λ a l q. minterms-under-have m a (omega arith) q))
+      where
+        go :
+            (s : Option (ℕ × ℕ)) → Sides (λ a. a < n) s → Sides N s →
+            ((a : ℕ) → a < n → N a → Every N (minterms R a)) → Every N (mintermsBy n (λ a. minterms R a) s)
+        go none b q ih = (k, tt)
+        go (some s) b q ih =
+            every-app N (minterms R (s .0)) (minterms R (s .1)) (ih (s .0) (b .0) (q .0)) (ih (s .1) (b .1) (q .1))
+
+    pub minterms-have : (root : ℕ) → N root → Every N (minterms R root)
+    minterms-have root k = minterms-under-have (suc root) root (omega arith) k
+
+-- ---- the conjuncts are nodes up to the root
+abbrev pub Below : ℕ → List ℕ → Type 0
+Below u l = Every (λ n. n < u) l
+
+pub below-more : (u w : ℕ) (l : List ℕ) → u ≤ w → Below u l → Below w l
+below-more u w l h b = every-map (λ n. n < u) (λ n. n < w) (λ n k. omega arith) l b
+
+pub below-app : (u : ℕ) (l m : List ℕ) → Below u l → Below u m → Below u (l ++ m)
+below-app u l m h k = every-app (λ n. n < u) l m h k
+
+module _ {Val : Type 0} (R : ℕ → AExpr Val) (wf : (n : ℕ) → Inputs n (R n)) where
+  pub minterms-low : (root : ℕ) → Below (suc root) (minterms R root)
+  minterms-low root =
+      minterms-have R wf (λ n. n < suc root) (λ n h. go n h (andSides (R n)) (sides-below n (R n) (wf n))) root
+      (omega arith)
     where
-      go : (b : BinaryOp) → Below (suc n) (mintermsBy n (λ a. minterms R a) (sidesOf b x y))
-      go (Compare o) = (omega arith, tt)
-      go EqValidity = (omega arith, tt)
-      go NotEqValidity = (omega arith, tt)
-      go And = below-app (suc n) (minterms R x) (minterms R y) (h x (i .0)) (h y (i .1))
-      go Or = (omega arith, tt)
-      go Xor = (omega arith, tt)
-      go LogicalAnd = below-app (suc n) (minterms R x) (minterms R y) (h x (i .0)) (h y (i .1))
-      go LogicalOr = (omega arith, tt)
-  low-step n h (Not x) i = (omega arith, tt)
-  low-step n h (IsNull x) i = (omega arith, tt)
-  low-step n h (IsNotNull x) i = (omega arith, tt)
-  low-step n h (IsBetween c d x y z) i = (omega arith, tt)
-  low-step n h (ListLiteral k l) i = (omega arith, tt)
-  low-step n h (IsIn k x y) i = (omega arith, tt)
-  low-step n h Missing i = (omega arith, tt)
-
-  low-under : (m n : ℕ) → n < m → Below (suc n) (minterms R n)
-  low-under zero n h = absurd (omega arith)
-  low-under (suc m) n h = subst (Below (suc n)) (sym (minterms-law R n (wf n)))
-      (low-step n (λ a k. below-more (suc a) (suc n) (minterms R a) (omega arith) (low-under m a (omega arith))) (R n)
-      (wf n))
-
-  pub minterms-low : (n : ℕ) → Below (suc n) (minterms R n)
-  minterms-low n = low-under (suc n) n (omega arith)
+      go : (n : ℕ) → n < suc root → (s : Option (ℕ × ℕ)) → Sides (λ a. a < n) s → Sides (λ a. a < suc root) s
+      go n h none b = tt
+      go n h (some s) b = let x : s .0 < n = b .0 in let y : s .1 < n = b .1 in (omega arith, omega arith)
 
 module _ {K Val : Type 0} (S : Scalars K Val) (tk : TruthKeys K) (R : ℕ → AExpr Val) (wf : (n : ℕ) → Inputs n (R n))
     (ρ : ℕ → Option K) where

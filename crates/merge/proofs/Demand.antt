@@ -22,7 +22,6 @@ use Rattle.checking.specs.Check.{checkAnswer}
 use Rattle.checking.specs.Checked.{Checked}
 use Rattle.checking.proofs.Accepted.{checked}
 use Rattle.records.specs.declared.operator.Operator.{Operator}
-use Rattle.records.specs.declared.operator.Operator.the-variants as operator
 use Rattle.records.specs.declared.record.Fields.{Fields}
 use Rattle.records.specs.declared.record.Record.{Record}
 use Rattle.records.specs.declared.record.Record.the-variants as kind
@@ -39,8 +38,8 @@ use Rattle.truth.proofs.Agree.{cells-agree}
 use Rattle.constraints.specs.Scalars.{Scalars}
 use Rattle.constraints.specs.Payload as values
 use Rattle.constraints.specs.Values.{isEmpty}
-use Rattle.merge.specs.declared.rewrite.RewriteAnswer.{RewriteAnswer}
-use Rattle.merge.specs.declared.rewrite.RewriteAnswer.the-variants as answer
+use Rattle.merge.specs.declared.answer.RewriteAnswer.{RewriteAnswer}
+use Rattle.merge.specs.declared.answer.RewriteAnswer.the-variants as answer
 use Rattle.merge.specs.Minterms.{minterms}
 use Rattle.merge.specs.Classify.{conjuncts}
 use Rattle.constraints.specs.Comparisons.{ColumnComparison}
@@ -61,25 +60,25 @@ use Rattle.merge.proofs.Rebuilding.{Built, nodes-below}
 use Rattle.merge.proofs.Returned.{returned, NotEmpty, AnswerLt, answer-lt, same-passes}
 use Rattle.merge.proofs.Typed.{Row, Numeric, OneOfTwo, nothing-found-typed}
 use Rattle.merge.proofs.Literals.{OutcomeP, WrittenP}
-use Rattle.merge.proofs.Fitting.{AExprP, outcome-p}
+use Rattle.merge.proofs.Fitting.{AExprP, Both, both-opens, outcome-p}
 use Rattle.merge.proofs.Written.{Word, Holds, holds-put}
 use Rattle.merge.proofs.RebuiltBytes.{Long, Fit, literalRecord, literal-back, literal-words, comparisons-hold}
 use Rattle.merge.proofs.RebuiltBytes.{fold-holds, fold-end}
-use Rattle.merge.proofs.NeverEmpty.{never-empty}
-use Rattle.merge.proofs.Accepted.{inputs-fall}
+use Rattle.merge.proofs.Compared.{full-right, nodes-full, rebuilt-compares}
+use Rattle.merge.proofs.Accepted.{binary-ind, inputs-fall}
 
 -- ---- The values of a screen, spelled out.
-abbrev payload : Scalars ℤ ℕ
+abbrev pub payload : Scalars ℤ ℕ
 payload = record { key = key; order = ordZ; opened = λ held excluded. excluded; opened-key = λ held excluded. refl }
 
 payload-is : values.payload ≡ payload
 unfolding values.payload
 payload-is = refl
 
-abbrev merged : List ℕ → List ℕ → ℕ → ℕ → Outcome ℕ
+abbrev pub merged : List ℕ → List ℕ → ℕ → ℕ → Outcome ℕ
 merged rs p used root = mergeFilterConstraints payload (conjuncts (aexprAt rs p used) root)
 
-merged-is : (rs p : List ℕ) (used root : ℕ) → outcomeOf rs p used root ≡ merged rs p used root
+pub merged-is : (rs p : List ℕ) (used root : ℕ) → outcomeOf rs p used root ≡ merged rs p used root
 merged-is rs p used root = ap (λ S. mergeFilterConstraints S (conjuncts (aexprAt rs p used) root)) payload-is
 
 -- ---- The keys of 64-bit values leave room between them.
@@ -124,26 +123,7 @@ abbrev Fits : AExpr ℕ → Type 0
 Fits r = AExprP payload Long opens Word r
 
 binary-fits : (o : Operator) (x y : ℕ) → Fits (binaryExpr o x y)
-binary-fits operator.Eq x y = tt
-binary-fits operator.EqValidity x y = tt
-binary-fits operator.NotEq x y = tt
-binary-fits operator.NotEqValidity x y = tt
-binary-fits operator.Lt x y = tt
-binary-fits operator.LtEq x y = tt
-binary-fits operator.Gt x y = tt
-binary-fits operator.GtEq x y = tt
-binary-fits operator.Plus x y = tt
-binary-fits operator.Minus x y = tt
-binary-fits operator.Multiply x y = tt
-binary-fits operator.RustDivide x y = tt
-binary-fits operator.TrueDivide x y = tt
-binary-fits operator.FloorDivide x y = tt
-binary-fits operator.Modulus x y = tt
-binary-fits operator.And x y = tt
-binary-fits operator.Or x y = tt
-binary-fits operator.Xor x y = tt
-binary-fits operator.LogicalAnd x y = tt
-binary-fits operator.LogicalOr x y = tt
+binary-fits o x y = binary-ind Fits x y tt o (λ e c. tt) (λ e. (tt, tt)) (λ e b. tt)
 
 by-kind : (p : List ℕ) (k m : ℕ) (x y : Record) → Fits (toAExpr p x) → Fits (toAExpr p y) →
     Fits (toAExpr p (cond (eqb k m) x y))
@@ -178,7 +158,7 @@ record-fits rs p used h n = go (ltb n used)
         (word-small rs (16 * n + 12) h)
     go false = tt
 
-fit-of : (cs : List (ℕ × ColumnComparison ℕ)) → WrittenP payload Long opens Word cs → Fit cs
+fit-of : (cs : List (ℕ × ColumnComparison ℕ)) → WrittenP payload (Both payload Long opens Word) (both-opens payload Long opens Word) cs → Fit cs
 fit-of [] h = tt
 fit-of (x ∷ l) h = (h .0, fit-of l (h .1))
 
@@ -213,7 +193,7 @@ module _ (t rs p : List ℕ) (used root : ℕ) (bytes : demand.AreBytes rs) (ok 
     full : NotEmpty payload halves truthKeys 0 refl R good used o
     nothing : demand.isNothing a ≡ isNothingPasses payload halves o
 
-  room-of : (u : ℕ) → hasRoom rs u ≡ true → (u ≤ 4096) × (16 * u ≤ length rs)
+  pub room-of : (u : ℕ) → hasRoom rs u ≡ true → (u ≤ 4096) × (16 * u ≤ length rs)
   room-of u h =
       let b = and-yes (leb u 4096) (leb u (length rs / 16)) h in
       let l : u ≤ 4096 = leb-true u 4096 (b .0) in
@@ -281,7 +261,8 @@ module _ (t rs p : List ℕ) (used root : ℕ) (bytes : demand.AreBytes rs) (ok 
       few
       (nodes-below payload truthKeys (λ c. none) used ns cs b) (c .1) .1 n
 
-  fitting : (o : Outcome ℕ) → OutcomeP payload Long opens Word o → Fitting o
+  fitting : (o : Outcome ℕ) → OutcomeP payload (Both payload Long opens Word) (both-opens payload Long opens Word) o →
+      Fitting o
   fitting Unchanged h = tt
   fitting NothingPasses h = tt
   fitting (Rebuilt ns cs) h = fit-of cs h
@@ -296,8 +277,7 @@ module _ (t rs p : List ℕ) (used root : ℕ) (bytes : demand.AreBytes rs) (ok 
   pub chain-is-full : (ns : List ℕ) (cs : List (ℕ × ColumnComparison ℕ)) → outcomeOf rs p used root ≡ Rebuilt ns cs →
       isEmpty (chainNodes used ns cs) ≡ false
   chain-is-full ns cs e =
-      subst (NotEmpty payload halves truthKeys 0 refl R good used) (sym (merged-is rs p used root) ∙ e)
-      (never-empty payload halves truthKeys 0 refl R good used root)
+      full-right ns (comparisonNodes used cs) (nodes-full used cs (rebuilt-compares values.payload R root ns cs e))
 
   -- The kept nodes are used records, and the comparisons fit the fields of a record.
   pub chain-fits-fields : (ns : List ℕ) (cs : List (ℕ × ColumnComparison ℕ)) → outcomeOf rs p used root ≡

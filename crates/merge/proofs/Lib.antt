@@ -1,13 +1,14 @@
 pub mod Accepted
 pub mod Cases
 pub mod Chains
+pub mod Compared
 pub mod Comparisons
 pub mod Complete
 pub mod Demand
+pub mod Extended
 pub mod Fitting
 pub mod Forms
 pub mod Literals
-pub mod NeverEmpty
 pub mod Operators
 pub mod Passes
 pub mod PassesEnd
@@ -23,6 +24,8 @@ pub mod Spread
 pub mod TestedRows
 pub mod Trees
 pub mod Typed
+pub mod Types
+pub mod Usable
 pub mod Whole
 pub mod Witness
 pub mod Written

@@ -4,7 +4,7 @@ use mathlib.Core.Bool.{Bool, true, false, cond}
 use mathlib.Core.List.{List, [], _∷_, _++_}
 use Prim.Native.Nat.{ℕ, suc, _+_, _*_, _/_, _%_, _≤_, _<_}
 use native.Mathlib.Omega.{arith}
-use lib.ListN.{length, getD}
+use lib.ListN.{length}
 use Rattle.records.specs.Operator.{operatorAt, codeOf}
 use Rattle.records.specs.Record.{node, columnNumber, decode, encode}
 use Rattle.records.specs.declared.operator.Operator.the-variants as operator
@@ -15,6 +15,7 @@ use Rattle.truth.specs.AExpr.{AExpr, Column, Literal, BinaryExpr, Compare, And}
 use Rattle.truth.specs.FromBytes.{toAExpr}
 use Rattle.constraints.specs.Comparisons.{ColumnComparison}
 use Rattle.merge.specs.Rebuild.{comparisonOf, valueOf, comparisonsEnd, andsEnd, foldUsed}
+use Rattle.merge.specs.Write.{literalType}
 use Rattle.merge.specs.Write.{operatorOf, writeRecord, writeComparison, writeComparisons, writeAnds, foldBytes}
 use Rattle.merge.proofs.Chains.{Below, below-more}
 use Rattle.merge.proofs.Rebuilding.{putRecord, addComparison, addComparisons, addAnds, foldRecords}
@@ -24,13 +25,13 @@ use Rattle.merge.proofs.Written.{Word, Words, Holds, length-write, hold
 abbrev pub Long : ℕ → Type 0
 Long v = v < 18446744073709551616
 
-abbrev columnRecord : ℕ → Record
+abbrev pub columnRecord : ℕ → Record
 columnRecord c = kind.Column (columnNumber c)
 
 abbrev pub literalRecord : ℕ → ℕ → Record
 literalRecord ty v = kind.Literal ty v
 
-abbrev comparisonRecord : Comparison → ℕ → ℕ → Record
+abbrev pub comparisonRecord : Comparison → ℕ → ℕ → Record
 comparisonRecord o x y = kind.Binary (operatorOf o) (node x) (node y)
 
 abbrev pub andRecord : ℕ → ℕ → Record
@@ -93,7 +94,7 @@ comparison-holds t rs p u x R room w hc hv h = (e3 ∙ e2 ∙ e1, h3)
     v = valueOf (x .1)
 
     ty : ℕ
-    ty = getD t (x .0) 0
+    ty = literalType t (x .0)
 
     o : Comparison
     o = comparisonOf (x .1)

@@ -15,7 +15,7 @@ use Rattle.truth.specs.declared.logic.Truth.the-variants.{False}
 use Rattle.constraints.specs.Resolve.{fixedAt}
 use Rattle.constraints.specs.Scalars.{Scalars}
 use Rattle.constraints.specs.Values.{isEmpty}
-use Rattle.merge.proofs.Chains.{Below, allTrue, below-app, below-more, minterms-low}
+use Rattle.merge.proofs.Chains.{Every, allTrue, every-app, below-more, minterms-low}
 use Rattle.merge.proofs.Readings.{Names, classified-rightly}
 use Rattle.merge.proofs.Rebuilding.{Built, holds, nodes-iff, put-new, putRecord, rebuild, rebuild-true}
 use Rattle.merge.proofs.Rebuilding.{written-iff, writtenHolds}
@@ -32,94 +32,103 @@ use Rattle.merge.specs.Minterms.{minterms}
 use Rattle.merge.specs.Propagate.{propagateEmitted}
 use Rattle.merge.specs.Rebuild.{comparisonNodes}
 
-module _ {K Val : Type 0} (S : Scalars K Val) (u : ℕ) where
-  abbrev NodeLt : Conjunct Val → Type 0
-  NodeLt (Bounds c l) = Unit {0}
-  NodeLt (Equality a b m) = m < u
-  NodeLt (Recorded z m c l) = m < u
-  NodeLt (NonNullPair m a b) = m < u
-  NodeLt (Opaque m) = m < u
+module _ {K Val : Type 0} (S : Scalars K Val) (N : ℕ → Type 0) where
+  abbrev NodeHas : Conjunct Val → Type 0
+  NodeHas (Bounds c l) = Unit {0}
+  NodeHas (Equality a b m) = N m
+  NodeHas (Recorded z m c l) = N m
+  NodeHas (NonNullPair m a b) = N m
+  NodeHas (Opaque m) = N m
 
-  abbrev NodesLt : List (Conjunct Val) → Type 0
-  NodesLt [] = Unit {0}
-  NodesLt (c ∷ l) = NodeLt c × NodesLt l
+  abbrev NodesHave : List (Conjunct Val) → Type 0
+  NodesHave [] = Unit {0}
+  NodesHave (c ∷ l) = NodeHas c × NodesHave l
 
-  abbrev EdgesLt : List (ℕ × ℕ × ℕ) → Type 0
-  EdgesLt [] = Unit {0}
-  EdgesLt (e ∷ l) = (e .2 < u) × EdgesLt l
+  abbrev EdgesHave : List (ℕ × ℕ × ℕ) → Type 0
+  EdgesHave [] = Unit {0}
+  EdgesHave (e ∷ l) = N (e .2) × EdgesHave l
 
-  edges-app : (l m : List (ℕ × ℕ × ℕ)) → EdgesLt l → EdgesLt m → EdgesLt (l ++ m)
+  edges-app : (l m : List (ℕ × ℕ × ℕ)) → EdgesHave l → EdgesHave m → EdgesHave (l ++ m)
   edges-app [] m h k = k
   edges-app (e ∷ l) m h k = (h .0, edges-app l m (h .1) k)
 
-  abbrev StLt : Collected Val → Type 0
-  StLt s = Below u (s .opaque) × EdgesLt (s .edges)
+  abbrev StHas : Collected Val → Type 0
+  StHas s = Every N (s .opaque) × EdgesHave (s .edges)
 
-  read-lt : (c : Conjunct Val) (s : Collected Val) → NodeLt c → StLt s → StLt (collectOne S c s)
-  read-lt (Bounds c l) s h k = k
-  read-lt (Equality a b m) s h k = (k .0, edges-app (s .edges) ((a, b, m) ∷ []) (k .1) (h, tt))
-  read-lt (Recorded z m c l) s h k = (below-app u (s .opaque) (m ∷ []) (k .0) (h, tt), k .1)
-  read-lt (NonNullPair m a b) s h k = (below-app u (s .opaque) (m ∷ []) (k .0) (h, tt), k .1)
-  read-lt (Opaque m) s h k = (below-app u (s .opaque) (m ∷ []) (k .0) (h, tt), k .1)
+  read-has : (c : Conjunct Val) (s : Collected Val) → NodeHas c → StHas s → StHas (collectOne S c s)
+  read-has (Bounds c l) s h k = k
+  read-has (Equality a b m) s h k = (k .0, edges-app (s .edges) ((a, b, m) ∷ []) (k .1) (h, tt))
+  read-has (Recorded z m c l) s h k = (every-app N (s .opaque) (m ∷ []) (k .0) (h, tt), k .1)
+  read-has (NonNullPair m a b) s h k = (every-app N (s .opaque) (m ∷ []) (k .0) (h, tt), k .1)
+  read-has (Opaque m) s h k = (every-app N (s .opaque) (m ∷ []) (k .0) (h, tt), k .1)
 
-  readAll-lt : (l : List (Conjunct Val)) (s : Collected Val) → NodesLt l → StLt s → StLt (collect S l s)
-  readAll-lt [] s h k = k
-  readAll-lt (c ∷ l) s h k = readAll-lt l (cond (s .unsat) s (collectOne S c s)) (h .1) (go (s .unsat))
+  readAll-has : (l : List (Conjunct Val)) (s : Collected Val) → NodesHave l → StHas s → StHas (collect S l s)
+  readAll-has [] s h k = k
+  readAll-has (c ∷ l) s h k = readAll-has l (cond (s .unsat) s (collectOne S c s)) (h .1) (go (s .unsat))
     where
-      go : (b : Bool) → StLt (cond b s (collectOne S c s))
+      go : (b : Bool) → StHas (cond b s (collectOne S c s))
       go true = k
-      go false = read-lt c s (h .0) k
+      go false = read-has c s (h .0) k
 
-  kept-lt : (t : Table Val) (es : List (ℕ × ℕ × ℕ)) → EdgesLt es → Below u (keptEqualities S t es)
-  kept-lt t [] h = tt
-  kept-lt t (e ∷ es) h = go (fixedAt S (t (e .0) .lower) (t (e .0) .upper)) (kept-lt t es (h .1))
+  kept-has : (t : Table Val) (es : List (ℕ × ℕ × ℕ)) → EdgesHave es → Every N (keptEqualities S t es)
+  kept-has t [] h = tt
+  kept-has t (e ∷ es) h = go (fixedAt S (t (e .0) .lower) (t (e .0) .upper)) (kept-has t es (h .1))
     where
-      go : (p : Option Val) → Below u (keptEqualities S t es) → Below u (keptBy p (e .2) (keptEqualities S t es))
+      go : (p : Option Val) → Every N (keptEqualities S t es) → Every N (keptBy p (e .2) (keptEqualities S t es))
       go none b = (h .0, b)
       go (some v) b = b
 
-  abbrev pub AnswerLt : Outcome Val → Type 0
-  AnswerLt Unchanged = Unit {0}
-  AnswerLt NothingPasses = Unit {0}
-  AnswerLt (Rebuilt ns cs) = Below u ns
+  abbrev pub KeptHave : Outcome Val → Type 0
+  KeptHave Unchanged = Unit {0}
+  KeptHave NothingPasses = Unit {0}
+  KeptHave (Rebuilt ns cs) = Every N ns
 
-  finish-lt : (s : Collected Val) → StLt s → AnswerLt (conclude S s)
-  finish-lt s k = go (s .unsat || anyUnsat (s .order) (resolved S s))
+  finish-has : (s : Collected Val) → StHas s → KeptHave (conclude S s)
+  finish-has s k = go (s .unsat || anyUnsat (s .order) (resolved S s))
       (ltb (length (comparisons S (s .order) (resolved S s))) (s .boundConjuncts) ||
       (propagateEmitted S (length (s .order)) (s .edges) (s .constraints) || droppedEquality S (propagated S s)
       (s .edges)))
     where
-      go : (b d : Bool) → AnswerLt (cond b NothingPasses (cond d
+      go : (b d : Bool) → KeptHave (cond b NothingPasses (cond d
           (Rebuilt (s .opaque ++ keptEqualities S (propagated S s) (s .edges))
           (comparisons S (s .order) (resolved S s))) Unchanged))
       go true d = tt
-      go false true = below-app u (s .opaque) (keptEqualities S (propagated S s) (s .edges)) (k .0)
-          (kept-lt (propagated S s) (s .edges) (k .1))
+      go false true = every-app N (s .opaque) (keptEqualities S (propagated S s) (s .edges)) (k .0)
+          (kept-has (propagated S s) (s .edges) (k .1))
       go false false = tt
 
-  pub rewrite-lt : (l : List (Conjunct Val)) → NodesLt l → AnswerLt (mergeFilterConstraints S l)
-  rewrite-lt l h = finish-lt (collect S l (begin)) (readAll-lt l (begin) h (tt, tt))
+  pub merge-has : (l : List (Conjunct Val)) → NodesHave l → KeptHave (mergeFilterConstraints S l)
+  merge-has l h = finish-has (collect S l (begin)) (readAll-has l (begin) h (tt, tt))
 
-  names-lt : (n : ℕ) (c : Conjunct Val) → n < u → Names n c → NodeLt c
-  names-lt n (Bounds c l) h e = tt
-  names-lt n (Equality a b m) h e = subst (λ i. i < u) (sym e) h
-  names-lt n (Recorded z m c l) h e = subst (λ i. i < u) (sym e) h
-  names-lt n (NonNullPair m a b) h e = subst (λ i. i < u) (sym e) h
-  names-lt n (Opaque m) h e = subst (λ i. i < u) (sym e) h
+  names-has : (n : ℕ) (c : Conjunct Val) → N n → Names n c → NodeHas c
+  names-has n (Bounds c l) h e = tt
+  names-has n (Equality a b m) h e = subst N (sym e) h
+  names-has n (Recorded z m c l) h e = subst N (sym e) h
+  names-has n (NonNullPair m a b) h e = subst N (sym e) h
+  names-has n (Opaque m) h e = subst N (sym e) h
 
-  lines-lt : (H : HalfPoints S) (tk : TruthKeys K) (R : ℕ → AExpr Val) (wf : WF R) (l : List ℕ) → Below u l →
-      NodesLt (map (classify R) l)
-  lines-lt H tk R wf [] b = tt
-  lines-lt H tk R wf (n ∷ l) b = (
-    names-lt n (classify R n) (b .0) (classified-rightly S H tk R wf (λ c. none) n .3),
-    lines-lt H tk R wf l (b .1),
+  lines-have : (H : HalfPoints S) (tk : TruthKeys K) (R : ℕ → AExpr Val) (wf : WF R) (l : List ℕ) → Every N l →
+      NodesHave (map (classify R) l)
+  lines-have H tk R wf [] b = tt
+  lines-have H tk R wf (n ∷ l) b = (
+    names-has n (classify R n) (b .0) (classified-rightly S H tk R wf (λ c. none) n .3),
+    lines-have H tk R wf l (b .1),
   )
 
+  -- the kept nodes have what all conjuncts have
+  pub kept-have : (H : HalfPoints S) (tk : TruthKeys K) (R : ℕ → AExpr Val) (wf : WF R) (root : ℕ) →
+      Every N (minterms R root) → KeptHave (outcome S H tk R wf root)
+  kept-have H tk R wf root h = merge-has (conjuncts R root) (lines-have H tk R wf (minterms R root) h)
+
+-- the kept nodes are below u
+abbrev pub AnswerLt : {K Val : Type 0} → Scalars K Val → ℕ → Outcome Val → Type 0
+AnswerLt S u o = KeptHave S (λ n. n < u) o
+
+module _ {K Val : Type 0} (S : Scalars K Val) (u : ℕ) where
   pub answer-lt : (H : HalfPoints S) (tk : TruthKeys K) (R : ℕ → AExpr Val) (wf : WF R) (root : ℕ) → root < u →
-      AnswerLt (outcome S H tk R wf root)
-  answer-lt H tk R wf root h = rewrite-lt (conjuncts R root)
-      (lines-lt H tk R wf (minterms R root)
-      (below-more (suc root) u (minterms R root) (omega arith) (minterms-low R wf root)))
+      AnswerLt S u (outcome S H tk R wf root)
+  answer-lt H tk R wf root h = kept-have S (λ n. n < u) H tk R wf root
+      (below-more (suc root) u (minterms R root) (omega arith) (minterms-low R wf root))
 
 module _ {K Val : Type 0} (S : Scalars K Val) (H : HalfPoints S) (tk : TruthKeys K) (nay : Val)
     (nay-no : truthOfValue (S .key) (S .order) tk (some (S .key nay)) ≡ False) (R : ℕ → AExpr Val) (wf : WF R)

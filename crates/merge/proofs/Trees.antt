@@ -5,7 +5,7 @@ use mathlib.Core.Bool.{Bool, true, false, true≢false}
 use mathlib.Core.List.{List, [], _∷_, _++_}
 use Prim.Native.Nat.{ℕ, zero, suc, _+_, _*_, _≤_, _<_}
 use native.Mathlib.Omega.{arith}
-use lib.ListN.{length, getD, length-append}
+use lib.ListN.{length, length-append}
 use Rattle.records.specs.Record.{node, columnNumber, fieldsAt, decode, recordAt, encode, inputs}
 use Rattle.checking.specs.Tree.{sumAt, treeStep, treeCount}
 use Rattle.records.specs.Operator.{operatorAt}
@@ -19,6 +19,7 @@ use Rattle.constraints.specs.Values.{isEmpty}
 use Rattle.merge.specs.Emit.{Rebuilt}
 use Rattle.merge.specs.Rebuild.{comparisonOf, valueOf, comparisonNodes, comparisonsEnd, andRoot, andsEnd}
 use Rattle.merge.specs.Rebuild.{foldRoot, foldUsed}
+use Rattle.merge.specs.Write.{literalType}
 use Rattle.merge.specs.Write.{fieldBytes, operatorOf, writeRecord, writeComparison, writeComparisons, writeAnds}
 use Rattle.merge.specs.Write.{foldBytes}
 use Rattle.merge.specs.Write.{outcomeBytes}
@@ -50,7 +51,7 @@ module _ (rs : List ℕ) (u : ℕ) (r : Record) (room : 16 * u + 16 ≤ length r
       ap (λ f. treeStep C (decode f)) (fields-old rs u (encode r) room n h)
       ∙ ap (λ s. 1 + s) (sum-all C D (inputs (decode (fieldsAt rs (node n)))) e))
 
-  tree-new :
+  pub tree-new :
       (l : List ℕ) → Words (encode r) → inputs (decode (encode r)) ≡ l → Below u l →
       treeCount (writeRecord rs u r) u ≡ 1 + sumAt (treeCount rs) l
   unfolding recordAt
@@ -67,7 +68,7 @@ column-inputs : (c : ℕ) → inputs (decode (encode (kind.Column (columnNumber 
 unfolding decode encode
 column-inputs c = refl
 
-literal-inputs : (ty v : ℕ) → inputs (decode (encode (kind.Literal ty v))) ≡ []
+pub literal-inputs : (ty v : ℕ) → inputs (decode (encode (kind.Literal ty v))) ≡ []
 unfolding decode encode
 literal-inputs ty v = refl
 
@@ -89,7 +90,7 @@ comparison-tree t rs u x room w hc hv = (e3 ∙ e2 ∙ e1, old, new)
     r1 = kind.Column (columnNumber (x .0))
 
     r2 : Record
-    r2 = kind.Literal (getD t (x .0) 0) (valueOf (x .1))
+    r2 = kind.Literal (literalType t (x .0)) (valueOf (x .1))
 
     r3 : Record
     r3 = kind.Binary (operatorOf (comparisonOf (x .1))) (node u) (node (suc u))
@@ -128,7 +129,7 @@ comparison-tree t rs u x room w hc hv = (e3 ∙ e2 ∙ e1, old, new)
         (column-inputs (x .0)) tt
 
     t2 : treeCount rs2 (suc u) ≡ 1
-    t2 = tree-new rs1 (suc u) r2 m2 [] (literal-words (getD t (x .0) 0) (valueOf (x .1)) hv) (literal-inputs _ _) tt
+    t2 = tree-new rs1 (suc u) r2 m2 [] (literal-words (literalType t (x .0)) (valueOf (x .1)) hv) (literal-inputs _ _) tt
 
     new : treeCount (writeComparison t u x rs) (suc (suc u)) ≡ 3
     new =

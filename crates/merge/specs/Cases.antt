@@ -3,9 +3,9 @@ use mathlib.Core.Bool.{Bool, true, false}
 use mathlib.Core.List.{List, [], _∷_, _++_}
 use Prim.Native.Nat.{ℕ, zero, suc}
 use Rattle.records.specs.Record.{fields}
-use Rattle.merge.specs.declared.rewrite.RewriteAnswer.{RewriteAnswer}
-use Rattle.merge.specs.declared.rewrite.RewriteAnswer.the-variants.{Refused, Unchanged, NothingPasses}
-use Rattle.merge.specs.declared.rewrite.RewriteAnswer.the-variants.{Rewritten}
+use Rattle.merge.specs.declared.answer.RewriteAnswer.{RewriteAnswer}
+use Rattle.merge.specs.declared.answer.RewriteAnswer.the-variants.{Refused, Unchanged, NothingPasses}
+use Rattle.merge.specs.declared.answer.RewriteAnswer.the-variants.{Rewritten}
 use Rattle.merge.specs.Write.{fieldBytes}
 use Rattle.merge.specs.Rewrite.{rewriteAnswer, rewriteBytes}
 

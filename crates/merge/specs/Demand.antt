@@ -12,8 +12,8 @@ use lib.ListN.{length, getD}
 use Rattle.truth.specs.Halves.{key}
 use Rattle.truth.specs.Logic.{isTrue}
 use Rattle.truth.specs.FromBytes.{aexprAt, truthIn}
-use Rattle.merge.specs.declared.rewrite.RewriteAnswer.{RewriteAnswer}
-use Rattle.merge.specs.declared.rewrite.RewriteAnswer.the-variants as answer
+use Rattle.merge.specs.declared.answer.RewriteAnswer.{RewriteAnswer}
+use Rattle.merge.specs.declared.answer.RewriteAnswer.the-variants as answer
 use Rattle.merge.specs.Plain.{isNumberColumn, plainScreen}
 use Rattle.merge.specs.Rewrite.{rewriteAnswer, rewriteBytes}
 

@@ -8,5 +8,7 @@ pub mod Rebuild
 pub mod Write
 pub mod Rewrite
 pub mod Demand
+pub mod Usable
+pub mod Compared
 pub mod Passes
 pub mod Cases

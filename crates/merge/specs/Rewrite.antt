@@ -12,8 +12,8 @@ use Rattle.checking.specs.declared.check.CheckAnswer.the-variants as check
 use Rattle.truth.specs.FromBytes.{aexprAt}
 use Rattle.constraints.specs.Payload.{payload}
 use Rattle.constraints.specs.Values.{isEmpty}
-use Rattle.merge.specs.declared.rewrite.RewriteAnswer.{RewriteAnswer}
-use Rattle.merge.specs.declared.rewrite.RewriteAnswer.the-variants as answer
+use Rattle.merge.specs.declared.answer.RewriteAnswer.{RewriteAnswer}
+use Rattle.merge.specs.declared.answer.RewriteAnswer.the-variants as answer
 use Rattle.merge.specs.Minterms.{minterms}
 use Rattle.merge.specs.Classify.{conjuncts}
 use Rattle.constraints.specs.Comparisons.{ColumnComparison}

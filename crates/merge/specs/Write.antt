@@ -38,13 +38,17 @@ operatorOf LtEq = operator.LtEq
 operatorOf Gt = operator.Gt
 operatorOf GtEq = operator.GtEq
 
--- `comparison_node`: column, literal (of the column's type), binary record.
+-- The type of the literal that is written beside column c: the column's.
+abbrev pub literalType : List ℕ → ℕ → ℕ
+literalType t c = getD t c 0
+
+-- `comparison_node`: column, literal, binary record.
 abbrev pub writeComparison : List ℕ → ℕ → (ℕ × ColumnComparison ℕ) → List ℕ → List ℕ
 writeComparison t u x rs =
     writeRecord
     (writeRecord
     (writeRecord rs u (kind.Column (columnNumber (x .0))))
-    (suc u) (kind.Literal (getD t (x .0) 0) (valueOf (x .1))))
+    (suc u) (kind.Literal (literalType t (x .0)) (valueOf (x .1))))
     (suc (suc u)) (kind.Binary (operatorOf (comparisonOf (x .1))) (node u) (node (suc u)))
 
 abbrev pub writeComparisons : List ℕ → ℕ → List (ℕ × ColumnComparison ℕ) → List ℕ → List ℕ

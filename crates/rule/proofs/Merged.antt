@@ -10,7 +10,7 @@ use Rattle.checking.specs.declared.check.CheckAnswer.the-variants as check
 use Rattle.checking.proofs.Accepted.{checked}
 use Rattle.truth.specs.FromBytes.{aexprOf}
 use Rattle.constraints.specs.Payload.{payload}
-use Rattle.merge.specs.declared.rewrite.RewriteAnswer.{RewriteAnswer}
+use Rattle.merge.specs.declared.answer.RewriteAnswer.{RewriteAnswer}
 use Rattle.merge.specs.Minterms.{minterms}
 use Rattle.merge.specs.Classify.{classify}
 use Rattle.merge.specs.Emit.{Outcome, mergeFilterConstraints}

@@ -9,10 +9,9 @@ ghost use Rattle.merge.specs.Minterms.{minterms};
 ghost use Rattle.merge.specs.Rewrite.{rewriteAnswer, rewriteBytes};
 ghost use Rattle.rewrite.specs.Walk.{walked, firstOf};
 use checking::check::CheckAnswer;
-use checking::check::check_screen;
-use checking::tree::fill_trees;
-use filter_constraint::merge_filter_constraints;
-use merge::rewrite::RewriteAnswer;
+use checking::check::check_counted;
+use filter_constraint::merging::merge_filter_constraints;
+use merge::answer::RewriteAnswer;
 use records::record::Node;
 use rewrite::literals::read_literals;
 use rewrite::minterms::minterms;
@@ -145,23 +144,23 @@ fn rewrite_counted(
     merge_many(t, rs, p, used, root, trees, &nodes, n)
 }
 
-// An accepted screen: 8, and the rest. Records are shared, so the tree counts stand in a table; the merging adds up
-// those of the nodes that it keeps.
-fn rewrite_within(
+// An accepted screen: 8, and the rest. `trees` has the tree counts of its records; the merging adds up those of the nodes
+// that it keeps.
+fn rewrite_checked(
     t: &[u8],
     rs: &mut [u8],
     p: &[u8],
     used: u32,
     root: Node,
-    trees: &mut [u16],
+    trees: &[u16],
 ) -> RewriteAnswer
     requires { ⌜ checkAnswer (now t) (now rs) (now p) used (root .0) ≡ check.Accepted ⌝ }
+    requires counted { ⌜ ((a : ℕ) → a ≤ root .0 → getD (now trees) a 0 ≡ min (treeCount (now rs) a) 4097) ⌝ }
     requires { ⌜ root .0 < length (now trees) ⌝ }
     ensures answer { λ r. ⌜ r ≡ rewriteAnswer (now (t .entry)) (now (rs .entry)) (now (p .entry)) used (root .0) ⌝ }
     ensures bytes { λ _. ⌜ now (rs .exit) ≡ rewriteBytes (now (t .entry)) (now (rs .entry)) (now (p .entry)) used
         (root .0) ⌝ }
 {
-    fill_trees(trees, rs, root);
     let top = trees[root.0 as usize];
     if 4096 < top {
         return RewriteAnswer::Refused(8);
@@ -169,30 +168,41 @@ fn rewrite_within(
     rewrite_counted(t, rs, p, used, root, trees)
 }
 
-// The table of tree counts is as long as the screen needs: most have few records.
-fn rewrite_checked(t: &[u8], rs: &mut [u8], p: &[u8], used: u32, root: Node) -> RewriteAnswer
-    requires { ⌜ checkAnswer (now t) (now rs) (now p) used (root .0) ≡ check.Accepted ⌝ }
-    ensures answer { λ r. ⌜ r ≡ rewriteAnswer (now (t .entry)) (now (rs .entry)) (now (p .entry)) used (root .0) ⌝ }
+fn rewrite_within(
+    t: &[u8],
+    rs: &mut [u8],
+    p: &[u8],
+    used: u64,
+    root: u64,
+    types: &mut [u8],
+    trees: &mut [u16],
+) -> RewriteAnswer
+    requires { ⌜ (used ≤ 4096 → used ≤ length (now types)) ⌝ }
+    requires { ⌜ (used ≤ 4096 → used ≤ length (now trees)) ⌝ }
+    ensures answer { λ r. ⌜ r ≡ rewriteAnswer (now (t .entry)) (now (rs .entry)) (now (p .entry)) used root ⌝ }
     ensures bytes { λ _. ⌜ now (rs .exit) ≡ rewriteBytes (now (t .entry)) (now (rs .entry)) (now (p .entry)) used
-        (root .0) ⌝ }
+        root ⌝ }
 {
-    if root.0 < 64 {
-        let mut small = [0u16; 64];
-        return rewrite_within(t, rs, p, used, root, &mut small);
+    let answer = check_counted(t, rs, p, used, root, types, trees);
+    match answer {
+        CheckAnswer::Refused(number) => RewriteAnswer::Refused(number),
+        CheckAnswer::Accepted => rewrite_checked(t, rs, p, used as u32, Node(root as u32), trees),
     }
-    let mut trees = [0u16; 4096];
-    rewrite_within(t, rs, p, used, root, &mut trees)
 }
 
 /// The answer of rewriting; `rs` is written only if it is `NothingPasses` or `Rewritten`.
+// The tables of checking are as long as the screen needs: most have few records.
 pub fn rewrite_screen(t: &[u8], rs: &mut [u8], p: &[u8], used: u64, root: u64) -> RewriteAnswer
     ensures answer { λ r. ⌜ r ≡ rewriteAnswer (now (t .entry)) (now (rs .entry)) (now (p .entry)) used root ⌝ }
     ensures bytes { λ _. ⌜ now (rs .exit) ≡ rewriteBytes (now (t .entry)) (now (rs .entry)) (now (p .entry)) used
         root ⌝ }
 {
-    let answer = check_screen(t, rs, p, used, root);
-    match answer {
-        CheckAnswer::Refused(number) => RewriteAnswer::Refused(number),
-        CheckAnswer::Accepted => rewrite_checked(t, rs, p, used as u32, Node(root as u32)),
+    if used <= 64 {
+        let mut few = [0u8; 64];
+        let mut small = [0u16; 64];
+        return rewrite_within(t, rs, p, used, root, &mut few, &mut small);
     }
+    let mut types = [0u8; 4096];
+    let mut trees = [0u16; 4096];
+    rewrite_within(t, rs, p, used, root, &mut types, &mut trees)
 }

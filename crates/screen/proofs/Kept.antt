@@ -18,11 +18,12 @@ use Rattle.records.specs.declared.record.Record.the-variants as kind
 use Rattle.truth.specs.FromBytes.{aexprAt}
 use Rattle.constraints.specs.Comparisons.{ColumnComparison}
 use Rattle.constraints.specs.Values.{isEmpty}
-use Rattle.merge.specs.declared.rewrite.RewriteAnswer.{RewriteAnswer}
-use Rattle.merge.specs.declared.rewrite.RewriteAnswer.the-variants as answer
+use Rattle.merge.specs.declared.answer.RewriteAnswer.{RewriteAnswer}
+use Rattle.merge.specs.declared.answer.RewriteAnswer.the-variants as answer
 use Rattle.merge.specs.Minterms.{minterms}
 use Rattle.merge.specs.Emit.{Outcome, Unchanged, NothingPasses, Rebuilt}
 use Rattle.merge.specs.Rebuild.{comparisonOf, valueOf, comparisonsEnd, andsEnd, foldUsed}
+use Rattle.merge.specs.Write.{literalType}
 use Rattle.merge.specs.Write.{fieldBytes, writeRecord, operatorOf, writeComparison, writeComparisons, writeAnds}
 use Rattle.merge.specs.Write.{foldBytes, outcomeBytes}
 use Rattle.merge.specs.Rewrite.{outcomeOf, chainNodes, chainRoot, chainUsed, hasRoom, chainFits, outcomeAnswer}
@@ -78,7 +79,7 @@ comparison-kept t rs u x h =
     column = kind.Column (columnNumber (x .0))
 
     literal : Record
-    literal = kind.Literal (getD t (x .0) 0) (valueOf (x .1))
+    literal = kind.Literal (literalType t (x .0)) (valueOf (x .1))
 
     binary : Record
     binary = kind.Binary (operatorOf (comparisonOf (x .1))) (node u) (node (suc u))

@@ -15,15 +15,17 @@ use Rattle.checking.specs.declared.check.CheckAnswer.the-variants as check
 use Rattle.checking.proofs.Answers.{refused-small}
 use Rattle.truth.specs.FromBytes.{aexprAt}
 use Rattle.constraints.specs.Values.{isEmpty}
-use Rattle.merge.specs.declared.rewrite.RewriteAnswer.{RewriteAnswer}
-use Rattle.merge.specs.declared.rewrite.RewriteAnswer.the-variants as answer
+use Rattle.merge.specs.declared.answer.RewriteAnswer.{RewriteAnswer}
+use Rattle.merge.specs.declared.answer.RewriteAnswer.the-variants as answer
 use Rattle.merge.specs.Demand.{Row, IsRow, IsChain, isRefused, isNothing, AreBytes, passes, rowsPassing, Demand3}
-use Rattle.merge.specs.Demand.{rootAfter, usedAfter}
+use Rattle.merge.specs.Demand.{rootAfter, usedAfter, AcceptedScreen}
 use Rattle.merge.specs.Emit.{Outcome, Unchanged, NothingPasses, Rebuilt}
 use Rattle.merge.specs.Minterms.{minterms}
+use Rattle.merge.specs.Usable.{Usable, SameTests}
 use Rattle.merge.specs.Rewrite.{outcomeOf, chainNodes, chainRoot, chainUsed, hasRoom, chainFits, outcomeAnswer}
 use Rattle.merge.specs.Rewrite.{rewriteIf, rewriteAnswer, rewriteBytes}
 use Rattle.merge.proofs.Demand.{demand-3}
+use Rattle.merge.proofs.Usable.{returned-usable, returned-tests-same}
 use Rattle.screen.specs.Answers.{rewriteNumber, newRootOut, newUsedOut}
 use Rattle.screen.specs.Promises.{returned, BytesKept, RewritePromise}
 use Rattle.screen.proofs.Kept.{rewrite-kept}
@@ -129,8 +131,11 @@ module _ (t rs p : List ℕ) (used root : ℕ) (a : RewriteAnswer) (is : rewrite
       (subst (λ x. P (rewriteBytes t rs p used root) (usedAfter x used) (rootAfter x root)) is h)))
 
   module _ (bytes : AreBytes rs) where
+    kept : 256 ≤ rewriteNumber a → AcceptedScreen t rs p used root
+    kept n = ap isRefused is ∙ accepted a low n
+
     demand : 256 ≤ rewriteNumber a → Demand3 t rs p used root
-    demand n = demand-3 t rs p used root bytes (ap isRefused is ∙ accepted a low n)
+    demand n = demand-3 t rs p used root bytes (kept n)
 
     call-promise : RewritePromise t rs p used root (rewriteNumber a) out (newRootOut a oldRoot) (newUsedOut a oldUsed)
     call-promise =
@@ -147,6 +152,10 @@ module _ (t rs p : List ℕ) (used root : ℕ) (a : RewriteAnswer) (is : rewrite
                 (λ e. d .0 (ap isNothing is ∙ nothing-number a low e)),
                 λ g. number-nothing a (sym (ap isNothing is) ∙ d .1 g),
               );
+          usable =
+              λ n. moved (λ o u s. Usable t o p u s) (returned-usable t rs p used root bytes (kept n));
+          tests =
+              λ n. moved (SameTests t rs p used root) (returned-tests-same t rs p used root bytes (kept n));
         }
 
     -- All that the call ensures.

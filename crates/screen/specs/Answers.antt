@@ -3,10 +3,10 @@
 use Prim.Native.Nat.{ℕ}
 use Rattle.checking.specs.declared.check.CheckAnswer.{CheckAnswer}
 use Rattle.checking.specs.declared.check.CheckAnswer.the-variants as check
-use Rattle.checking.specs.declared.columns.ColumnsAnswer.{ColumnsAnswer}
-use Rattle.checking.specs.declared.columns.ColumnsAnswer.the-variants as columns
-use Rattle.merge.specs.declared.rewrite.RewriteAnswer.{RewriteAnswer}
-use Rattle.merge.specs.declared.rewrite.RewriteAnswer.the-variants as rewrite
+use Rattle.checking.specs.declared.reads.ColumnsAnswer.{ColumnsAnswer}
+use Rattle.checking.specs.declared.reads.ColumnsAnswer.the-variants as columns
+use Rattle.merge.specs.declared.answer.RewriteAnswer.{RewriteAnswer}
+use Rattle.merge.specs.declared.answer.RewriteAnswer.the-variants as rewrite
 use Rattle.truth.specs.declared.logic.Truth.{Truth}
 use Rattle.truth.specs.declared.logic.Truth.the-variants.{False, Unknown, True}
 use Rattle.truth.specs.declared.test.RowAnswer.{RowAnswer}

@@ -11,6 +11,7 @@ use Rattle.checking.specs.Columns.{bit, reaches}
 use Rattle.truth.specs.FromBytes.{aexprAt}
 use Rattle.merge.specs.Plain.{plainScreen}
 use Rattle.merge.specs.Demand.{Row, IsRow, IsChain, passes, rowsPassing}
+use Rattle.merge.specs.Usable.{Usable, SameTests}
 
 -- columns read answered 256: bit c of the word is set exactly if the root reaches column c, and the count is the number of
 -- ones in the word
@@ -31,7 +32,9 @@ pub record BytesKept (rs out : List ℕ) (first end : ℕ) : Type 0 where
 -- Demand 3 of 01, for one call of rewriting: rs, used and root were sent; out, newRoot and newUsed stand in the
 -- records, in new_root and in new_used after the call. If it did not refuse, each row passes under the screen returned
 -- exactly when it passes under the screen sent, and of every chain as many rows pass; with 257 no row of any chain
--- passes; and of a plain screen, 257 is the answer exactly when no row at all passes.
+-- passes; and of a plain screen, 257 is the answer exactly when no row at all passes. The screen returned is itself
+-- accepted by checking, with a tree of at most 4,096 records; so testing a row, whatever its bytes and null marks,
+-- refuses it under both screens with the same number or under neither, and it passes under both or under neither.
 pub record RewritePromise (t rs p : List ℕ) (used root answer : ℕ) (out : List ℕ) (newRoot newUsed : ℕ) : Type 0 where
   pub rows : 256 ≤ answer → (row : Row) → IsRow t row
       → passes out p (returned answer used newUsed) (returned answer root newRoot) row ≡ passes rs p used root row
@@ -41,3 +44,6 @@ pub record RewritePromise (t rs p : List ℕ) (used root answer : ℕ) (out : Li
   pub nothing : answer ≡ 257 → (chain : List Row) → IsChain t chain → rowsPassing rs p used root chain ≡ 0
   pub exactly : 256 ≤ answer → plainScreen t (aexprAt rs p used) root ≡ true
       → (answer ≡ 257) ↔ ((row : Row) → IsRow t row → passes rs p used root row ≡ true → ⊥)
+  pub usable : 256 ≤ answer → Usable t out p (returned answer used newUsed) (returned answer root newRoot)
+  pub tests : 256 ≤ answer
+      → SameTests t rs p used root out (returned answer used newUsed) (returned answer root newRoot)

@@ -13,8 +13,8 @@ use Rattle.checking.specs.declared.check.CheckAnswer.the-variants as check
 use Rattle.checking.proofs.Accepted.{checked}
 use Rattle.truth.specs.FromBytes.{aexprOf, aexprAt}
 use Rattle.constraints.specs.Payload.{payload}
-use Rattle.merge.specs.declared.rewrite.RewriteAnswer.{RewriteAnswer}
-use Rattle.merge.specs.declared.rewrite.RewriteAnswer.the-variants as answer
+use Rattle.merge.specs.declared.answer.RewriteAnswer.{RewriteAnswer}
+use Rattle.merge.specs.declared.answer.RewriteAnswer.the-variants as answer
 use Rattle.merge.specs.Minterms.{minterms}
 use Rattle.merge.specs.Emit.{Outcome, mergeFilterConstraints}
 use Rattle.merge.specs.Write.{outcomeBytes}

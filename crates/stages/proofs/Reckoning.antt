@@ -10,8 +10,8 @@ use lib.ListN.{length, getD, length-append}
 use borrow.Author.Tests.{leb-true, not-true, not-false}
 use Rattle.checking.specs.Tree.{sumAt}
 use Rattle.records.proofs.Laws.{and-left, and-right}
-use Rattle.merge.specs.declared.rewrite.RewriteAnswer.{RewriteAnswer}
-use Rattle.merge.specs.declared.rewrite.RewriteAnswer.the-variants as answer
+use Rattle.merge.specs.declared.answer.RewriteAnswer.{RewriteAnswer}
+use Rattle.merge.specs.declared.answer.RewriteAnswer.the-variants as answer
 use Rattle.rewrite.specs.Walk.{firstOf}
 use Rattle.rewrite.proofs.Walks.{first-length}
 use Rattle.stages.specs.Reckon.{firstConjunct, roomFor, reckoned}

@@ -20,17 +20,18 @@ use Rattle.constraints.specs.Scalars.{Scalars}
 use Rattle.constraints.specs.Payload as values
 use Rattle.constraints.specs.Comparisons.{ColumnComparison, IsEq, IsLower, IsUpper, IsNotEq}
 use Rattle.constraints.specs.Values.{isEmpty}
-use Rattle.merge.specs.declared.rewrite.RewriteAnswer.the-variants as answer
+use Rattle.merge.specs.declared.answer.RewriteAnswer.the-variants as answer
 use Rattle.merge.specs.Classify.{conjuncts}
 use Rattle.merge.specs.Emit.{Outcome, Unchanged, NothingPasses, Rebuilt, mergeFilterConstraints}
 use Rattle.merge.specs.Rebuild.{comparisonOf, valueOf, comparisonNodes, comparisonsEnd, andRoot, foldRoot, foldUsed}
+use Rattle.merge.specs.Write.{literalType}
 use Rattle.merge.specs.Write.{fieldBytes, wordBytes, operatorOf, writeRecord, splice, writeComparison}
 use Rattle.merge.specs.Write.{writeComparisons, foldBytes, outcomeBytes}
 use Rattle.merge.specs.Rewrite.{outcomeOf, chainNodes, chainRoot, chainUsed, hasRoom, chainFits, outcomeAnswer}
 use Rattle.merge.proofs.Accepted.{inputs-fall}
 use Rattle.merge.proofs.Chains.{Below, below-more}
 use Rattle.merge.proofs.Demand.{halves}
-use Rattle.merge.proofs.Fitting.{outcome-p}
+use Rattle.merge.proofs.Fitting.{Both, both-opens, outcome-p}
 use Rattle.merge.proofs.Literals.{WrittenP, OutcomeP}
 use Rattle.merge.proofs.RebuiltBytes.{Long, Fit}
 use Rattle.merge.proofs.Returned.{AnswerLt, answer-lt}
@@ -117,13 +118,13 @@ write-cut t u x rs =
     (kind.Binary (operatorOf o) (node u) (node (suc u)))) (comparison-cut (x .1))
     ∙ ap (λ s. writeRecord s (suc (suc u)) (kind.Binary (operatorOf (comparisonOf (x .1))) (node u) (node (suc u))))
     (ap second (value-cut (x .1))
-    ∙ sym (ap (splice first (16 * suc u)) (literal-cut (getD t (x .0) 0) (valueOf (x .1)))))
+    ∙ sym (ap (splice first (16 * suc u)) (literal-cut (literalType t (x .0)) (valueOf (x .1)))))
   where
     first : List ℕ
     first = writeRecord rs u (kind.Column (columnNumber (x .0)))
 
     second : ℕ → List ℕ
-    second v = writeRecord first (suc u) (kind.Literal (getD t (x .0) 0) v)
+    second v = writeRecord first (suc u) (kind.Literal (literalType t (x .0)) v)
 
 writes-cut : (t : List ℕ) (u : ℕ) (cs : List (ℕ × ColumnComparison ℕ)) (rs : List ℕ)
     → writeComparisons t u (cutAll cs) rs ≡ writeComparisons t u cs rs
@@ -345,8 +346,15 @@ payload-is : values.payload ≡ payload
 unfolding values.payload
 payload-is = refl
 
+-- A column of the table, beside any value.
+abbrev OfTable : ℕ → ℕ → Type 0
+OfTable = Both values.payload AnyValue (λ w e h l. tt) (λ c. c < 64)
+
+abbrev of-table-opens : (c w e : ℕ) → OfTable c w → OfTable c e → OfTable c (values.payload .opened w e)
+of-table-opens = both-opens values.payload AnyValue (λ w e h l. tt) (λ c. c < 64)
+
 compared-below : (cs : List (ℕ × ColumnComparison ℕ))
-    → WrittenP values.payload AnyValue (λ w e h l. tt) (λ c. c < 64) cs → ComparedBelow 64 cs
+    → WrittenP values.payload OfTable of-table-opens cs → ComparedBelow 64 cs
 compared-below [] h = tt
 compared-below (x ∷ cs) h = (h .0 .0, compared-below cs (h .1))
 
@@ -365,7 +373,7 @@ module _ (t rs p : List ℕ) (used root : ℕ) (ok : Checked t rs p used root) w
       → outcomeOf rs p used root ≡ Rebuilt ns cs → ComparedBelow 64 cs
   compared-in-table ns cs e =
       compared-below cs
-      (subst (OutcomeP values.payload AnyValue (λ w e h l. tt) (λ c. c < 64)) e
+      (subst (OutcomeP values.payload OfTable of-table-opens) e
       (outcome-p values.payload AnyValue (λ w e h l. tt) (λ c. c < 64) (aexprAt rs p used)
       (table-below t rs p used root ok) root))
 

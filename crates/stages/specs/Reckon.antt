@@ -8,8 +8,8 @@ use lib.ListN.{length, getD}
 use Rattle.checking.specs.Tree.{sumAt}
 use Rattle.constraints.specs.Comparisons.{ColumnComparison}
 use Rattle.merge.specs.Emit.{Outcome, Unchanged, NothingPasses, Rebuilt}
-use Rattle.merge.specs.declared.rewrite.RewriteAnswer.{RewriteAnswer}
-use Rattle.merge.specs.declared.rewrite.RewriteAnswer.the-variants as answer
+use Rattle.merge.specs.declared.answer.RewriteAnswer.{RewriteAnswer}
+use Rattle.merge.specs.declared.answer.RewriteAnswer.the-variants as answer
 
 -- Three records a comparison, and one And less than there are conjuncts.
 abbrev pub added : List ℕ → ℕ → ℕ

@@ -1,7 +1,7 @@
 -- Whether an answer writes a chain.
 use mathlib.Core.Bool.{Bool, true, false}
-use Rattle.merge.specs.declared.rewrite.RewriteAnswer.{RewriteAnswer}
-use Rattle.merge.specs.declared.rewrite.RewriteAnswer.the-variants as answer
+use Rattle.merge.specs.declared.answer.RewriteAnswer.{RewriteAnswer}
+use Rattle.merge.specs.declared.answer.RewriteAnswer.the-variants as answer
 
 abbrev pub isRewritten : RewriteAnswer → Bool
 isRewritten (answer.Refused k) = false

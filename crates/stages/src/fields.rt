@@ -3,7 +3,7 @@ ghost use mathlib.Core.Path.{_≡_};
 ghost use mathlib.Core.Bool.{cond};
 ghost use Prim.Native.Nat.{_+_, _<_, _≤_, _%_};
 ghost use Rattle.stages.specs.Rewritten.{isRewritten};
-use merge::rewrite::RewriteAnswer;
+use merge::answer::RewriteAnswer;
 use records::record::Column;
 
 /// A column's place in the table.

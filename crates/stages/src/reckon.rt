@@ -9,7 +9,7 @@ ghost use Rattle.merge.specs.Write.{outcomeBytes};
 ghost use Rattle.merge.specs.Rewrite.{writtenIf};
 ghost use Rattle.rewrite.specs.Walk.{firstOf};
 ghost use Rattle.stages.specs.Reckon.{firstConjunct, roomFor, reckoned, reckonedAnswer};
-use merge::rewrite::RewriteAnswer;
+use merge::answer::RewriteAnswer;
 use records::record::Node;
 use rewrite::write::write_false;
 

@@ -48,10 +48,6 @@ within : (x c : ℕ) → c ≡ min x 4097 → c ≤ 4096 → x ≤ 4096
 within x c e h = omega arith
 
 module _ (t rs p row : List ℕ) (nulls used root : ℕ) (ok : Checked t rs p used root) where
-  pub root-small : root < 4096
-  root-small = let a : root < used = ok .root-used in let b : used ≤ 4096 = checked-used t rs p used root ok in omega
-      arith
-
   module _ (c : ℕ) (counted : c ≡ min (treeCount rs root) 4097) where
     pub tree-refused : 4096 < c → Refused 8 ≡ checkedAnswer t rs p used root row nulls
     unfolding checkedAnswer

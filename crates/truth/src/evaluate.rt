@@ -61,5 +61,33 @@ pub fn value_at(records: &[u8], pool: &[u8], row: &[u8], nulls: u64, n: Node) ->
     if f.kind <= 3 {
         return leaf_value(f, row, nulls);
     }
-    value_of_truth(truth_at(records, pool, row, nulls, n))
+    let kind = f.kind;
+    match kind {
+        4 => {
+            if f.code < 8 {
+                let x = value_at(records, pool, row, nulls, Node(f.a));
+                let y = value_at(records, pool, row, nulls, Node(f.b));
+                return value_of_truth(compared(f.code, x, y));
+            }
+            let s = truth_at(records, pool, row, nulls, Node(f.a));
+            let t = truth_at(records, pool, row, nulls, Node(f.b));
+            value_of_truth(connected(f.code, s, t))
+        }
+        5 => value_of_truth(not_of(truth_at(records, pool, row, nulls, Node(f.a)))),
+        6 => value_of_truth(truth_of_bool(is_null(value_at(records, pool, row, nulls, Node(f.a))))),
+        7 => value_of_truth(truth_of_bool(
+            !is_null(value_at(records, pool, row, nulls, Node(f.a))),
+        )),
+        8 => {
+            let x = value_at(records, pool, row, nulls, Node(f.a));
+            let low = value_at(records, pool, row, nulls, Node(f.b));
+            let high = value_at(records, pool, row, nulls, Node(f.c));
+            value_of_truth(between(f.code, x, low, high))
+        }
+        10 => {
+            let x = value_at(records, pool, row, nulls, Node(f.a));
+            value_of_truth(member(pool, fields_in(records, Node(f.b)), f.code == 1, x))
+        }
+        _ => value_of_truth(truth_of_value(leaf_value(f, row, nulls))),
+    }
 }

@@ -1,13 +1,15 @@
 // Testing a row: the checks in 01's order, then the root's truth. A row passes on true only.
 ghost use mathlib.Core.Path.{_≡_};
+ghost use Prim.Native.Nat.{_≤_, min};
+ghost use lib.ListN.{length};
 ghost use Rattle.checking.specs.Checked.{Checked};
+ghost use Rattle.checking.specs.Tree.{treeCount};
 ghost use Rattle.truth.specs.RowTest.{checkedAnswer, testRowAnswer};
 use crate::evaluate::truth_at;
 use crate::logic::Truth;
 use crate::row::row_fault;
 use checking::check::CheckAnswer;
-use checking::check::check_screen;
-use checking::tree::tree_count;
+use checking::check::check_counted;
 use records::record::Node;
 
 // A refusal with its number, or what the row makes of the screen.
@@ -16,7 +18,7 @@ pub enum RowAnswer {
     Tested(Truth),
 }
 
-// The answer for a screen that was accepted: 8, 12 and 13, then the truth.
+// The answer for a screen that was accepted and whose root has the tree count: 8, 12 and 13, then the truth.
 pub fn test_checked(
     table: &[u8],
     records: &[u8],
@@ -25,12 +27,14 @@ pub fn test_checked(
     root: Node,
     row: &[u8],
     nulls: u64,
+    tree: u16,
 ) -> RowAnswer
     requires { ⌜ Checked (now table) (now records) (now pool) used (root .0) ⌝ }
+    requires { ⌜ tree ≡ min (treeCount (now records) (root .0)) 4097 ⌝ }
     ensures { λ r. ⌜ r ≡ checkedAnswer (now (table .entry)) (now (records .entry)) (now (pool .entry)) used (root .0)
         (now (row .entry)) nulls ⌝ }
 {
-    if 4096 < tree_count(records, root) {
+    if 4096 < tree {
         return RowAnswer::Refused(8);
     }
     let fault = row_fault(table, row, nulls);
@@ -40,6 +44,39 @@ pub fn test_checked(
     RowAnswer::Tested(truth_at(records, pool, row, nulls, root))
 }
 
+fn test_within(
+    table: &[u8],
+    records: &[u8],
+    pool: &[u8],
+    used: u64,
+    root: u64,
+    row: &[u8],
+    nulls: u64,
+    types: &mut [u8],
+    trees: &mut [u16],
+) -> RowAnswer
+    requires { ⌜ (used ≤ 4096 → used ≤ length (now types)) ⌝ }
+    requires { ⌜ (used ≤ 4096 → used ≤ length (now trees)) ⌝ }
+    ensures { λ r. ⌜ r ≡ testRowAnswer (now (table .entry)) (now (records .entry)) (now (pool .entry)) used root
+        (now (row .entry)) nulls ⌝ }
+{
+    let answer = check_counted(table, records, pool, used, root, types, trees);
+    match answer {
+        CheckAnswer::Refused(number) => RowAnswer::Refused(number),
+        CheckAnswer::Accepted => test_checked(
+            table,
+            records,
+            pool,
+            used,
+            Node(root as u32),
+            row,
+            nulls,
+            trees[root as usize],
+        ),
+    }
+}
+
+// Most screens have few records, and small tables cost less to clear.
 pub fn test_row(
     table: &[u8],
     records: &[u8],
@@ -52,17 +89,32 @@ pub fn test_row(
     ensures { λ r. ⌜ r ≡ testRowAnswer (now (table .entry)) (now (records .entry)) (now (pool .entry)) used root
         (now (row .entry)) nulls ⌝ }
 {
-    let answer = check_screen(table, records, pool, used, root);
-    match answer {
-        CheckAnswer::Refused(number) => RowAnswer::Refused(number),
-        CheckAnswer::Accepted => test_checked(
+    if used <= 64 {
+        let mut few = [0u8; 64];
+        let mut small = [0u16; 64];
+        return test_within(
             table,
             records,
             pool,
             used,
-            Node(root as u32),
+            root,
             row,
             nulls,
-        ),
+            &mut few,
+            &mut small,
+        );
     }
+    let mut types = [0u8; 4096];
+    let mut trees = [0u16; 4096];
+    test_within(
+        table,
+        records,
+        pool,
+        used,
+        root,
+        row,
+        nulls,
+        &mut types,
+        &mut trees,
+    )
 }

@@ -3,7 +3,7 @@ use Rattle.rule.proofs.merge_few.Statement.{statement}
 use Rattle.rule.proofs.merge_few.Tie as tie
 use Rattle.rule.proofs.merge_few.Reads as reads
 use Rattle.rule.proofs.merge_few.Lts as lts
-use Rattle.filter_constraint.proofs.merge_filter_constraints.Reads as merge-filter-constraints-reads
+use Rattle.filter_constraint.proofs.merging.merge_filter_constraints.Reads as merge-filter-constraints-reads
 use Rattle.rewrite.proofs.literals.read_literals.Reads as read-literals-reads
 use Prim.Native.Nat.{ℕ}
 use native.Mathlib.Omega.{arith}

@@ -3,7 +3,7 @@ use Rattle.rule.proofs.merge_many.Statement.{statement}
 use Rattle.rule.proofs.merge_many.Tie as tie
 use Rattle.rule.proofs.merge_many.Reads as reads
 use Rattle.rule.proofs.merge_many.Lts as lts
-use Rattle.filter_constraint.proofs.merge_filter_constraints.Reads as merge-filter-constraints-reads
+use Rattle.filter_constraint.proofs.merging.merge_filter_constraints.Reads as merge-filter-constraints-reads
 use Rattle.rewrite.proofs.literals.read_literals.Reads as read-literals-reads
 use Prim.Native.Nat.{ℕ}
 use native.Mathlib.Omega.{arith}

@@ -1,47 +1,48 @@
+use Rattle.stages.proofs.Answers.{rewrite-8}
+use Rattle.checking.specs.Tree.{treeCount}
+use native.Mathlib.Omega.{arith}
+use Prim.Native.Nat.{_<_}
+use mathlib.Core.Path.{sym}
 use borrow.Author.Needs.{needs}
 use Rattle.rule.proofs.rewrite_checked.Statement.{statement}
 use Rattle.rule.proofs.rewrite_checked.Tie as tie
 use Rattle.rule.proofs.rewrite_checked.Reads as reads
 use Rattle.rule.proofs.rewrite_checked.Lts as lts
-use Rattle.rule.proofs.rewrite_within.Reads as rewrite-within-reads
-use Rattle.checking.proofs.Accepted.{accepted-root}
-use native.Mathlib.Omega.{arith}
-use lib.ListN.{length-replicate}
-use Prim.Native.Nat.{ℕ}
+use Rattle.rule.proofs.rewrite_counted.Reads as rewrite-counted-reads
 
--- src/lib.rt:113:53
-slice-aggregate-rewrite-within : tie.Need-slice-aggregate-rewrite-within
-slice-aggregate-rewrite-within c = search needs
+-- src/lib.rt:164:21
+cast-top : tie.Need-cast-top
+cast-top c = search needs
 
--- src/lib.rt:113:9
-rewrite-within-requires : tie.Need-rewrite-within-requires
-rewrite-within-requires c κs = search needs
+-- src/lib.rt:164:15
+mul-top : tie.Need-mul-top
+mul-top c = search needs
 
--- src/lib.rt:113:9
+-- src/lib.rt:164:15
+shared-slice-read-top : tie.Need-shared-slice-read-top
+shared-slice-read-top c = search needs
+
+-- src/lib.rt:166:9
+returns : tie.Need-returns
+returns c =
+    let st = (c .before .before .before .before .before .before .before) in
+    let e = st .pre .1 .0 (st .args .root .0) (omega arith) in
+    let k : 4096 < treeCount (st .args .rs .now) (st .args .root .0) = omega (arith, e, (c .if1) .taken) in
+    let h = rewrite-8 (st .args .t .now) (st .args .rs .now) (st .args .p .now) (st .args .used) (st .args .root
+    .0) (st .pre .0) k in (sym (h .0), sym (h .1))
+
+-- src/lib.rt:168:5
+rewrite-counted-requires : tie.Need-rewrite-counted-requires
+rewrite-counted-requires c κs =
+    let st = (c .before .before .before .before .before .before .before .before) in
+    let e = st .pre .1 .0 (st .args .root .0) (omega arith) in
+    (st .pre .0, (st .pre .1 .0, omega (arith, e, (c .before .if1) .left)))
+
+-- src/lib.rt:149:1
 same-length : tie.Need-same-length
 same-length c = search needs
 
--- src/lib.rt:113:9
-returns : tie.Need-returns
-returns c = search needs
-
--- src/lib.rt:116:42
-slice-aggregate-rewrite-within-2 : tie.Need-slice-aggregate-rewrite-within-2
-slice-aggregate-rewrite-within-2 c = search needs
-
--- src/lib.rt:116:5
-rewrite-within-requires-2 : tie.Need-rewrite-within-requires-2
-rewrite-within-requires-2 c κs =
-    let st = c .before .before .before .before .before .before .before in
-    let h = accepted-root (st .args .t .now) (st .args .rs .now) (st .args .p .now) (st .args .used) (st .args
-    .root .0) (st .pre) in
-    let z = length-replicate {A = ℕ} 4096 0 in (st .pre, omega (arith, h, z))
-
--- src/lib.rt:105:1
-same-length-2 : tie.Need-same-length-2
-same-length-2 c = search needs
-
--- src/lib.rt:105:1
+-- src/lib.rt:149:1
 returns-2 : tie.Need-returns-2
 returns-2 c = search needs
 
@@ -49,11 +50,10 @@ pub rewrite-checked-spec : {M : Type 1} → statement M
 rewrite-checked-spec =
     tie.close
     (tie.spec
-    slice-aggregate-rewrite-within
-    rewrite-within-requires
-    same-length
+    cast-top
+    mul-top
+    shared-slice-read-top
     returns
-    slice-aggregate-rewrite-within-2
-    rewrite-within-requires-2
-    same-length-2
+    rewrite-counted-requires
+    same-length
     returns-2)

@@ -7,7 +7,7 @@ use Rattle.screen.proofs.screen_columns_read.Statement.{statement}
 use Rattle.screen.proofs.screen_columns_read.Tie as tie
 use Rattle.screen.proofs.screen_columns_read.Reads as reads
 use Rattle.screen.proofs.screen_columns_read.Lts as lts
-use Rattle.checking.proofs.columns.columns_read.Reads as columns-read-reads
+use Rattle.checking.proofs.reads.columns_read.Reads as columns-read-reads
 
 -- src/lib.rt:47:11
 columns-read-requires : tie.Need-columns-read-requires

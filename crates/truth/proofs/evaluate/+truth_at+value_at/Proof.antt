@@ -31,10 +31,10 @@ use Rattle.truth.proofs.evaluate.+truth_at+value_at.{statement}
 use Rattle.truth.proofs.evaluate.+truth_at+value_at.Tie.{close}
 
 abbrev μ-truth-at : Measures 3 truth-at-kinds.ps ℕ
-μ-truth-at κs a = 2 * (a .1 .1 .1 .1 .0 .0)
+μ-truth-at κs a = a .1 .1 .1 .1 .0 .0
 
 abbrev μ-value-at : Measures 3 value-at-kinds.ps ℕ
-μ-value-at κs a = 2 * (a .1 .1 .1 .1 .0 .0) + 1
+μ-value-at κs a = a .1 .1 .1 .1 .0 .0
 
 abbrev truth-at-at : ℕ → In 3 truth-at-kinds.ps
 truth-at-at t = and 3 truth-at-kinds.ps (is 3 truth-at-kinds.ps μ-truth-at t) truth-at.Pre
@@ -85,10 +85,28 @@ value-at-calls t = (
   fields-in-reads.Learnt,
   leaf-value-reads.Asked,
   leaf-value-reads.Learnt,
-  truth-at-below t,
-  truth-at.Post,
+  value-at-below t,
+  value-at.Post,
+  compared-reads.Asked,
+  compared-reads.Learnt,
   value-of-truth-reads.Asked,
   value-of-truth-reads.Learnt,
+  truth-at-below t,
+  truth-at.Post,
+  connected-reads.Asked,
+  connected-reads.Learnt,
+  not-of-reads.Asked,
+  not-of-reads.Learnt,
+  is-null-reads.Asked,
+  is-null-reads.Learnt,
+  truth-of-bool-reads.Asked,
+  truth-of-bool-reads.Learnt,
+  between-reads.Asked,
+  between-reads.Learnt,
+  member-reads.Asked,
+  member-reads.Learnt,
+  truth-of-value-reads.Asked,
+  truth-of-value-reads.Learnt,
 )
 
 -- src/evaluate.rt:26:9
@@ -353,48 +371,163 @@ truth-at-returns-8 t c =
     (k .0 .0 .0 .0 .0 .1) (k .0 .0 .0 .0 .1) (k .0 .0 .0 .1) (k .0 .0 .1) (k .0 .1) (k .1) _ _
     (c .before .leaf-value .ensures) (c .truth-of-value .ensures)
 
--- src/evaluate.rt:61:9
-value-at-fields-in-requires : (t : ℕ) → value-at-lts.Need-fields-in-requires (value-at-calls t) (value-at-at t)
-    value-at.Post
-value-at-fields-in-requires t c κs =
-    let st = c .before .before .before in
-    let r = st .pre .1 .room in search needs
+value-at-fields-in-requires : (t : ℕ) → value-at-lts.Need-fields-in-requires (value-at-calls t) (value-at-at t) value-at.Post
+value-at-fields-in-requires t c κs = let st = c .before .before .before in let r = st .pre .1 .room in search needs
 
--- src/evaluate.rt:63:9
-value-at-leaf-value-requires : (t : ℕ) → value-at-lts.Need-leaf-value-requires (value-at-calls t) (value-at-at t)
-    value-at.Post
-value-at-leaf-value-requires t c κs =
-    let st = c .before .before .before .before .before .before in
-    fit-of (st .args .records .now) (st .args .pool .now) (st .args .row .now) (st .args .nulls) (st .args .n) _
-    (st .pre .1) (c .before .before .fields-in .ensures) .column
+value-at-leaf-value-requires : (t : ℕ) → value-at-lts.Need-leaf-value-requires (value-at-calls t) (value-at-at t) value-at.Post
+value-at-leaf-value-requires t c κs = let st = c .before .before .before .before .before .before in fit-of (st .args .records .now) (st .args .pool .now) (st .args .row .now) (st .args .nulls) (st .args .n) _ (st .pre .1) (c .before .before .fields-in .ensures) .column
 
--- src/evaluate.rt:63:9
 value-at-returns : (t : ℕ) → value-at-lts.Need-returns (value-at-calls t) (value-at-at t) value-at.Post
-value-at-returns t c =
-    let st = c .before .before .before .before .before .before .before in
-    leaf-is-value (st .args .records .now) (st .args .pool .now) (st .args .row .now) (st .args .nulls) (st .args .n)
-    _ (st .pre .1) (c .before .before .before .fields-in .ensures) (c .before .if1 .taken) _
-    (c .leaf-value .ensures)
+value-at-returns t c = let st = c .before .before .before .before .before .before .before in leaf-is-value (st .args .records .now) (st .args .pool .now) (st .args .row .now) (st .args .nulls) (st .args .n) _ (st .pre .1) (c .before .before .before .fields-in .ensures) (c .before .if1 .taken) _ (c .leaf-value .ensures)
 
--- src/evaluate.rt:65:20
-value-at-truth-at-requires : (t : ℕ) → value-at-lts.Need-truth-at-requires (value-at-calls t) (value-at-at t)
-    value-at.Post
-value-at-truth-at-requires t c κs =
-    let st = c .before .before .before .before .before .before in
-    (omega arith, st .pre .1)
+value-at-value-at-requires : (t : ℕ) → value-at-lts.Need-value-at-requires (value-at-calls t) (value-at-at t) value-at.Post
+value-at-value-at-requires t c κs = let st = c .before .before .before .before .before .before .before .before .before in let h : c .before .before .before .before .before .fields-in .result .a < st .args .n .0 = binary-below (st .args .records .now) (st .args .pool .now) (st .args .row .now) (st .args .nulls) (st .args .n) _ (st .pre .1) (c .before .before .before .before .before .fields-in .ensures) (c .before .before .match .keys1) .0 in (omega arith, evaluable-below _ h (st .pre .1))
 
--- src/evaluate.rt:65:5
-value-at-value-of-truth-requires : (t : ℕ) → value-at-lts.Need-value-of-truth-requires (value-at-calls t)
-    (value-at-at t) value-at.Post
+value-at-value-at-requires-2 : (t : ℕ) → value-at-lts.Need-value-at-requires-2 (value-at-calls t) (value-at-at t) value-at.Post
+value-at-value-at-requires-2 t c κs = let st = c .before .before .before .before .before .before .before .before .before .before in let h : c .before .before .before .before .before .before .fields-in .result .b < st .args .n .0 = binary-below (st .args .records .now) (st .args .pool .now) (st .args .row .now) (st .args .nulls) (st .args .n) _ (st .pre .1) (c .before .before .before .before .before .before .fields-in .ensures) (c .before .before .before .match .keys1) .1 in (omega arith, evaluable-below _ h (st .pre .1))
+
+value-at-compared-requires : (t : ℕ) → value-at-lts.Need-compared-requires (value-at-calls t) (value-at-at t) value-at.Post
+value-at-compared-requires t c κs = search needs
+
+value-at-value-of-truth-requires : (t : ℕ) → value-at-lts.Need-value-of-truth-requires (value-at-calls t) (value-at-at t) value-at.Post
 value-at-value-of-truth-requires t c κs = search needs
 
--- src/evaluate.rt:57:1
 value-at-returns-2 : (t : ℕ) → value-at-lts.Need-returns-2 (value-at-calls t) (value-at-at t) value-at.Post
 value-at-returns-2 t c =
-    let st = c .before .before .before .before .before .before .before .before in
-    truth-is-value (st .args .records .now) (st .args .pool .now) (st .args .row .now) (st .args .nulls) (st .args .n)
-    _ (st .pre .1) (c .before .before .before .before .fields-in .ensures) (c .before .before .if1 .left) _ _
-    (c .before .truth-at .ensures) (c .value-of-truth .ensures)
+    let st = c .before .before .before .before .before .before .before .before .before .before .before .before .before in
+    truth-is-value (st .args .records .now) (st .args .pool .now) (st .args .row .now) (st .args .nulls) (st .args .n) _ (st .pre .1) (c .before .before .before .before .before .before .before .before .before .fields-in .ensures) (c .before .before .before .before .before .before .before .if1 .left) _ _
+    (compared-truth (st .args .records .now) (st .args .pool .now) (st .args .row .now) (st .args .nulls) (st .args .n) _ (st .pre .1) (c .before .before .before .before .before .before .before .before .before .fields-in .ensures) (c .before .before .before .before .before .before .match .keys1) (c .before .before .before .before .if2 .taken) _ _ _ (c .before .before .before .value-at .ensures) (c .before .before .value-at2 .ensures) (c .before .compared .ensures))
+    (c .value-of-truth .ensures)
+
+value-at-truth-at-requires : (t : ℕ) → value-at-lts.Need-truth-at-requires (value-at-calls t) (value-at-at t) value-at.Post
+value-at-truth-at-requires t c κs = let st = c .before .before .before .before .before .before .before .before .before in let h : c .before .before .before .before .before .fields-in .result .a < st .args .n .0 = binary-below (st .args .records .now) (st .args .pool .now) (st .args .row .now) (st .args .nulls) (st .args .n) _ (st .pre .1) (c .before .before .before .before .before .fields-in .ensures) (c .before .before .match .keys1) .0 in (omega arith, evaluable-below _ h (st .pre .1))
+
+value-at-truth-at-requires-2 : (t : ℕ) → value-at-lts.Need-truth-at-requires-2 (value-at-calls t) (value-at-at t) value-at.Post
+value-at-truth-at-requires-2 t c κs = let st = c .before .before .before .before .before .before .before .before .before .before in let h : c .before .before .before .before .before .before .fields-in .result .b < st .args .n .0 = binary-below (st .args .records .now) (st .args .pool .now) (st .args .row .now) (st .args .nulls) (st .args .n) _ (st .pre .1) (c .before .before .before .before .before .before .fields-in .ensures) (c .before .before .before .match .keys1) .1 in (omega arith, evaluable-below _ h (st .pre .1))
+
+value-at-connected-requires : (t : ℕ) → value-at-lts.Need-connected-requires (value-at-calls t) (value-at-at t) value-at.Post
+value-at-connected-requires t c κs = search needs
+
+value-at-value-of-truth-requires-2 : (t : ℕ) → value-at-lts.Need-value-of-truth-requires-2 (value-at-calls t) (value-at-at t) value-at.Post
+value-at-value-of-truth-requires-2 t c κs = search needs
+
+value-at-truth-at-requires-3 : (t : ℕ) → value-at-lts.Need-truth-at-requires-3 (value-at-calls t) (value-at-at t) value-at.Post
+value-at-truth-at-requires-3 t c κs = let st = c .before .before .before .before .before .before .before in let h : c .before .before .before .fields-in .result .a < st .args .n .0 = not-below (st .args .records .now) (st .args .pool .now) (st .args .row .now) (st .args .nulls) (st .args .n) _ (st .pre .1) (c .before .before .before .fields-in .ensures) (c .match .keys2) in (omega arith, evaluable-below _ h (st .pre .1))
+
+value-at-not-of-requires : (t : ℕ) → value-at-lts.Need-not-of-requires (value-at-calls t) (value-at-at t) value-at.Post
+value-at-not-of-requires t c κs = search needs
+
+value-at-value-of-truth-requires-3 : (t : ℕ) → value-at-lts.Need-value-of-truth-requires-3 (value-at-calls t) (value-at-at t) value-at.Post
+value-at-value-of-truth-requires-3 t c κs = search needs
+
+value-at-value-at-requires-3 : (t : ℕ) → value-at-lts.Need-value-at-requires-3 (value-at-calls t) (value-at-at t) value-at.Post
+value-at-value-at-requires-3 t c κs = let st = c .before .before .before .before .before .before .before in let h : c .before .before .before .fields-in .result .a < st .args .n .0 = null-below (st .args .records .now) (st .args .pool .now) (st .args .row .now) (st .args .nulls) (st .args .n) _ (st .pre .1) (c .before .before .before .fields-in .ensures) (c .match .keys3) in (omega arith, evaluable-below _ h (st .pre .1))
+
+value-at-is-null-requires : (t : ℕ) → value-at-lts.Need-is-null-requires (value-at-calls t) (value-at-at t) value-at.Post
+value-at-is-null-requires t c κs = search needs
+
+value-at-truth-of-bool-requires : (t : ℕ) → value-at-lts.Need-truth-of-bool-requires (value-at-calls t) (value-at-at t) value-at.Post
+value-at-truth-of-bool-requires t c κs = search needs
+
+value-at-value-of-truth-requires-4 : (t : ℕ) → value-at-lts.Need-value-of-truth-requires-4 (value-at-calls t) (value-at-at t) value-at.Post
+value-at-value-of-truth-requires-4 t c κs = search needs
+
+value-at-value-at-requires-4 : (t : ℕ) → value-at-lts.Need-value-at-requires-4 (value-at-calls t) (value-at-at t) value-at.Post
+value-at-value-at-requires-4 t c κs = let st = c .before .before .before .before .before .before .before in let h : c .before .before .before .fields-in .result .a < st .args .n .0 = not-null-below (st .args .records .now) (st .args .pool .now) (st .args .row .now) (st .args .nulls) (st .args .n) _ (st .pre .1) (c .before .before .before .fields-in .ensures) (c .match .keys4) in (omega arith, evaluable-below _ h (st .pre .1))
+
+value-at-is-null-requires-2 : (t : ℕ) → value-at-lts.Need-is-null-requires-2 (value-at-calls t) (value-at-at t) value-at.Post
+value-at-is-null-requires-2 t c κs = search needs
+
+value-at-truth-of-bool-requires-2 : (t : ℕ) → value-at-lts.Need-truth-of-bool-requires-2 (value-at-calls t) (value-at-at t) value-at.Post
+value-at-truth-of-bool-requires-2 t c κs = search needs
+
+value-at-value-of-truth-requires-5 : (t : ℕ) → value-at-lts.Need-value-of-truth-requires-5 (value-at-calls t) (value-at-at t) value-at.Post
+value-at-value-of-truth-requires-5 t c κs = search needs
+
+value-at-value-at-requires-5 : (t : ℕ) → value-at-lts.Need-value-at-requires-5 (value-at-calls t) (value-at-at t) value-at.Post
+value-at-value-at-requires-5 t c κs = let st = c .before .before .before .before .before .before .before in let h : c .before .before .before .fields-in .result .a < st .args .n .0 = between-below (st .args .records .now) (st .args .pool .now) (st .args .row .now) (st .args .nulls) (st .args .n) _ (st .pre .1) (c .before .before .before .fields-in .ensures) (c .match .keys5) .0 in (omega arith, evaluable-below _ h (st .pre .1))
+
+value-at-value-at-requires-6 : (t : ℕ) → value-at-lts.Need-value-at-requires-6 (value-at-calls t) (value-at-at t) value-at.Post
+value-at-value-at-requires-6 t c κs = let st = c .before .before .before .before .before .before .before .before in let h : c .before .before .before .before .fields-in .result .b < st .args .n .0 = between-below (st .args .records .now) (st .args .pool .now) (st .args .row .now) (st .args .nulls) (st .args .n) _ (st .pre .1) (c .before .before .before .before .fields-in .ensures) (c .before .match .keys5) .1 in (omega arith, evaluable-below _ h (st .pre .1))
+
+value-at-value-at-requires-7 : (t : ℕ) → value-at-lts.Need-value-at-requires-7 (value-at-calls t) (value-at-at t) value-at.Post
+value-at-value-at-requires-7 t c κs = let st = c .before .before .before .before .before .before .before .before .before in let h : c .before .before .before .before .before .fields-in .result .c < st .args .n .0 = between-below (st .args .records .now) (st .args .pool .now) (st .args .row .now) (st .args .nulls) (st .args .n) _ (st .pre .1) (c .before .before .before .before .before .fields-in .ensures) (c .before .before .match .keys5) .2 in (omega arith, evaluable-below _ h (st .pre .1))
+
+value-at-between-requires : (t : ℕ) → value-at-lts.Need-between-requires (value-at-calls t) (value-at-at t) value-at.Post
+value-at-between-requires t c κs = search needs
+
+value-at-value-of-truth-requires-6 : (t : ℕ) → value-at-lts.Need-value-of-truth-requires-6 (value-at-calls t) (value-at-at t) value-at.Post
+value-at-value-of-truth-requires-6 t c κs = search needs
+
+value-at-value-at-requires-8 : (t : ℕ) → value-at-lts.Need-value-at-requires-8 (value-at-calls t) (value-at-at t) value-at.Post
+value-at-value-at-requires-8 t c κs = let st = c .before .before .before .before .before .before .before in let h : c .before .before .before .fields-in .result .a < st .args .n .0 = in-below (st .args .records .now) (st .args .pool .now) (st .args .row .now) (st .args .nulls) (st .args .n) _ (st .pre .1) (c .before .before .before .fields-in .ensures) (c .match .keys6) .0 in (omega arith, evaluable-below _ h (st .pre .1))
+
+value-at-fields-in-requires-2 : (t : ℕ) → value-at-lts.Need-fields-in-requires-2 (value-at-calls t) (value-at-at t) value-at.Post
+value-at-fields-in-requires-2 t c κs = let st = c .before .before .before .before .before .before .before .before in let h : c .before .before .before .before .fields-in .result .b < st .args .n .0 = in-below (st .args .records .now) (st .args .pool .now) (st .args .row .now) (st .args .nulls) (st .args .n) _ (st .pre .1) (c .before .before .before .before .fields-in .ensures) (c .before .match .keys6) .1 in let r = st .pre .1 .room in omega arith
+
+value-at-member-requires : (t : ℕ) → value-at-lts.Need-member-requires (value-at-calls t) (value-at-at t) value-at.Post
+value-at-member-requires t c κs = let st = c .before .before .before .before .before .before .before .before .before .before in list-room (st .args .records .now) (st .args .pool .now) (st .args .row .now) (st .args .nulls) (st .args .n) _ (st .pre .1) (c .before .before .before .before .before .before .fields-in .ensures) (c .before .before .before .match .keys6) _ (c .before .fields-in2 .ensures)
+
+value-at-value-of-truth-requires-7 : (t : ℕ) → value-at-lts.Need-value-of-truth-requires-7 (value-at-calls t) (value-at-at t) value-at.Post
+value-at-value-of-truth-requires-7 t c κs = search needs
+
+value-at-leaf-value-requires-2 : (t : ℕ) → value-at-lts.Need-leaf-value-requires-2 (value-at-calls t) (value-at-at t) value-at.Post
+value-at-leaf-value-requires-2 t c κs = let st = c .before .before .before .before .before .before .before in fit-of (st .args .records .now) (st .args .pool .now) (st .args .row .now) (st .args .nulls) (st .args .n) _ (st .pre .1) (c .before .before .before .fields-in .ensures) .column
+
+value-at-truth-of-value-requires : (t : ℕ) → value-at-lts.Need-truth-of-value-requires (value-at-calls t) (value-at-at t) value-at.Post
+value-at-truth-of-value-requires t c κs = search needs
+
+value-at-value-of-truth-requires-8 : (t : ℕ) → value-at-lts.Need-value-of-truth-requires-8 (value-at-calls t) (value-at-at t) value-at.Post
+value-at-value-of-truth-requires-8 t c κs = search needs
+
+value-at-returns-3 : (t : ℕ) → value-at-lts.Need-returns-3 (value-at-calls t) (value-at-at t) value-at.Post
+value-at-returns-3 t c =
+    let st = c .before .before .before .before .before .before .before .before .before .before .before .before .before in
+    truth-is-value (st .args .records .now) (st .args .pool .now) (st .args .row .now) (st .args .nulls) (st .args .n) _ (st .pre .1) (c .before .before .before .before .before .before .before .before .before .fields-in .ensures) (c .before .before .before .before .before .before .before .if1 .left) _ _
+    (connected-truth (st .args .records .now) (st .args .pool .now) (st .args .row .now) (st .args .nulls) (st .args .n) _ (st .pre .1) (c .before .before .before .before .before .before .before .before .before .fields-in .ensures) (c .before .before .before .before .before .before .match .keys1) (c .before .before .before .before .if2 .left) _ _ _ (c .before .before .before .truth-at .ensures) (c .before .before .truth-at2 .ensures) (c .before .connected .ensures))
+    (c .value-of-truth2 .ensures)
+
+value-at-returns-4 : (t : ℕ) → value-at-lts.Need-returns-4 (value-at-calls t) (value-at-at t) value-at.Post
+value-at-returns-4 t c =
+    let st = c .before .before .before .before .before .before .before .before .before .before in
+    truth-is-value (st .args .records .now) (st .args .pool .now) (st .args .row .now) (st .args .nulls) (st .args .n) _ (st .pre .1) (c .before .before .before .before .before .before .fields-in .ensures) (c .before .before .before .before .if1 .left) _ _
+    (not-truth (st .args .records .now) (st .args .pool .now) (st .args .row .now) (st .args .nulls) (st .args .n) _ (st .pre .1) (c .before .before .before .before .before .before .fields-in .ensures) (c .before .before .before .match .keys2) _ _ (c .before .before .truth-at3 .ensures) (c .before .not-of .ensures))
+    (c .value-of-truth3 .ensures)
+
+value-at-returns-5 : (t : ℕ) → value-at-lts.Need-returns-5 (value-at-calls t) (value-at-at t) value-at.Post
+value-at-returns-5 t c =
+    let st = c .before .before .before .before .before .before .before .before .before .before .before in
+    truth-is-value (st .args .records .now) (st .args .pool .now) (st .args .row .now) (st .args .nulls) (st .args .n) _ (st .pre .1) (c .before .before .before .before .before .before .before .fields-in .ensures) (c .before .before .before .before .before .if1 .left) _ _
+    (null-truth (st .args .records .now) (st .args .pool .now) (st .args .row .now) (st .args .nulls) (st .args .n) _ (st .pre .1) (c .before .before .before .before .before .before .before .fields-in .ensures) (c .before .before .before .before .match .keys3) _ _ _ (c .before .before .before .value-at3 .ensures) (c .before .before .is-null .ensures) (c .before .truth-of-bool .ensures))
+    (c .value-of-truth4 .ensures)
+
+value-at-returns-6 : (t : ℕ) → value-at-lts.Need-returns-6 (value-at-calls t) (value-at-at t) value-at.Post
+value-at-returns-6 t c =
+    let st = c .before .before .before .before .before .before .before .before .before .before .before in
+    truth-is-value (st .args .records .now) (st .args .pool .now) (st .args .row .now) (st .args .nulls) (st .args .n) _ (st .pre .1) (c .before .before .before .before .before .before .before .fields-in .ensures) (c .before .before .before .before .before .if1 .left) _ _
+    (not-null-truth (st .args .records .now) (st .args .pool .now) (st .args .row .now) (st .args .nulls) (st .args .n) _ (st .pre .1) (c .before .before .before .before .before .before .before .fields-in .ensures) (c .before .before .before .before .match .keys4) _ _ _ (c .before .before .before .value-at4 .ensures) (c .before .before .is-null2 .ensures) (c .before .truth-of-bool2 .ensures))
+    (c .value-of-truth5 .ensures)
+
+value-at-returns-7 : (t : ℕ) → value-at-lts.Need-returns-7 (value-at-calls t) (value-at-at t) value-at.Post
+value-at-returns-7 t c =
+    let st = c .before .before .before .before .before .before .before .before .before .before .before .before in
+    truth-is-value (st .args .records .now) (st .args .pool .now) (st .args .row .now) (st .args .nulls) (st .args .n) _ (st .pre .1) (c .before .before .before .before .before .before .before .before .fields-in .ensures) (c .before .before .before .before .before .before .if1 .left) _ _
+    (between-truth (st .args .records .now) (st .args .pool .now) (st .args .row .now) (st .args .nulls) (st .args .n) _ (st .pre .1) (c .before .before .before .before .before .before .before .before .fields-in .ensures) (c .before .before .before .before .before .match .keys5) _ _ _ _ (c .before .before .before .before .value-at5 .ensures) (c .before .before .before .value-at6 .ensures) (c .before .before .value-at7 .ensures) (c .before .between .ensures))
+    (c .value-of-truth6 .ensures)
+
+value-at-returns-8 : (t : ℕ) → value-at-lts.Need-returns-8 (value-at-calls t) (value-at-at t) value-at.Post
+value-at-returns-8 t c =
+    let st = c .before .before .before .before .before .before .before .before .before .before .before .before in
+    truth-is-value (st .args .records .now) (st .args .pool .now) (st .args .row .now) (st .args .nulls) (st .args .n) _ (st .pre .1) (c .before .before .before .before .before .before .before .before .fields-in .ensures) (c .before .before .before .before .before .before .if1 .left) _ _
+    (member-truth (st .args .records .now) (st .args .pool .now) (st .args .row .now) (st .args .nulls) (st .args .n) _ (st .pre .1) (c .before .before .before .before .before .before .before .before .fields-in .ensures) (c .before .before .before .before .before .match .keys6) _ (c .before .before .before .fields-in2 .ensures) _ _ (c .before .before .before .before .value-at8 .ensures) (c .before .member .ensures))
+    (c .value-of-truth7 .ensures)
+
+value-at-returns-9 : (t : ℕ) → value-at-lts.Need-returns-9 (value-at-calls t) (value-at-at t) value-at.Post
+value-at-returns-9 t c =
+    let st = c .before .before .before .before .before .before .before .before .before .before in let k = c .before .before .before .match .rest in
+    truth-is-value (st .args .records .now) (st .args .pool .now) (st .args .row .now) (st .args .nulls) (st .args .n) _ (st .pre .1) (c .before .before .before .before .before .before .fields-in .ensures) (c .before .before .before .before .if1 .left) _ _
+    (leaf-truth (st .args .records .now) (st .args .pool .now) (st .args .row .now) (st .args .nulls) (st .args .n) _ (st .pre .1) (c .before .before .before .before .before .before .fields-in .ensures) (k .0 .0 .0 .0 .0 .1) (k .0 .0 .0 .0 .1) (k .0 .0 .0 .1) (k .0 .0 .1) (k .0 .1) (k .1) _ _ (c .before .before .leaf-value2 .ensures) (c .before .truth-of-value .ensures))
+    (c .value-of-truth8 .ensures)
 
 pub +truth-at+value-at-spec : {M : Type 1} → statement M
 +truth-at+value-at-spec = close μ-truth-at μ-value-at
@@ -435,6 +568,42 @@ pub +truth-at+value-at-spec : {M : Type 1} → statement M
     (value-at-fields-in-requires t)
     (value-at-leaf-value-requires t)
     (value-at-returns t)
-    (value-at-truth-at-requires t)
+    (value-at-value-at-requires t)
+    (value-at-value-at-requires-2 t)
+    (value-at-compared-requires t)
     (value-at-value-of-truth-requires t)
     (value-at-returns-2 t)
+    (value-at-truth-at-requires t)
+    (value-at-truth-at-requires-2 t)
+    (value-at-connected-requires t)
+    (value-at-value-of-truth-requires-2 t)
+    (value-at-truth-at-requires-3 t)
+    (value-at-not-of-requires t)
+    (value-at-value-of-truth-requires-3 t)
+    (value-at-value-at-requires-3 t)
+    (value-at-is-null-requires t)
+    (value-at-truth-of-bool-requires t)
+    (value-at-value-of-truth-requires-4 t)
+    (value-at-value-at-requires-4 t)
+    (value-at-is-null-requires-2 t)
+    (value-at-truth-of-bool-requires-2 t)
+    (value-at-value-of-truth-requires-5 t)
+    (value-at-value-at-requires-5 t)
+    (value-at-value-at-requires-6 t)
+    (value-at-value-at-requires-7 t)
+    (value-at-between-requires t)
+    (value-at-value-of-truth-requires-6 t)
+    (value-at-value-at-requires-8 t)
+    (value-at-fields-in-requires-2 t)
+    (value-at-member-requires t)
+    (value-at-value-of-truth-requires-7 t)
+    (value-at-leaf-value-requires-2 t)
+    (value-at-truth-of-value-requires t)
+    (value-at-value-of-truth-requires-8 t)
+    (value-at-returns-3 t)
+    (value-at-returns-4 t)
+    (value-at-returns-5 t)
+    (value-at-returns-6 t)
+    (value-at-returns-7 t)
+    (value-at-returns-8 t)
+    (value-at-returns-9 t)

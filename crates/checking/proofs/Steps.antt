@@ -1,0 +1,434 @@
+-- The step of a record, kind by kind, has the fault, the entry and the tree count of the record.
+use Prim.Native.Nat.{ℕ, zero, suc, _+_, _*_, _%_, _≤_, _<_, min}
+use mathlib.Core.List.{List}
+use mathlib.Core.Bool.{Bool, true, false, not, _&&_, and-false}
+use mathlib.Core.Path.{_≡_, refl, sym, _∙_, ap, subst}
+use native.Mathlib.Omega.{arith}
+use lib.ListN.{length, getD, set}
+use lib.Seq.{getD-set-same, getD-set-other}
+use lib.Dec.{ltb, leb, eqb}
+use borrow.Author.Tests.{ltb-true, leb-true, eqb-true, eqb-false, eq-eqb, ne-eqb, le-leb, lt-leb}
+use Rattle.records.specs.Operator.{operatorAt, codeOf}
+use Rattle.records.specs.Record.{node, columnNumber, closedAt, fieldsAt, decode, recordAt}
+use Rattle.records.specs.Shape.{knownType, maxCode, isTyped, usesA, usesB, usesC, knownOk, zeroOr, unusedOk, literalOk, shapeOk}
+use Rattle.records.specs.declared.record.Fields.{Fields}
+use Rattle.records.specs.declared.record.Record.{Record}
+use Rattle.records.specs.declared.record.Record.the-variants as kind
+use Rattle.records.proofs.Laws.{by-test, and-left, and-right, no-key}
+use Rattle.records.proofs.Loops.{all-holds}
+use Rattle.records.proofs.RoundTrips.{code-back}
+use Rattle.checking.specs.Fit.{listOk, reachOk, isBinary, servedOk, typeOf, typeAt, sameType, binaryFits, betweenFits, memberFits, typesOk}
+use Rattle.checking.specs.Check.{typesKnown, meaningFault, recordFault}
+use Rattle.checking.specs.Table.{below}
+use Rattle.checking.specs.Tree.{treeStep, treeCount, Counted}
+use Rattle.checking.specs.Step.{Entry, Entered, bad, good, judged, onlyA, literalShape, nullShape, binaryShape, betweenShape, listShape, memberShape, bothBelow, columnStep, literalStep, nullStep, pairFits, binaryStep, notStep, nullTestStep, betweenStep, listStep, memberStep, recordStep}
+use Rattle.checking.specs.declared.step.Step.{Step}
+use Rattle.checking.proofs.Tables.{tree-turn}
+
+-- what a step says of record n
+pub record Right (t rs p : List ℕ) (n : ℕ) (s : Step) : Type 0 where
+  pub fault : s .fault ≡ recordFault t rs p (node n)
+  pub entry : s .fault ≡ 0 → Entry t (recordAt rs (node n)) (s .entry)
+  pub tree : s .fault ≡ 0 → min (s .tree) 4097 ≡ min (treeCount rs n) 4097
+
+no-second : (a b : Bool) → b ≡ false → (a && b) ≡ false
+no-second a b e = rw e (and-false a)
+
+-- the entry of a value that is no binary record's: its type
+value-entry : (t : List ℕ) (r : Record) (e : ℕ) → typeOf t r ≡ e → isBinary r ≡ false → ((x : ℕ) → memberFits x r ≡ false)
+    → e < 4 → Entry t r e
+value-entry t r e ty b m h =
+    record { value = ty ∙ omega arith; binary = b ∙ sym (ne-eqb e 7 (λ q. omega (arith, q))); member = other }
+  where
+    other : (x : ℕ) → memberFits x r ≡ (ltb 0 x && eqb e (4 * x))
+    other zero = m 0
+    other (suc x) = m (suc x) ∙ sym (no-second (ltb 0 (suc x)) _ (ne-eqb e (4 * suc x) (λ q. omega (arith, q))))
+
+binary-entry : (t : List ℕ) (o : _) (x y : _) → Entry t (kind.Binary o x y) 7
+unfolding typeOf isBinary memberFits
+binary-entry t o x y = record { value = refl; binary = refl; member = other }
+  where
+    other : (z : ℕ) → false ≡ (ltb 0 z && eqb 7 (4 * z))
+    other zero = refl
+    other (suc z) = sym (no-second (ltb 0 (suc z)) _ (ne-eqb 7 (4 * suc z) (λ q. omega (arith, q))))
+
+list-entry : (t : List ℕ) (ty : ℕ) (m : Bool) (start count : ℕ) → ty < 4 → Entry t (kind.List ty m start count) (4 * (ty % 4))
+unfolding typeOf isBinary memberFits sameType
+list-entry t ty m start count h =
+    record {
+      value = omega arith;
+      binary = sym (ne-eqb (4 * (ty % 4)) 7 (λ q. omega (arith, q)));
+      member = λ x. ap (λ b. ltb 0 x && b) (same x);
+    }
+  where
+    low : ty % 4 ≡ ty
+    low = omega arith
+
+    same : (x : ℕ) → eqb x ty ≡ eqb (4 * (ty % 4)) (4 * x)
+    same x = by-test (eqb x ty)
+        (λ p. let e : x ≡ ty = eqb-true x ty p in p ∙ sym (eq-eqb (4 * (ty % 4)) (4 * x) (omega (arith, low))))
+        (λ p. let d : (x ≡ ty → ⊥) = eqb-false x ty p in
+        p ∙ sym (ne-eqb (4 * (ty % 4)) (4 * x) (λ q. omega (arith, d, q, low))))
+
+known-low : (ty : ℕ) → knownType ty ≡ true → ty < 4
+unfolding knownType
+known-low ty e = let h : ty ≤ 3 = leb-true ty 3 (and-right (leb 1 ty) (leb ty 3) e) in omega arith
+
+leb-zero : (x : ℕ) → leb x 0 ≡ eqb x 0
+leb-zero x = by-test (eqb x 0) (λ p. let e : x ≡ 0 = eqb-true x 0 p in le-leb x 0 (omega arith) ∙ sym p)
+    (λ p. let d : (x ≡ 0 → ⊥) = eqb-false x 0 p in lt-leb x 0 (omega (arith, d)) ∙ sym p)
+
+and-true : (b : Bool) → (b && true) ≡ b
+and-true true = refl
+and-true false = refl
+
+-- the record that a kind's fields mean, and what is left of number 4 for it
+module _ (f : Fields) where
+  decode-column : f .kind ≡ 1 → decode f ≡ kind.Column (columnNumber (f .a))
+  unfolding decode
+  decode-column k = rw k
+
+  decode-literal : f .kind ≡ 2 → decode f ≡ kind.Literal (f .ty) (f .b + 4294967296 * f .c)
+  unfolding decode
+  decode-literal k = rw k
+
+  decode-null : f .kind ≡ 3 → decode f ≡ kind.Null (f .ty)
+  unfolding decode
+  decode-null k = rw k
+
+  decode-binary : f .kind ≡ 4 → decode f ≡ kind.Binary (operatorAt (f .code)) (node (f .a)) (node (f .b))
+  unfolding decode
+  decode-binary k = rw k
+
+  decode-not : f .kind ≡ 5 → decode f ≡ kind.Not (node (f .a))
+  unfolding decode
+  decode-not k = rw k
+
+  decode-is-null : f .kind ≡ 6 → decode f ≡ kind.IsNull (node (f .a))
+  unfolding decode
+  decode-is-null k = rw k
+
+  decode-is-not-null : f .kind ≡ 7 → decode f ≡ kind.IsNotNull (node (f .a))
+  unfolding decode
+  decode-is-not-null k = rw k
+
+  decode-between : f .kind ≡ 8 → decode f ≡ kind.IsBetween (closedAt (f .code)) (node (f .a)) (node (f .b)) (node (f .c))
+  unfolding decode
+  decode-between k = rw k
+
+  decode-list : f .kind ≡ 9 → decode f ≡ kind.List (f .ty) (eqb (f .code) 1) (f .a) (f .b)
+  unfolding decode
+  decode-list k = rw k
+
+  decode-member : f .kind ≡ 10 → decode f ≡ kind.IsIn (eqb (f .code) 1) (node (f .a)) (node (f .b))
+  unfolding decode
+  decode-member k = rw k
+
+  shape-column : f .zero ≡ 0 → f .kind ≡ 1 → shapeOk f ≡ onlyA f
+  unfolding shapeOk knownOk unusedOk literalOk maxCode isTyped usesA usesB usesC zeroOr
+  shape-column z k = rw (k, z, leb-zero, and-true)
+
+  shape-literal : f .zero ≡ 0 → f .kind ≡ 2 → shapeOk f ≡ literalShape f
+  unfolding shapeOk knownOk unusedOk literalOk maxCode isTyped usesA usesB usesC zeroOr
+  shape-literal z k = rw (k, z, leb-zero, and-true)
+
+  shape-null : f .zero ≡ 0 → f .kind ≡ 3 → shapeOk f ≡ nullShape f
+  unfolding shapeOk knownOk unusedOk literalOk maxCode isTyped usesA usesB usesC zeroOr
+  shape-null z k = rw (k, z, leb-zero, and-true)
+
+  shape-binary : f .zero ≡ 0 → f .kind ≡ 4 → shapeOk f ≡ binaryShape f
+  unfolding shapeOk knownOk unusedOk literalOk maxCode isTyped usesA usesB usesC zeroOr
+  shape-binary z k = rw (k, z, and-true)
+
+  shape-not : f .zero ≡ 0 → f .kind ≡ 5 → shapeOk f ≡ onlyA f
+  unfolding shapeOk knownOk unusedOk literalOk maxCode isTyped usesA usesB usesC zeroOr
+  shape-not z k = rw (k, z, leb-zero, and-true)
+
+  shape-is-null : f .zero ≡ 0 → f .kind ≡ 6 → shapeOk f ≡ onlyA f
+  unfolding shapeOk knownOk unusedOk literalOk maxCode isTyped usesA usesB usesC zeroOr
+  shape-is-null z k = rw (k, z, leb-zero, and-true)
+
+  shape-is-not-null : f .zero ≡ 0 → f .kind ≡ 7 → shapeOk f ≡ onlyA f
+  unfolding shapeOk knownOk unusedOk literalOk maxCode isTyped usesA usesB usesC zeroOr
+  shape-is-not-null z k = rw (k, z, leb-zero, and-true)
+
+  shape-between : f .zero ≡ 0 → f .kind ≡ 8 → shapeOk f ≡ betweenShape f
+  unfolding shapeOk knownOk unusedOk literalOk maxCode isTyped usesA usesB usesC zeroOr
+  shape-between z k = rw (k, z, and-true)
+
+  shape-list : f .zero ≡ 0 → f .kind ≡ 9 → shapeOk f ≡ listShape f
+  unfolding shapeOk knownOk unusedOk literalOk maxCode isTyped usesA usesB usesC zeroOr
+  shape-list z k = rw (k, z, and-true)
+
+  shape-member : f .zero ≡ 0 → f .kind ≡ 10 → shapeOk f ≡ memberShape f
+  unfolding shapeOk knownOk unusedOk literalOk maxCode isTyped usesA usesB usesC zeroOr
+  shape-member z k = rw (k, z, and-true)
+
+module _ (t rs p types trees : List ℕ) (n : ℕ) (known : typesKnown t ≡ true) (entered : Entered t rs types n)
+    (counted : Counted rs trees n) (f : Fields) (at : fieldsAt rs (node n) ≡ f) where
+  -- what the tables say of an input that is below n
+  input-type : (x : ℕ) → ltb x n ≡ true → typeAt t rs (node x) ≡ getD types x 0 % 4
+  unfolding Entered typeAt
+  input-type x e = entered x (ltb-true x n e) .value
+
+  input-binary : (x : ℕ) → ltb x n ≡ true → isBinary (recordAt rs (node x)) ≡ eqb (getD types x 0) 7
+  unfolding Entered
+  input-binary x e = entered x (ltb-true x n e) .binary
+
+  input-member : (x y : ℕ) → ltb x n ≡ true → memberFits y (recordAt rs (node x)) ≡ (ltb 0 y && eqb (getD types x 0) (4 * y))
+  unfolding Entered
+  input-member x y e = entered x (ltb-true x n e) .member y
+
+  column-low : (c : ℕ) → ltb c (length t) ≡ true → getD t c 0 < 4
+  unfolding typesKnown
+  column-low c e =
+      known-low (getD t c 0) (all-holds (λ (k : ℕ). knownType (getD t k 0)) c (length t) (ltb-true c (length t) e) known)
+
+  -- a step by tests that are those of the definitions
+  judged-right : (r : Record) (shape reach served fits : Bool) (e tree : ℕ) → decode f ≡ r → shapeOk f ≡ shape
+      → reachOk t p r (node n) ≡ reach → (shape ≡ true → reach ≡ true → servedOk rs r ≡ served)
+      → (shape ≡ true → reach ≡ true → typesOk t rs r ≡ fits) → (shape ≡ true → reach ≡ true → Entry t r e)
+      → (reach ≡ true → tree ≡ treeStep (below trees n) r) → Right t rs p n (judged shape reach served fits e tree)
+  unfolding recordFault meaningFault recordAt bad good
+  judged-right r false reach served fits e tree d s a v y i c =
+      record { fault = rw (at, s); entry = λ h. absurd (omega (arith, h)); tree = λ h. absurd (omega (arith, h)) }
+  judged-right r true false served fits e tree d s a v y i c =
+      record { fault = rw (at, s, d, a); entry = λ h. absurd (omega (arith, h)); tree = λ h. absurd (omega (arith, h)) }
+  judged-right r true true false fits e tree d s a v y i c =
+      record {
+        fault = rw (at, s, d, a, v refl refl);
+        entry = λ h. absurd (omega (arith, h));
+        tree = λ h. absurd (omega (arith, h));
+      }
+  judged-right r true true true false e tree d s a v y i c =
+      record {
+        fault = rw (at, s, d, a, v refl refl, y refl refl);
+        entry = λ h. absurd (omega (arith, h));
+        tree = λ h. absurd (omega (arith, h));
+      }
+  judged-right r true true true true e tree d s a v y i c =
+      record {
+        fault = rw (at, s, d, a, v refl refl, y refl refl);
+        entry = λ h. subst (λ q. Entry t q e) (sym (ap decode at ∙ d)) (i refl refl);
+        tree =
+            λ h. tree-turn rs trees n (min tree 4097) counted
+            (ap (λ k. min k 4097) (c refl ∙ ap (treeStep (below trees n)) (sym (ap decode at ∙ d))));
+      }
+
+  column-right : f .zero ≡ 0 → f .kind ≡ 1 → Right t rs p n (columnStep t f)
+  unfolding columnStep reachOk servedOk typesOk typeOf isBinary memberFits
+  column-right z k =
+      judged-right (kind.Column (columnNumber (f .a))) (onlyA f) (ltb (f .a) (length t)) true true (getD t (f .a) 0) 1
+      (decode-column f k) (shape-column f z k) refl (λ s r. refl) (λ s r. refl)
+      (λ s r. value-entry t (kind.Column (columnNumber (f .a))) (getD t (f .a) 0) refl refl (λ x. refl) (column-low (f .a) r))
+      (λ r. refl)
+
+  literal-right : f .zero ≡ 0 → f .kind ≡ 2 → Right t rs p n (literalStep f)
+  unfolding literalStep reachOk servedOk typesOk typeOf isBinary memberFits
+  literal-right z k =
+      judged-right (kind.Literal (f .ty) (f .b + 4294967296 * f .c)) (literalShape f) true true true (f .ty) 1
+      (decode-literal f k) (shape-literal f z k) refl (λ s r. refl) (λ s r. refl)
+      (λ s r. value-entry t (kind.Literal (f .ty) (f .b + 4294967296 * f .c)) (f .ty) refl refl (λ x. refl)
+      (known-low (f .ty) (and-right (eqb (f .code) 0) (knownType (f .ty)) (and-left _ _ s)))) (λ r. refl)
+
+  null-right : f .zero ≡ 0 → f .kind ≡ 3 → Right t rs p n (nullStep f)
+  unfolding nullStep reachOk servedOk typesOk typeOf isBinary memberFits
+  null-right z k =
+      judged-right (kind.Null (f .ty)) (nullShape f) true true true (f .ty) 1 (decode-null f k) (shape-null f z k) refl
+      (λ s r. refl) (λ s r. refl)
+      (λ s r. value-entry t (kind.Null (f .ty)) (f .ty) refl refl (λ x. refl)
+      (known-low (f .ty) (and-right (eqb (f .code) 0) (knownType (f .ty)) (and-left _ _ s)))) (λ r. refl)
+
+  binary-right : f .zero ≡ 0 → f .kind ≡ 4 → Right t rs p n (binaryStep types trees f n)
+  unfolding binaryStep reachOk servedOk typesOk pairFits binaryFits sameType
+  binary-right z k =
+      judged-right (kind.Binary (operatorAt (f .code)) (node (f .a)) (node (f .b))) (binaryShape f) (bothBelow f n)
+      (not (leb 8 (f .code) && leb (f .code) 14))
+      (pairFits (f .code) (getD types (f .a) 0 % 4) (getD types (f .b) 0 % 4)) 7
+      (1 + (getD trees (f .a) 0 + getD trees (f .b) 0)) (decode-binary f k) (shape-binary f z k)
+      (ap (λ q. ltb (f .a) n && q) (and-true (ltb (f .b) n)))
+      (λ s r. rw (code s))
+      (λ s r. rw (code s, input-type (f .a) (and-left _ _ r), input-type (f .b) (and-right (ltb (f .a) n) _ r)))
+      (λ s r. binary-entry t (operatorAt (f .code)) (node (f .a)) (node (f .b)))
+      (λ r. rw (and-left (ltb (f .a) n) (ltb (f .b) n) r, and-right (ltb (f .a) n) (ltb (f .b) n) r) (omega arith))
+    where
+      code : binaryShape f ≡ true → codeOf (operatorAt (f .code)) ≡ f .code
+      code s = code-back (f .code) (leb-true (f .code) 19 (and-left (leb (f .code) 19) (eqb (f .ty) 0) (and-left _ _ s)))
+
+  not-right : f .zero ≡ 0 → f .kind ≡ 5 → Right t rs p n (notStep types trees f n)
+  unfolding notStep reachOk servedOk typesOk typeOf isBinary memberFits
+  not-right z k =
+      judged-right (kind.Not (node (f .a))) (onlyA f) (ltb (f .a) n) (not (eqb (getD types (f .a) 0) 7))
+      (eqb (getD types (f .a) 0 % 4) 3) 3 (1 + getD trees (f .a) 0) (decode-not f k) (shape-not f z k)
+      (and-true (ltb (f .a) n)) (λ s r. ap not (input-binary (f .a) r)) (λ s r. ap (λ q. eqb q 3) (input-type (f .a) r))
+      (λ s r. value-entry t (kind.Not (node (f .a))) 3 refl refl (λ x. refl) (omega arith))
+      (λ r. rw r (omega arith))
+
+  is-null-right : f .zero ≡ 0 → f .kind ≡ 6 → Right t rs p n (nullTestStep types trees f n)
+  unfolding nullTestStep reachOk servedOk typesOk typeOf isBinary memberFits
+  is-null-right z k =
+      judged-right (kind.IsNull (node (f .a))) (onlyA f) (ltb (f .a) n) true (ltb 0 (getD types (f .a) 0 % 4)) 3
+      (1 + getD trees (f .a) 0) (decode-is-null f k) (shape-is-null f z k) (and-true (ltb (f .a) n)) (λ s r. refl)
+      (λ s r. ap (λ q. ltb 0 q) (input-type (f .a) r))
+      (λ s r. value-entry t (kind.IsNull (node (f .a))) 3 refl refl (λ x. refl) (omega arith))
+      (λ r. rw r (omega arith))
+
+  is-not-null-right : f .zero ≡ 0 → f .kind ≡ 7 → Right t rs p n (nullTestStep types trees f n)
+  unfolding nullTestStep reachOk servedOk typesOk typeOf isBinary memberFits
+  is-not-null-right z k =
+      judged-right (kind.IsNotNull (node (f .a))) (onlyA f) (ltb (f .a) n) true (ltb 0 (getD types (f .a) 0 % 4)) 3
+      (1 + getD trees (f .a) 0) (decode-is-not-null f k) (shape-is-not-null f z k) (and-true (ltb (f .a) n)) (λ s r. refl)
+      (λ s r. ap (λ q. ltb 0 q) (input-type (f .a) r))
+      (λ s r. value-entry t (kind.IsNotNull (node (f .a))) 3 refl refl (λ x. refl) (omega arith))
+      (λ r. rw r (omega arith))
+
+  between-right : f .zero ≡ 0 → f .kind ≡ 8 → Right t rs p n (betweenStep types trees f n)
+  unfolding betweenStep reachOk servedOk typesOk typeOf isBinary memberFits
+  between-right z k =
+      judged-right (kind.IsBetween (closedAt (f .code)) (node (f .a)) (node (f .b)) (node (f .c))) (betweenShape f)
+      (ltb (f .a) n && (ltb (f .b) n && ltb (f .c) n)) true
+      (betweenFits (getD types (f .a) 0 % 4) (getD types (f .b) 0 % 4) (getD types (f .c) 0 % 4)) 3
+      (1 + (getD trees (f .a) 0 + (getD trees (f .b) 0 + getD trees (f .c) 0))) (decode-between f k) (shape-between f z k)
+      (ap (λ q. ltb (f .a) n && (ltb (f .b) n && q)) (and-true (ltb (f .c) n))) (λ s r. refl)
+      (λ s r. rw (input-type (f .a) (fst r), input-type (f .b) (snd r), input-type (f .c) (thd r)))
+      (λ s r. value-entry t (kind.IsBetween (closedAt (f .code)) (node (f .a)) (node (f .b)) (node (f .c))) 3 refl refl
+      (λ x. refl) (omega arith))
+      (λ r. rw (fst r, snd r, thd r) (omega arith))
+    where
+      fst : (ltb (f .a) n && (ltb (f .b) n && ltb (f .c) n)) ≡ true → ltb (f .a) n ≡ true
+      fst r = and-left (ltb (f .a) n) (ltb (f .b) n && ltb (f .c) n) r
+
+      snd : (ltb (f .a) n && (ltb (f .b) n && ltb (f .c) n)) ≡ true → ltb (f .b) n ≡ true
+      snd r = and-left (ltb (f .b) n) (ltb (f .c) n) (and-right (ltb (f .a) n) (ltb (f .b) n && ltb (f .c) n) r)
+
+      thd : (ltb (f .a) n && (ltb (f .b) n && ltb (f .c) n)) ≡ true → ltb (f .c) n ≡ true
+      thd r = and-right (ltb (f .b) n) (ltb (f .c) n) (and-right (ltb (f .a) n) (ltb (f .b) n && ltb (f .c) n) r)
+
+  list-right : f .zero ≡ 0 → f .kind ≡ 9 → Right t rs p n (listStep p f)
+  unfolding listStep reachOk servedOk typesOk
+  list-right z k =
+      judged-right (kind.List (f .ty) (eqb (f .code) 1) (f .a) (f .b)) (listShape f) (listOk p (f .ty) (f .a) (f .b)) true true
+      (4 * (f .ty % 4)) 1 (decode-list f k) (shape-list f z k) refl (λ s r. refl) (λ s r. refl)
+      (λ s r. list-entry t (f .ty) (eqb (f .code) 1) (f .a) (f .b)
+      (known-low (f .ty) (and-right (leb (f .code) 1) (knownType (f .ty)) (and-left _ _ s)))) (λ r. refl)
+
+  member-right : f .zero ≡ 0 → f .kind ≡ 10 → Right t rs p n (memberStep types trees f n)
+  unfolding memberStep reachOk servedOk typesOk typeOf isBinary memberFits
+  member-right z k =
+      judged-right (kind.IsIn (eqb (f .code) 1) (node (f .a)) (node (f .b))) (memberShape f) (bothBelow f n) true
+      (ltb 0 (getD types (f .a) 0 % 4) && eqb (getD types (f .b) 0) (4 * (getD types (f .a) 0 % 4))) 3
+      (1 + (getD trees (f .a) 0 + getD trees (f .b) 0)) (decode-member f k) (shape-member f z k)
+      (ap (λ q. ltb (f .a) n && q) (and-true (ltb (f .b) n))) (λ s r. refl)
+      (λ s r. ap (λ q. memberFits q (recordAt rs (node (f .b)))) (input-type (f .a) (and-left _ _ r))
+      ∙ input-member (f .b) (getD types (f .a) 0 % 4) (and-right (ltb (f .a) n) (ltb (f .b) n) r))
+      (λ s r. value-entry t (kind.IsIn (eqb (f .code) 1) (node (f .a)) (node (f .b))) 3 refl refl (λ x. refl) (omega arith))
+      (λ r. rw (and-left (ltb (f .a) n) (ltb (f .b) n) r, and-right (ltb (f .a) n) (ltb (f .b) n) r) (omega arith))
+
+  -- byte 3 is not zero, or the kind is none of the ten
+  shapeless : shapeOk f ≡ false → Right t rs p n (bad 4)
+  unfolding recordFault bad
+  shapeless s =
+      record { fault = rw (at, s); entry = λ h. absurd (omega (arith, h)); tree = λ h. absurd (omega (arith, h)) }
+
+  no-zero : eqb (f .zero) 0 ≡ false → shapeOk f ≡ false
+  unfolding shapeOk unusedOk
+  no-zero z = rw z (and-false (knownOk f))
+
+  no-kind : ((((((((((eqb (f .kind) 1 ≡ false) × (eqb (f .kind) 2 ≡ false)) × (eqb (f .kind) 3 ≡ false)) × (eqb (f .kind) 4 ≡ false))
+      × (eqb (f .kind) 5 ≡ false)) × (eqb (f .kind) 6 ≡ false)) × (eqb (f .kind) 7 ≡ false)) × (eqb (f .kind) 8 ≡ false))
+      × (eqb (f .kind) 9 ≡ false)) × (eqb (f .kind) 10 ≡ false)) → shapeOk f ≡ false
+  unfolding shapeOk knownOk
+  no-kind h = by-test (leb 1 (f .kind)) (λ l. rw (l, lt-leb (f .kind) 10 (high l))) (λ l. rw l)
+    where
+      off : (i : ℕ) → eqb (f .kind) i ≡ false → f .kind ≡ i → ⊥
+      off i e = eqb-false (f .kind) i e
+
+      high : leb 1 (f .kind) ≡ true → 10 < f .kind
+      high l =
+          let lo : 1 ≤ f .kind = leb-true 1 (f .kind) l in
+          let up : 11 ≤ f .kind =
+          no-key 11 (f .kind) (
+            (
+              (
+                (
+                  (
+                    (
+                      (
+                        (
+                          (((tt, λ q. omega (arith, q)), off 1 (h .0 .0 .0 .0 .0 .0 .0 .0 .0)), off 2 (h .0 .0 .0 .0 .0 .0 .0 .0 .1)),
+                          off 3 (h .0 .0 .0 .0 .0 .0 .0 .1),
+                        ),
+                        off 4 (h .0 .0 .0 .0 .0 .0 .1),
+                      ),
+                      off 5 (h .0 .0 .0 .0 .0 .1),
+                    ),
+                    off 6 (h .0 .0 .0 .0 .1),
+                  ),
+                  off 7 (h .0 .0 .0 .1),
+                ),
+                off 8 (h .0 .0 .1),
+              ),
+              off 9 (h .0 .1),
+            ),
+            off 10 (h .1),
+          ) in
+          omega arith
+
+  pub record-right : Right t rs p n (recordStep t p types trees f n)
+  unfolding recordStep
+  record-right =
+      by-test (eqb (f .zero) 0) (λ z.
+      (by-test (eqb (f .kind) 1) (λ k. rw (z, k) (column-right (eqb-true (f .zero) 0 z) (eqb-true (f .kind) 1 k)))
+      (λ k1.
+      (by-test (eqb (f .kind) 2) (λ k. rw (z, k1, k) (literal-right (eqb-true (f .zero) 0 z) (eqb-true (f .kind) 2 k)))
+      (λ k2.
+      (by-test (eqb (f .kind) 3) (λ k. rw (z, k1, k2, k) (null-right (eqb-true (f .zero) 0 z) (eqb-true (f .kind) 3 k)))
+      (λ k3.
+      (by-test (eqb (f .kind) 4) (λ k. rw (z, k1, k2, k3, k) (binary-right (eqb-true (f .zero) 0 z) (eqb-true (f .kind) 4 k)))
+      (λ k4.
+      (by-test (eqb (f .kind) 5) (λ k. rw (z, k1, k2, k3, k4, k) (not-right (eqb-true (f .zero) 0 z) (eqb-true (f .kind) 5 k)))
+      (λ k5.
+      (by-test (eqb (f .kind) 6) (λ k. rw (z, k1, k2, k3, k4, k5, k) (is-null-right (eqb-true (f .zero) 0 z) (eqb-true (f .kind) 6 k)))
+      (λ k6.
+      (by-test (eqb (f .kind) 7) (λ k. rw (z, k1, k2, k3, k4, k5, k6, k) (is-not-null-right (eqb-true (f .zero) 0 z) (eqb-true (f .kind) 7 k)))
+      (λ k7.
+      (by-test (eqb (f .kind) 8) (λ k. rw (z, k1, k2, k3, k4, k5, k6, k7, k) (between-right (eqb-true (f .zero) 0 z) (eqb-true (f .kind) 8 k)))
+      (λ k8.
+      (by-test (eqb (f .kind) 9) (λ k. rw (z, k1, k2, k3, k4, k5, k6, k7, k8, k) (list-right (eqb-true (f .zero) 0 z) (eqb-true (f .kind) 9 k)))
+      (λ k9.
+      (by-test (eqb (f .kind) 10) (λ k. rw (z, k1, k2, k3, k4, k5, k6, k7, k8, k9, k) (member-right (eqb-true (f .zero) 0 z) (eqb-true (f .kind) 10 k)))
+      (λ k10.
+      rw (z, k1, k2, k3, k4, k5, k6, k7, k8, k9, k10)
+      (shapeless (no-kind (((((((((k1, k2), k3), k4), k5), k6), k7), k8), k9), k10))))))))))))))))))))))))
+      (λ z. rw z (shapeless (no-zero z)))
+
+-- the table of entries, filled from record 0 up
+pub entered-none : (t rs types : List ℕ) → Entered t rs types 0
+unfolding Entered
+entered-none t rs types a h = absurd (omega arith)
+
+pub entered-more : (t rs types : List ℕ) (n v : ℕ) → n < length types → Entered t rs types n
+    → Entry t (recordAt rs (node n)) v → Entered t rs (set types n v) (n + 1)
+unfolding Entered
+entered-more t rs types n v h f e a k = by-test (eqb a n) same other
+  where
+    same : eqb a n ≡ true → Entry t (recordAt rs (node a)) (getD (set types n v) a 0)
+    same p =
+        subst (λ b. Entry t (recordAt rs (node b)) (getD (set types n v) b 0)) (sym (eqb-true a n p))
+        (subst (Entry t (recordAt rs (node n))) (sym (getD-set-same types n v 0 h)) e)
+
+    other : eqb a n ≡ false → Entry t (recordAt rs (node a)) (getD (set types n v) a 0)
+    other p =
+        let d : (a ≡ n → ⊥) = eqb-false a n p in
+        subst (Entry t (recordAt rs (node a))) (sym (getD-set-other types n a v 0 d)) (f a (omega (arith, d)))
+
+-- one turn of the loop over records
+pub step-right : (t rs p types trees : List ℕ) (n : ℕ) (f : Fields) (s : Step) → typesKnown t ≡ true → Entered t rs types n
+    → Counted rs trees n → f ≡ fieldsAt rs (node n) → s ≡ recordStep t p types trees f n → Right t rs p n s
+step-right t rs p types trees n f s known entered counted read e =
+    subst (Right t rs p n) (sym e) (record-right t rs p types trees n known entered counted f (sym read))
+
+-- the type of a record below n
+pub entered-type : (t rs types : List ℕ) (n a : ℕ) → Entered t rs types n → a < n → typeAt t rs (node a) ≡ getD types a 0 % 4
+unfolding Entered typeAt
+entered-type t rs types n a entered h = entered a h .value

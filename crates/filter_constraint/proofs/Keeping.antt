@@ -1,0 +1,108 @@
+-- The kept equalities: one edge more.
+use Rattle.merge.proofs.Sound.{keptBy}
+use mathlib.Core.Path.{_≡_, refl, sym, _∙_, ap, subst}
+use mathlib.Core.Bool.{Bool, true, false, not, cond, _&&_, _||_, true≢false, or-false}
+use mathlib.Core.List.{List, [], _∷_, _++_, append-assoc, append-nil}
+use mathlib.Core.Option.{Option, none, some}
+use Prim.Native.Nat.{ℕ, zero, suc, _+_, _-_, _<_, _≤_, _%_}
+use native.Mathlib.Omega.{arith}
+use native.Mathlib.Numerals.{add-one}
+use lib.ListN.{length, getD, set, length-set}
+use lib.Dec.{ltb, eqb}
+use borrow.Author.Tests.{eq-eqb, ne-eqb, ltb-false}
+use Rattle.constraints.specs.Column as q
+use Rattle.constraints.specs.Column.{mergeFrom, mergeEmitted, mergeAny}
+use Rattle.constraints.specs.Payload.{payload}
+use Rattle.constraints.specs.Resolve.{fixedAt}
+use Rattle.columns.specs.Abstraction.{Conjuncts, numbered, columnOf, Fine}
+use Rattle.columns.specs.declared.column.ColumnConstraints.{ColumnConstraints}
+use Rattle.merge.specs.Collect.{update}
+use Rattle.merge.specs.Emit.{isFixed, keptEqualities, droppedEquality}
+use Rattle.rewrite.specs.Walk.{firstOf}
+use Rattle.stages.specs.Rows.{stride, rowOf, RowsKept}
+use Rattle.filter_constraint.specs.Words.{pastColumn}
+use Rattle.filter_constraint.specs.State.{columnAt, Table, Shows, Keeps, edgesOf, Kept}
+use Rattle.filter_constraint.proofs.Arrays.{keeps-more, first-kept, low-slot}
+use Rattle.filter_constraint.proofs.Propagating.{or-assoc}
+
+-- ---- the kept equalities
+kept-snoc : (T : Table) (es : List (ℕ × ℕ × ℕ)) (e : ℕ × ℕ × ℕ)
+    → keptEqualities payload T (es ++ (e ∷ [])) ≡
+    keptEqualities payload T es ++ keptBy (fixedAt payload (T (e .0) .lower) (T (e .0) .upper)) (e .2) []
+kept-snoc T [] e = refl
+kept-snoc T (f ∷ es) e =
+    ap (keptBy (fixedAt payload (T (f .0) .lower) (T (f .0) .upper)) (f .2)) (kept-snoc T es e)
+    ∙ go (fixedAt payload (T (f .0) .lower) (T (f .0) .upper))
+  where
+    go : (o : Option ℕ) → keptBy o (f .2) (keptEqualities payload T es ++ keptBy (fixedAt payload (T (e .0) .lower)
+        (T (e .0) .upper)) (e .2) []) ≡ keptBy o (f .2) (keptEqualities payload T es) ++ keptBy (fixedAt payload
+        (T (e .0) .lower) (T (e .0) .upper)) (e .2) []
+    go none = refl
+    go (some v) = refl
+
+dropped-snoc : (T : Table) (es : List (ℕ × ℕ × ℕ)) (e : ℕ × ℕ × ℕ)
+    → droppedEquality payload T (es ++ (e ∷ [])) ≡
+    (droppedEquality payload T es || isFixed (fixedAt payload (T (e .0) .lower) (T (e .0) .upper)))
+dropped-snoc T [] e = or-false (isFixed (fixedAt payload (T (e .0) .lower) (T (e .0) .upper)))
+dropped-snoc T (f ∷ es) e =
+    ap (λ b. isFixed (fixedAt payload (T (f .0) .lower) (T (f .0) .upper)) || b) (dropped-snoc T es e)
+    ∙ or-assoc (isFixed (fixedAt payload (T (f .0) .lower) (T (f .0) .upper))) (droppedEquality payload T es)
+    (isFixed (fixedAt payload (T (e .0) .lower) (T (e .0) .upper)))
+
+pub kept-none : (T : Table) (lefts rights equals kept : List ℕ) (keeps : ℕ) (l : List ℕ) → Keeps kept keeps l
+    → Kept T (edgesOf lefts rights equals 0) kept keeps false l
+unfolding edgesOf
+kept-none T lefts rights equals kept keeps l K =
+    record { keeping = subst (Keeps kept keeps) (sym (append-nil l)) K; drops = refl }
+
+pub kept-more :
+    (t : Conjuncts) (table : List ColumnConstraints) (ms : List ℕ) (T : Table) (lefts rights equals kept : List ℕ) (keeps keeps′ e x : ℕ)
+    (dropped fixed : Bool) (l : List ℕ) → Shows t table ms T
+    → Kept T (edgesOf lefts rights equals e) kept keeps dropped l
+    → getD lefts e 0 < 64 → keeps < 260 → x ≡ getD lefts e 0 % 64
+    → fixed ≡ isFixed (fixedAt payload (columnOf t (columnAt table ms x) .lower)
+    (columnOf t (columnAt table ms x) .upper))
+    → keeps′ ≡ cond fixed keeps (keeps + 1)
+    → Kept T (edgesOf lefts rights equals (e + 1)) (set kept keeps (getD equals e 0)) keeps′ (dropped || fixed) l
+unfolding edgesOf
+kept-more t table ms T lefts rights equals kept keeps keeps′ e x dropped fixed l S K la lk ex ef ek =
+    rw (add-one)
+    (record {
+      keeping = subst (Keeps (set kept keeps (getD equals e 0)) keeps′)
+          (append-assoc l (keptEqualities payload T es) (keptBy at-left (getD equals e 0) [])
+          ∙ ap (λ m. l ++ m) (sym (kept-snoc T es (a, getD rights e 0, getD equals e 0))))
+          (go at-left fixed ef′ ek);
+      drops = ap (λ b. b || fixed) (K .drops)
+          ∙ ap (λ b. droppedEquality payload T es || b) ef′
+          ∙ sym (dropped-snoc T es (a, getD rights e 0, getD equals e 0));
+    })
+  where
+    a : ℕ
+    a = getD lefts e 0
+
+    es : List (ℕ × ℕ × ℕ)
+    es = edgesOf lefts rights equals e
+
+    at-left : Option ℕ
+    at-left = fixedAt payload (T a .lower) (T a .upper)
+
+    shown : columnOf t (columnAt table ms x) ≡ T a
+    shown = ap (λ y. columnOf t (columnAt table ms y)) (low-slot a x la ex) ∙ S .column a la
+
+    ef′ : fixed ≡ isFixed at-left
+    ef′ = ef ∙ ap (λ c. isFixed (fixedAt payload (c .lower) (c .upper))) shown
+
+    go : (o : Option ℕ) (f : Bool) → f ≡ isFixed o → keeps′ ≡ cond f keeps (keeps + 1)
+        → Keeps (set kept keeps (getD equals e 0)) keeps′ (l ++ keptEqualities payload T es ++ keptBy o (getD equals e 0) [])
+    go none f ef ek =
+        subst (λ k. Keeps (set kept keeps (getD equals e 0)) k (l ++ keptEqualities payload T es ++ (getD equals e 0 ∷ [])))
+        (sym (ek ∙ ap (λ b. cond b keeps (keeps + 1)) ef))
+        (keeps-more kept keeps (getD equals e 0) (l ++ keptEqualities payload T es) lk (K .keeping))
+    go (some v) f ef ek =
+        subst (λ k. Keeps (set kept keeps (getD equals e 0)) k (l ++ keptEqualities payload T es ++ []))
+        (sym (ek ∙ ap (λ b. cond b keeps (keeps + 1)) ef))
+        (record {
+          size = length-set kept keeps (getD equals e 0) ∙ K .keeping .size;
+          listed = first-kept kept keeps (getD equals e 0) keeps (omega arith) ∙ K .keeping .listed
+              ∙ sym (append-nil (l ++ keptEqualities payload T es));
+        })

@@ -1,0 +1,57 @@
+use borrow.Author.Needs.{needs}
+use Rattle.filter_constraint.proofs.collect.require_non_null.Statement.{statement}
+use Rattle.filter_constraint.proofs.collect.require_non_null.Tie as tie
+use Rattle.filter_constraint.proofs.collect.require_non_null.Reads as reads
+use Rattle.filter_constraint.proofs.collect.require_non_null.Lts as lts
+use Rattle.columns.proofs.column.require_nullability.Reads as require-nullability-reads
+use Rattle.filter_constraint.proofs.cells.load.Reads as load-reads
+use Rattle.filter_constraint.proofs.cells.store.Reads as store-reads
+use Rattle.stages.proofs.fields.slot.Reads as slot-reads
+use mathlib.Core.Path.{_≡_, refl}
+use native.Mathlib.Omega.{arith}
+use Rattle.filter_constraint.proofs.Collecting.{required}
+
+-- src/collect.rt:61:9
+slot-requires : tie.Need-slot-requires
+slot-requires c κs = search needs
+
+-- src/collect.rt:62:9
+load-requires : tie.Need-load-requires
+load-requires c κs = search needs
+
+-- src/collect.rt:63:9
+require-nullability-requires : tie.Need-require-nullability-requires
+require-nullability-requires c κs = search needs
+
+-- src/collect.rt:64:5
+store-requires : tie.Need-store-requires
+store-requires c κs = search needs
+
+-- src/collect.rt:55:1
+same-length : tie.Need-same-length
+same-length c = search needs
+
+-- src/collect.rt:55:1
+returns : tie.Need-returns
+returns c =
+    let st = c .before .before .before .before .before .before .before .before .before in
+    let slot = c .before .before .before .before .before .before .before .slot in
+    let require-nullability = c .before .before .before .before .require-nullability in
+    let load = c .before .before .before .before .before .load in
+    let store = c .before .before .store in (
+      (λ t marks T S. required t _ _ marks T _ _ _ _ S (st .pre .0) (slot .ensures) (load .ensures)
+          (require-nullability .ensures .0 t) (require-nullability .ensures .1) (store .ensures .0)),
+      store .ensures
+          .1,
+    )
+
+pub require-non-null-spec : {M : Type 1} → statement M
+require-non-null-spec =
+    tie.close
+    (tie.spec
+    slot-requires
+    load-requires
+    require-nullability-requires
+    store-requires
+    same-length
+    returns)
