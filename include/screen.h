@@ -284,7 +284,7 @@ enum screen_test_row_answer {
  *   nulls          the null marks: bit i, counted from the lowest, is set if column i is null
  *
  * The depth of the calls inside follows the depth of the screen; the deepest, a chain of 4,096 records, needs less than
- * 1 MB of stack.
+ * 1.25 MB of stack.
  */
 uint32_t screen_test_row(const uint8_t *table, size_t table_len, const uint8_t *records, size_t records_len,
                          const uint8_t *pool, size_t pool_len, uint64_t used, uint64_t root,

@@ -423,7 +423,7 @@ static void test_deep(void)
 {
     pthread_attr_t attributes;
     pthread_t thread;
-    if (pthread_attr_init(&attributes) != 0 || pthread_attr_setstacksize(&attributes, (size_t)1 << 20) != 0 ||
+    if (pthread_attr_init(&attributes) != 0 || pthread_attr_setstacksize(&attributes, (size_t)5 << 18) != 0 ||
         pthread_create(&thread, &attributes, deep, NULL) != 0 || pthread_join(thread, NULL) != 0)
         abort();
     pthread_attr_destroy(&attributes);

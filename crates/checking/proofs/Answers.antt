@@ -6,6 +6,7 @@ use mathlib.Core.Path.{_≡_, refl, sym, _∙_, ap, subst}
 use native.Mathlib.Omega.{arith}
 use lib.Count.{ones}
 use lib.Dec.{eqb, ltb}
+use borrow.Author.Tests.{eqb-false}
 use Rattle.records.specs.Bytes.{first}
 use Rattle.records.specs.Record.{node, fieldsAt, decode}
 use Rattle.records.specs.Shape.{shapeOk}
@@ -39,41 +40,49 @@ unfolding first
 first-small f h zero = omega arith
 first-small f h (suc u) = pick (eqb (first f u) 0) _ _ (h u) (first-small f h u)
 
--- the number that a refusal carries; 0 where there is none
-number : CheckAnswer → ℕ
-number (check.Refused k) = k
-number check.Accepted = 0
+-- a refusal's number is one of 1 to 7
+abbrev Numbered : CheckAnswer → Type 0
+Numbered (check.Refused k) = (1 ≤ k) × (k ≤ 7)
+Numbered check.Accepted = Unit {0}
 
-choose : (b : Bool) (x y : CheckAnswer) → number x ≤ 7 → number y ≤ 7 → number (cond b x y) ≤ 7
-unfolding number
+choose : (b : Bool) (x y : CheckAnswer) → Numbered x → Numbered y → Numbered (cond b x y)
 choose true x y h k = h
 choose false x y h k = k
 
-answer-small : (t rs p : List ℕ) (used root : ℕ) → number (checkAnswer t rs p used root) ≤ 7
-unfolding number checkAnswer recordsAnswer firstFault
-answer-small t rs p used root =
-    choose (tableOk t) _ _
-    (choose (sizesOk rs p used) _ _
-    (choose (ltb root used) _ _
-    (choose (eqb (firstFault t rs p used) 0) _ _
-    (choose (eqb (typeAt t rs (node root)) 3) _ _ (omega arith) (omega arith))
-    (first-small (λ (i : ℕ). recordFault t rs p (node i)) (λ n. fault-small t rs p (node n)) used)) (omega arith))
-    (omega arith))
-    (omega arith)
+-- a fault that is none is not answered
+fault-numbered : (b : Bool) (x : ℕ) (y : CheckAnswer) → eqb x 0 ≡ b → x ≤ 7 → Numbered y
+    → Numbered (cond b y (check.Refused x))
+fault-numbered true x y e h k = k
+fault-numbered false x y e h k = let d : (x ≡ 0 → ⊥) = eqb-false x 0 e in (omega (arith, d), h)
 
--- checking refuses with a number of 01 only: at most 7
-pub refused-small : (t rs p : List ℕ) (used root k : ℕ) → checkAnswer t rs p used root ≡ check.Refused k → k ≤ 7
-unfolding number
-refused-small t rs p used root k e = subst (λ a. number a ≤ 7) e (answer-small t rs p used root)
+answer-numbered : (t rs p : List ℕ) (used root : ℕ) → Numbered (checkAnswer t rs p used root)
+unfolding checkAnswer recordsAnswer firstFault
+answer-numbered t rs p used root =
+    choose (tableOk t) _ (check.Refused 1)
+    (choose (sizesOk rs p used) _ (check.Refused 2)
+    (choose (ltb root used) _ (check.Refused 3)
+    (fault-numbered (eqb (firstFault t rs p used) 0) (firstFault t rs p used) _ refl
+    (first-small (λ (i : ℕ). recordFault t rs p (node i)) (λ n. fault-small t rs p (node n)) used)
+    (choose (eqb (typeAt t rs (node root)) 3) check.Accepted (check.Refused 7) tt (omega arith, omega arith)))
+    (omega arith, omega arith))
+    (omega arith, omega arith))
+    (omega arith, omega arith)
+
+-- checking refuses with a number of 01 only: 1 to 7
+pub refused-numbered : (t rs p : List ℕ) (used root k : ℕ) → checkAnswer t rs p used root ≡ check.Refused k
+    → (1 ≤ k) × (k ≤ 7)
+refused-numbered t rs p used root k e = subst Numbered e (answer-numbered t rs p used root)
 
 -- so does columns read
-pub columns-refused : (t rs p : List ℕ) (used root k : ℕ) → columnsAnswer t rs p used root ≡ columns.Refused k → k ≤ 7
+pub columns-refused : (t rs p : List ℕ) (used root k : ℕ) → columnsAnswer t rs p used root ≡ columns.Refused k
+    → (1 ≤ k) × (k ≤ 7)
 unfolding columnsAnswer
 columns-refused t rs p used root k = go (checkAnswer t rs p used root) refl
   where
     go : (a : CheckAnswer) → checkAnswer t rs p used root ≡ a
-        → columnsIf a (columnsWord rs root) ≡ columns.Refused k → k ≤ 7
-    go (check.Refused j) q e = let h : j ≡ k = cc in subst (λ n. n ≤ 7) h (refused-small t rs p used root j q)
+        → columnsIf a (columnsWord rs root) ≡ columns.Refused k → (1 ≤ k) × (k ≤ 7)
+    go (check.Refused j) q e =
+        let h : j ≡ k = cc in subst (λ n. (1 ≤ n) × (n ≤ 7)) h (refused-numbered t rs p used root j q)
     go check.Accepted q e = let h : true ≡ false = cc in absurd (true≢false h)
 
 -- what it answers otherwise: the word of the columns reached, and its ones

@@ -12,7 +12,7 @@ use Rattle.checking.specs.Check.{checkAnswer}
 use Rattle.checking.specs.Tree.{treeCount}
 use Rattle.checking.specs.declared.check.CheckAnswer.{CheckAnswer}
 use Rattle.checking.specs.declared.check.CheckAnswer.the-variants as check
-use Rattle.checking.proofs.Answers.{refused-small}
+use Rattle.checking.proofs.Answers.{refused-numbered}
 use Rattle.truth.specs.FromBytes.{aexprAt}
 use Rattle.constraints.specs.Values.{isEmpty}
 use Rattle.merge.specs.declared.answer.RewriteAnswer.{RewriteAnswer}
@@ -28,7 +28,9 @@ use Rattle.merge.proofs.Demand.{demand-3}
 use Rattle.merge.proofs.Usable.{returned-usable, returned-tests-same}
 use Rattle.screen.specs.Answers.{rewriteNumber, newRootOut, newUsedOut}
 use Rattle.screen.specs.Promises.{returned, BytesKept, RewritePromise}
+use Rattle.screen.specs.Listed.{rewriteListed}
 use Rattle.screen.proofs.Kept.{rewrite-kept}
+use Rattle.screen.proofs.Listed.{rewrite-listed}
 
 -- ---- A refusal's number is below 256.
 abbrev SmallRefusal : RewriteAnswer → Type 0
@@ -65,7 +67,7 @@ small t rs p used root = go (checkAnswer t rs p used root) refl
     go : (c : CheckAnswer) → checkAnswer t rs p used root ≡ c
         → SmallRefusal (rewriteIf c (cond (ltb 4096 (treeCount rs root)) (answer.Refused 8)
         (cond many (answer.Refused 9) x)))
-    go (check.Refused k) e = let h : k ≤ 7 = refused-small t rs p used root k e in omega arith
+    go (check.Refused k) e = omega (arith, refused-numbered t rs p used root k e .1)
     go check.Accepted e =
         cond-small (ltb 4096 (treeCount rs root)) (answer.Refused 8) (cond many (answer.Refused 9) x) (omega arith)
         (cond-small many (answer.Refused 9) x (omega arith) (outcome-small t rs used (outcomeOf rs p used root)))
@@ -161,15 +163,17 @@ module _ (t rs p : List ℕ) (used root : ℕ) (a : RewriteAnswer) (is : rewrite
     -- All that the call ensures.
     pub call-ensures :
         (rewriteNumber a ≡ rewriteNumber (rewriteAnswer t rs p used root))
+        × ((rewriteListed (rewriteNumber a) ≡ true)
         × ((newRootOut a oldRoot ≡ newRootOut (rewriteAnswer t rs p used root) oldRoot)
         × ((newUsedOut a oldUsed ≡ newUsedOut (rewriteAnswer t rs p used root) oldUsed)
         × ((out ≡ rewriteBytes t rs p used root)
         × (BytesKept rs out used (returned (rewriteNumber a) used (newUsedOut a oldUsed))
-        × RewritePromise t rs p used root (rewriteNumber a) out (newRootOut a oldRoot) (newUsedOut a oldUsed)))))
+        × RewritePromise t rs p used root (rewriteNumber a) out (newRootOut a oldRoot) (newUsedOut a oldUsed))))))
     call-ensures = (
       ap rewriteNumber (sym is),
       (
-        ap (λ x. newRootOut x oldRoot) (sym is),
-        (ap (λ x. newUsedOut x oldUsed) (sym is), (written, (call-kept, call-promise))),
+        subst (λ x. rewriteListed (rewriteNumber x) ≡ true) is (rewrite-listed t rs p used root),
+        (ap (λ x. newRootOut x oldRoot) (sym is),
+        (ap (λ x. newUsedOut x oldUsed) (sym is), (written, (call-kept, call-promise)))),
       ),
     )

@@ -1,12 +1,14 @@
 // The calls of the C interface (include/screen.h) and nothing else. Each turns the answer of a layer below into 01's number and
 // into the values of its out-parameters. No call asks anything of its arguments.
 ghost use mathlib.Core.Path.{_≡_};
+ghost use mathlib.Core.Bool.{true};
 ghost use Rattle.checking.specs.Check.{checkAnswer};
 ghost use Rattle.checking.specs.Columns.{columnsAnswer};
 ghost use Rattle.screen.specs.Answers.{checkNumber, columnsNumber, columnsOut, countOut, rowNumber, truthNumber};
 ghost use Rattle.screen.specs.Answers.{rewriteNumber, newRootOut, newUsedOut};
 ghost use Rattle.truth.specs.RowTest.{testRowAnswer};
 ghost use Rattle.merge.specs.Rewrite.{rewriteAnswer, rewriteBytes};
+ghost use Rattle.screen.specs.Listed.{checkListed, columnsListed, rowListed, rewriteListed};
 ghost use Rattle.screen.specs.Promises.{ColumnsPromise, returned, BytesKept, RewritePromise};
 use checking::check::CheckAnswer;
 use checking::check::check_screen;
@@ -27,7 +29,8 @@ pub extern "C" fn screen_check(
     used: u64,
     root: u64,
 ) -> u32
-    ensures { λ r. ⌜ r ≡ checkNumber (checkAnswer (now (table .entry)) (now (records .entry)) (now (pool .entry)) used root) ⌝ }
+    ensures answer { λ r. ⌜ r ≡ checkNumber (checkAnswer (now (table .entry)) (now (records .entry)) (now (pool .entry)) used root) ⌝ }
+    ensures listed { λ r. ⌜ checkListed r ≡ true ⌝ }
 {
     match check_screen(table, records, pool, used, root) {
         CheckAnswer::Refused(k) => k,
@@ -48,6 +51,7 @@ pub extern "C" fn screen_columns_read(
     count: &mut u64,
 ) -> u32
     ensures answer { λ r. ⌜ r ≡ columnsNumber (columnsAnswer (now (table .entry)) (now (records .entry)) (now (pool .entry)) used root) ⌝ }
+    ensures listed { λ r. ⌜ columnsListed r ≡ true ⌝ }
     ensures word { λ _. ⌜ now (columns .exit) ≡ columnsOut (columnsAnswer (now (table .entry)) (now (records .entry)) (now (pool .entry)) used root) (now (columns .entry)) ⌝ }
     ensures ones { λ _. ⌜ now (count .exit) ≡ countOut (columnsAnswer (now (table .entry)) (now (records .entry)) (now (pool .entry)) used root) (now (count .entry)) ⌝ }
     ensures promise { λ r. ⌜ ColumnsPromise (now (records .entry)) root r (now (columns .exit)) (now (count .exit)) ⌝ }
@@ -83,8 +87,9 @@ pub extern "C" fn screen_test_row(
     row: &[u8],
     nulls: u64,
 ) -> u32
-    ensures { λ r. ⌜ r ≡ rowNumber (testRowAnswer (now (table .entry)) (now (records .entry)) (now (pool .entry)) used root
+    ensures answer { λ r. ⌜ r ≡ rowNumber (testRowAnswer (now (table .entry)) (now (records .entry)) (now (pool .entry)) used root
         (now (row .entry)) nulls) ⌝ }
+    ensures listed { λ r. ⌜ rowListed r ≡ true ⌝ }
 {
     match test_row(table, records, pool, used, root, row, nulls) {
         RowAnswer::Refused(k) => k,
@@ -107,6 +112,7 @@ pub extern "C" fn screen_rewrite(
 ) -> u32
     ensures answer { λ r. ⌜ r ≡ rewriteNumber (rewriteAnswer (now (table .entry)) (now (records .entry))
         (now (pool .entry)) used root) ⌝ }
+    ensures listed { λ r. ⌜ rewriteListed r ≡ true ⌝ }
     ensures root { λ _. ⌜ now («new_root» .exit) ≡ newRootOut (rewriteAnswer (now (table .entry)) (now (records .entry))
         (now (pool .entry)) used root) (now («new_root» .entry)) ⌝ }
     ensures used { λ _. ⌜ now («new_used» .exit) ≡ newUsedOut (rewriteAnswer (now (table .entry)) (now (records .entry))

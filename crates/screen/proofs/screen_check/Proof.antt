@@ -1,3 +1,8 @@
+use mathlib.Core.Path.{_≡_, refl, sym, _∙_, subst}
+use mathlib.Core.Bool.{true}
+use Rattle.screen.specs.Answers.{checkNumber}
+use Rattle.screen.specs.Listed.{checkListed}
+use Rattle.screen.proofs.Listed.{check-listed}
 use borrow.Author.Needs.{needs}
 use Rattle.screen.proofs.screen_check.Statement.{statement}
 use Rattle.screen.proofs.screen_check.Tie as tie
@@ -19,11 +24,15 @@ enum-told c = search needs
 
 -- src/lib.rt:14:1
 returns : tie.Need-returns
-returns c = rw (← c .before .before .before .check-screen .ensures, c .before .k .given .1)
+returns c =
+    let e = sym (c .before .before .before .check-screen .ensures) ∙ c .before .k .given .1 in
+    (rw e refl, subst (λ a. checkListed (checkNumber a) ≡ true) e (check-listed _ _ _ _ _))
 
 -- src/lib.rt:14:1
 returns-2 : tie.Need-returns-2
-returns-2 c = rw (← c .before .before .check-screen .ensures, c .enum-told .given .1)
+returns-2 c =
+    let e = sym (c .before .before .check-screen .ensures) ∙ c .enum-told .given .1 in
+    (rw e refl, subst (λ a. checkListed (checkNumber a) ≡ true) e (check-listed _ _ _ _ _))
 
 pub screen-check-spec : {M : Type 1} → statement M
 screen-check-spec =

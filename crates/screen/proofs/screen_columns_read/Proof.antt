@@ -1,5 +1,9 @@
 use native.Mathlib.Omega.{arith}
-use mathlib.Core.Path.{refl, sym, _∙_}
+use mathlib.Core.Path.{_≡_, refl, sym, _∙_, subst}
+use mathlib.Core.Bool.{true}
+use Rattle.screen.specs.Answers.{columnsNumber}
+use Rattle.screen.specs.Listed.{columnsListed}
+use Rattle.screen.proofs.Listed.{columns-listed}
 use Rattle.checking.proofs.Answers.{columns-refused, columns-found}
 use Rattle.checking.proofs.Bits.{word-reaches}
 use borrow.Author.Needs.{needs}
@@ -25,32 +29,16 @@ enum-known-word c = search needs
 returns : tie.Need-returns
 returns c =
     let e = sym (c .before .before .before .columns-read .ensures) ∙ c .before .k .given .1 in
-    rw e (
-      refl,
-      (
-        refl,
-        (
-          refl,
-          λ q. let h = columns-refused _ _ _ _ _ _ e in absurd (omega (arith, h, q)),
-        ),
-      ),
-    )
+    let l = subst (λ a. columnsListed (columnsNumber a) ≡ true) e (columns-listed _ _ _ _ _) in
+    rw e (refl, (l, (refl, (refl, λ q. absurd (omega (arith, columns-refused _ _ _ _ _ _ e .1, q))))))
 
 -- src/lib.rt:32:1
 returns-2 : tie.Need-returns-2
 returns-2 c =
     let e = sym (c .before .before .before .columns-read .ensures) ∙ c .before .word .given .1 in
     let f = columns-found _ _ _ _ _ _ _ e in
-    rw e (
-      refl,
-      (
-        refl,
-        (
-          refl,
-          λ q. ((λ k h. rw (← f .0) (word-reaches _ _ k h)), sym (f .1)),
-        ),
-      ),
-    )
+    let l = subst (λ a. columnsListed (columnsNumber a) ≡ true) e (columns-listed _ _ _ _ _) in
+    rw e (refl, (l, (refl, (refl, λ q. ((λ k h. rw (← f .0) (word-reaches _ _ k h)), sym (f .1))))))
 
 pub screen-columns-read-spec : {M : Type 1} → statement M
 screen-columns-read-spec =

@@ -1,3 +1,8 @@
+use mathlib.Core.Path.{_≡_, refl, sym, _∙_, subst}
+use mathlib.Core.Bool.{true}
+use Rattle.screen.specs.Answers.{rowNumber}
+use Rattle.screen.specs.Listed.{rowListed}
+use Rattle.screen.proofs.Listed.{row-listed}
 use borrow.Author.Needs.{needs}
 use Rattle.screen.proofs.screen_test_row.Statement.{statement}
 use Rattle.screen.proofs.screen_test_row.Tie as tie
@@ -24,12 +29,16 @@ truth-number-requires c κs = search needs
 
 -- src/lib.rt:72:1
 returns : tie.Need-returns
-returns c = rw (← c .before .before .before .test-row .ensures, c .before .k .given .1)
+returns c =
+    let e = sym (c .before .before .before .test-row .ensures) ∙ c .before .k .given .1 in
+    (rw e refl, subst (λ a. rowListed (rowNumber a) ≡ true) e (row-listed _ _ _ _ _ _ _))
 
 -- src/lib.rt:72:1
 returns-2 : tie.Need-returns-2
 returns-2 c =
-    rw (← c .before .before .before .before .test-row .ensures, c .before .before .t .given .1, c .truth-number .ensures)
+    let e = sym (c .before .before .before .before .test-row .ensures) ∙ c .before .before .t .given .1 in
+    rw (c .truth-number .ensures)
+    (rw e refl, subst (λ a. rowListed (rowNumber a) ≡ true) e (row-listed _ _ _ _ _ _ _))
 
 pub screen-test-row-spec : {M : Type 1} → statement M
 screen-test-row-spec =
