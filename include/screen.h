@@ -143,8 +143,7 @@ enum screen_refusal {
      * inputs; a record that is reached as a conjunct twice counts twice. All count, even if an early one is impossible.
      */
     SCREEN_REFUSED_CONJUNCTS = 9,
-    /* The rewritten screen would have no conjunct. No screen is refused with this number. */
-    SCREEN_REFUSED_EMPTY = 10,
+    /* 10 is not used: no refusal has this number. */
     /*
      * No room for what rewriting would add: used with the added records would be over 4,096 or over the whole records
      * lent, or the rewritten root's tree, counted as for 8, would have over 4,096 records.
@@ -184,8 +183,6 @@ static inline const char *screen_refusal_text(uint32_t answer)
         return "The screen has more than 4,096 records, shared ones counted each time they are reached.";
     case SCREEN_REFUSED_CONJUNCTS:
         return "The screen has more than 128 conjuncts, shared ones counted each time they are reached.";
-    case SCREEN_REFUSED_EMPTY:
-        return "The rewritten screen would have no conjunct.";
     case SCREEN_REFUSED_ROOM:
         return "The rewritten screen has no room: it would pass 4,096 records or those lent, or its tree would have "
                "more than 4,096.";
@@ -241,7 +238,8 @@ enum screen_rewrite_answer {
  * SCREEN_UNCHANGED it is the one sent. It keeps its table and its pool.
  *
  * What is written: with SCREEN_NOTHING_PASSES and SCREEN_REWRITTEN the records from number `used` up to, not including,
- * number *new_used, each whole. Those before them are the screen sent, which can still be used with its old root;
+ * number *new_used, each whole; with SCREEN_REWRITTEN *new_root is one of them, never a record that was sent. Those
+ * before them are the screen sent, which can still be used with its old root;
  * those behind them, and bytes after the last whole record, keep their values. With SCREEN_UNCHANGED and with a refusal
  * no byte is written.
  *

@@ -821,10 +821,10 @@ static void test_too_many(void)
 
 static void test_texts(void)
 {
-    static const uint32_t own[] = {SCREEN_REFUSED_TREE, SCREEN_REFUSED_CONJUNCTS, SCREEN_REFUSED_EMPTY,
-                                   SCREEN_REFUSED_ROOM};
+    static const uint32_t own[] = {SCREEN_REFUSED_TREE, SCREEN_REFUSED_CONJUNCTS, SCREEN_REFUSED_ROOM};
     for (size_t i = 0; i < sizeof own / sizeof own[0]; i++)
         report(strcmp(screen_refusal_text(own[i]), screen_refusal_text(0)) != 0, "screen_refusal_text", "no sentence");
+    report(strcmp(screen_refusal_text(10), screen_refusal_text(0)) == 0, "screen_refusal_text", "10 is unused");
 }
 
 int main(void)

@@ -1,7 +1,7 @@
 -- What the ends of the loops give: the outcome of the merging, and each of its answers.
 use Rattle.merge.specs.Classify.{classify}
 use mathlib.Core.Path.{_≡_, refl, sym, _∙_, ap, subst}
-use mathlib.Core.Bool.{Bool, true, false, not, cond, _&&_, _||_, or-false}
+use mathlib.Core.Bool.{Bool, true, false, not, cond, _&&_, _||_, or-false, true≢false}
 use mathlib.Core.List.{List, [], _∷_, _++_, map}
 use Prim.Native.Nat.{ℕ, zero, suc, _+_, _-_, _*_, _<_, _≤_, _%_}
 use native.Mathlib.Omega.{arith}
@@ -34,6 +34,7 @@ use Rattle.filter_constraint.specs.State.{columnAt, Table, Shows, Entere
 use Rattle.filter_constraint.specs.Words.{pastColumn}
 use Rattle.filter_constraint.specs.State.{Spread, Kept, resolveAll, resolvedIn, Resolved, shown, Written}
 use Rattle.stages.proofs.Answers.{chain-written, chain-unwritten}
+use Rattle.merge.proofs.Compared.{rebuilt-compares}
 use Rattle.rewrite.proofs.Walks.{first-length}
 use Rattle.filter_constraint.proofs.Arrays.{low-slot}
 use Rattle.stages.proofs.Chains.{chain-bytes, chain-not-empty}
@@ -174,6 +175,15 @@ module _ (t : Conjuncts) (table₁ table₂ table₃ : List ColumnConstraints) (
       ∙ ap (λ l. Rebuilt l (comparisons payload (s .order) (resolved payload s))) (sym kept-are)
       ∙ ap (Rebuilt (firstOf kept keeps)) (sym written-comparisons)
 
+-- A rebuilt chain has a comparison.
+pub compared-some : (R : ℕ → AExpr ℕ) (nodes : List ℕ) (n : ℕ) (ns : List ℕ) (cs : List (ℕ × ColumnComparison ℕ))
+    (total : ℕ) → outcomeTo R nodes n ≡ Rebuilt ns cs → total ≡ length cs → 0 < total
+compared-some R nodes n ns cs total e et = go cs (rebuilt-compares payload R (firstOf nodes n) ns cs e) et
+  where
+    go : (l : List (ℕ × ColumnComparison ℕ)) → isEmpty l ≡ false → total ≡ length l → 0 < total
+    go [] f q = absurd (true≢false f)
+    go (x ∷ l) f q = omega (arith, q)
+
 -- ---- The answers for a rebuilt chain: refused, or written.
 module _ (t rs trees : List ℕ) (used : ℕ) (kept : List ℕ) (keeps total : ℕ) (cs : List (ℕ × ColumnComparison ℕ))
     (r : RewriteAnswer) (er : r ≡ reckoned (length rs) trees used (firstOf kept keeps) total) (et : total ≡ length cs)
@@ -192,14 +202,17 @@ module _ (t rs trees : List ℕ) (used : ℕ) (kept : List ℕ) (keeps total : �
         (outcomeBytes t rs used (Rebuilt (firstOf kept keeps) cs)) (sym flag-is ∙ not-true b h)),
   )
 
-  module _ (h : not b ≡ false) where
+  module _ (h : not b ≡ false) (some : 0 < total) where
     room : ChainRoom (length rs) trees used (firstOf kept keeps) total
     room = rewritten-room (length rs) trees used (firstOf kept keeps) total (sym flag-is ∙ not-false b h)
 
     pub chain-room :
         (used + 3 * total + (keeps + total - 1) ≤ 4096) × (16 * (used + 3 * total + (keeps + total - 1)) ≤ length rs)
         × (0 < keeps + total)
-    chain-room = rw (← first-length kept keeps) (room .few, room .lent, room .some)
+    chain-room = rw (← first-length kept keeps) (room .few, room .lent, full)
+      where
+        full : 0 < length (firstOf kept keeps) + total
+        full = omega (arith, some)
 
     pub chain-answered : (u : ℕ) (written out : List ℕ) → Written t used rs cs u written
         → out ≡ andsTo (chainAt kept keeps used) u (keeps + total - 1) written
@@ -211,14 +224,14 @@ module _ (t rs trees : List ℕ) (used : ℕ) (kept : List ℕ) (keeps total : �
           ∙ ap (andsTo (chainAt kept keeps used) (used + 3 * length cs) (keeps + total - 1)) (W .bytes)
           ∙ ap (λ m. andsTo (chainAt kept keeps used) (used + 3 * length cs) (keeps + m - 1) (writeComparisons t used cs rs)) et
           ∙ chain-bytes t rs kept keeps used (firstOf kept keeps) cs refl
-          (chain-not-empty used (firstOf kept keeps) cs some)
+          (chain-not-empty used (firstOf kept keeps) cs full)
           ∙ sym (ap (λ x. writtenIf x rs (outcomeBytes t rs used (Rebuilt (firstOf kept keeps) cs))) er
           ∙ chain-written (length rs) trees used (firstOf kept keeps) total rs
           (outcomeBytes t rs used (Rebuilt (firstOf kept keeps) cs)) (sym flag-is ∙ not-false b h)),
     )
       where
-        some : 0 < length (firstOf kept keeps) + length cs
-        some = rw (← et) (room .some)
+        full : 0 < length (firstOf kept keeps) + length cs
+        full = rw (← et) (omega (arith, some))
 
 -- The comparisons read kinds and values only.
 comparisons-same : (s s′ : Conjuncts) (table : List ColumnConstraints) (ms : List ℕ) (l : List ℕ) → s .kinds ≡ s′ .kinds

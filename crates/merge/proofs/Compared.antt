@@ -36,7 +36,7 @@ use Rattle.constraints.specs.Values.{insert, isEmpty}
 use Rattle.constraints.proofs.Columns.{addAll-live, insert-full, tighten-present}
 use Rattle.constraints.proofs.Resolves.{fixed-lower, openAt-present, resolveIf}
 use Rattle.merge.specs.Minterms.{minterms}
-use Rattle.merge.specs.Classify.{Bounds, Conjunct, Equality, NonNullPair, Opaque, Recorded, classify, conjuncts}
+use Rattle.merge.specs.Classify.{Bounds, Conjunct, Equality, NonNullPair, Opaque, Recorded, classify}
 use Rattle.merge.specs.Classify.{comparisonConstraints}
 use Rattle.merge.specs.Collect.{Collected, Table, addTo, begin, collect, collectOne, enter, requireNonNull}
 use Rattle.merge.specs.Compared.{RebuiltCompares, RewrittenRootIsNew}
@@ -45,8 +45,8 @@ use Rattle.merge.specs.Emit.{droppedEquality, isFixed, mergeFilterConstr
 use Rattle.merge.specs.Emit.{resolved, rewrites}
 use Rattle.merge.specs.Propagate.{edgeEmitted, mergeEdge, mergedRight, pass, passAny, passEmitted}
 use Rattle.merge.specs.Propagate.{propagate, propagateEmitted}
-use Rattle.merge.specs.Rebuild.{andRoot, comparisonNodes, comparisonsEnd}
-use Rattle.merge.specs.Rewrite.{chainFits, chainNodes, chainRoot, chainUsed, hasRoom, outcomeAnswer, outcomeOf}
+use Rattle.merge.specs.Rebuild.{andRoot, andsEnd, comparisonNodes, comparisonsEnd}
+use Rattle.merge.specs.Rewrite.{chainFits, chainRoot, chainUsed, hasRoom, outcomeAnswer, outcomeOf}
 use Rattle.merge.specs.Rewrite.{rewriteAnswer, rewriteIf}
 use Rattle.merge.specs.declared.answer.RewriteAnswer.{RewriteAnswer}
 use Rattle.merge.specs.declared.answer.RewriteAnswer.the-variants as answer
@@ -469,8 +469,7 @@ module _ {K Val : Type 0} (S : Scalars K Val) where
 
   -- a rebuilt chain has a comparison
   pub rebuilt-compares : RebuiltCompares S
-  rebuilt-compares R root ns cs e =
-      subst Compares e (merge-compares (conjuncts R root) (all-read R (minterms R root)))
+  rebuilt-compares R nodes ns cs e = subst Compares e (merge-compares (map (classify R) nodes) (all-read R nodes))
 
 -- ---- The root of a rebuilt chain is one of the records added.
 pub nodes-full : (u : ℕ) (cs : List (ℕ × ColumnComparison ℕ)) → isEmpty cs ≡ false →
@@ -499,12 +498,33 @@ chain-root-new used (n ∷ ns) (x ∷ cs) h =
     fold-root-new used (comparisonsEnd used (x ∷ cs)) n (ns ++ comparisonNodes used (x ∷ cs))
     (comparisons-end (x ∷ cs) used) (full-right ns (comparisonNodes used (x ∷ cs)) refl)
 
+-- and it is the last of them but none behind it
+and-root-last : (u acc : ℕ) (l : List ℕ) → acc < u → andRoot u acc l < andsEnd u l
+and-root-last u acc [] h = h
+and-root-last u acc (n ∷ l) h = and-root-last (suc u) u l (omega arith)
+
+fold-root-last : (u n : ℕ) (l : List ℕ) → isEmpty l ≡ false → andRoot u n l < andsEnd u l
+fold-root-last u n [] f = absurd (true≢false f)
+fold-root-last u n (m ∷ l) f = and-root-last (suc u) u l (omega arith)
+
+chain-root-last : (used : ℕ) (ns : List ℕ) (cs : List (ℕ × ColumnComparison ℕ)) → isEmpty cs ≡ false →
+    chainRoot used ns cs < chainUsed used ns cs
+chain-root-last used ns [] h = absurd (true≢false h)
+chain-root-last used [] (x ∷ cs) h =
+    let k : suc (suc (suc used)) ≤ comparisonsEnd (suc (suc (suc used))) cs =
+    comparisons-end cs (suc (suc (suc used))) in
+    and-root-last (comparisonsEnd used (x ∷ cs)) (suc (suc used)) (comparisonNodes (suc (suc (suc used))) cs)
+    (omega arith)
+chain-root-last used (n ∷ ns) (x ∷ cs) h =
+    fold-root-last (comparisonsEnd used (x ∷ cs)) n (ns ++ comparisonNodes used (x ∷ cs))
+    (full-right ns (comparisonNodes used (x ∷ cs)) refl)
+
 -- What an answer says of its root.
 abbrev NewRoot : ℕ → ℕ → RewriteAnswer → Type 0
 NewRoot used root (answer.Refused k) = Unit {0}
 NewRoot used root answer.Unchanged = Unit {0}
 NewRoot used root (answer.NothingPasses newRoot newUsed) = Unit {0}
-NewRoot used root (answer.Rewritten newRoot newUsed) = (root < used) × (used ≤ newRoot)
+NewRoot used root (answer.Rewritten newRoot newUsed) = (root < used) × (used ≤ newRoot) × (newRoot < newUsed)
 
 new-root : (t rs p : List ℕ) (used root : ℕ) → NewRoot used root (rewriteAnswer t rs p used root)
 unfolding rewriteAnswer
@@ -520,15 +540,16 @@ new-root t rs p used root =
             NewRoot used root (cond b (answer.NothingPasses used (suc used)) (answer.Refused 11))
         cut true = tt
         cut false = tt
-    of l (Rebuilt ns cs) e = cut (isEmpty (chainNodes used ns cs)) (chainFits t rs used ns cs)
+    of l (Rebuilt ns cs) e = cut (chainFits t rs used ns cs)
       where
-        cut : (b c : Bool) →
-            NewRoot used root (cond b (answer.Refused 10)
-            (cond c (answer.Rewritten (chainRoot used ns cs) (chainUsed used ns cs)) (answer.Refused 11)))
-        cut true c = tt
-        cut false true =
-            (l, chain-root-new used ns cs (rebuilt-compares payload (aexprAt rs p used) root ns cs e))
-        cut false false = tt
+        full : isEmpty cs ≡ false
+        full = rebuilt-compares payload (aexprAt rs p used) (minterms (aexprAt rs p used) root) ns cs e
+
+        cut : (c : Bool) →
+            NewRoot used root
+            (cond c (answer.Rewritten (chainRoot used ns cs) (chainUsed used ns cs)) (answer.Refused 11))
+        cut true = (l, chain-root-new used ns cs full, chain-root-last used ns cs full)
+        cut false = tt
 
     go : (c : CheckAnswer) → checkAnswer t rs p used root ≡ c → (b d : Bool) →
         NewRoot used root (rewriteIf c (cond b (answer.Refused 8) (cond d (answer.Refused 9)

@@ -200,9 +200,10 @@ module _ (t rs p : List ℕ) (used root : ℕ) (bytes : demand.AreBytes rs) (ok 
       let m : u ≤ length rs / 16 = leb-true u (length rs / 16) (b .1) in
       (l, omega arith)
 
-  told : (o : Outcome ℕ) → demand.isRefused (outcomeAnswer t rs used o) ≡ false → Told o (outcomeAnswer t rs used o)
-  told Unchanged h = record { written = refl; newRoot = refl; newUsed = refl; roomy = tt; full = tt; nothing = refl }
-  told NothingPasses h = go (hasRoom rs (suc used)) refl h
+  told : (o : Outcome ℕ) → NotEmpty payload halves truthKeys 0 refl R good used o
+      → demand.isRefused (outcomeAnswer t rs used o) ≡ false → Told o (outcomeAnswer t rs used o)
+  told Unchanged e h = record { written = refl; newRoot = refl; newUsed = refl; roomy = tt; full = tt; nothing = refl }
+  told NothingPasses e h = go (hasRoom rs (suc used)) refl h
     where
       go :
           (b : Bool) → hasRoom rs (suc used) ≡ b →
@@ -219,18 +220,15 @@ module _ (t rs p : List ℕ) (used root : ℕ) (bytes : demand.AreBytes rs) (ok 
                 refl;
           }
       go false e h = absurd (true≢false h)
-  told (Rebuilt ns cs) h = go (isEmpty (chainNodes used ns cs)) refl (chainFits t rs used ns cs) refl h
+  told (Rebuilt ns cs) e h = go (chainFits t rs used ns cs) refl h
     where
-      a : Bool → Bool → RewriteAnswer
-      a b c =
-          cond b (answer.Refused 10)
-          (cond c (answer.Rewritten (chainRoot used ns cs) (chainUsed used ns cs)) (answer.Refused 11))
+      a : Bool → RewriteAnswer
+      a c = cond c (answer.Rewritten (chainRoot used ns cs) (chainUsed used ns cs)) (answer.Refused 11)
 
       go :
-          (b : Bool) → isEmpty (chainNodes used ns cs) ≡ b → (c : Bool) → chainFits t rs used ns cs ≡ c →
-          demand.isRefused (a b c) ≡ false → Told (Rebuilt ns cs) (a b c)
-      go true e c f h = absurd (true≢false h)
-      go false e true f h =
+          (c : Bool) → chainFits t rs used ns cs ≡ c →
+          demand.isRefused (a c) ≡ false → Told (Rebuilt ns cs) (a c)
+      go true f h =
           record {
             written = refl;
             newRoot = refl;
@@ -239,7 +237,7 @@ module _ (t rs p : List ℕ) (used root : ℕ) (bytes : demand.AreBytes rs) (ok 
             full = e;
             nothing = refl;
           }
-      go false e false f h = absurd (true≢false h)
+      go false f h = absurd (true≢false h)
 
   -- The bytes at exit hold the records of the screen returned.
   out-holds :
@@ -273,11 +271,17 @@ module _ (t rs p : List ℕ) (used root : ℕ) (bytes : demand.AreBytes rs) (ok 
   abbrev a : RewriteAnswer
   a = outcomeAnswer t rs used o
 
-  -- Refusal 10 is never given: a rebuilt chain has a conjunct.
+  -- A rebuilt chain has a conjunct.
   pub chain-is-full : (ns : List ℕ) (cs : List (ℕ × ColumnComparison ℕ)) → outcomeOf rs p used root ≡ Rebuilt ns cs →
       isEmpty (chainNodes used ns cs) ≡ false
   chain-is-full ns cs e =
-      full-right ns (comparisonNodes used cs) (nodes-full used cs (rebuilt-compares values.payload R root ns cs e))
+      full-right ns (comparisonNodes used cs) (nodes-full used cs
+      (rebuilt-compares values.payload R (minterms R root) ns cs e))
+
+  never-empty : (x : Outcome ℕ) → merged rs p used root ≡ x → NotEmpty payload halves truthKeys 0 refl R good used x
+  never-empty Unchanged e = tt
+  never-empty NothingPasses e = tt
+  never-empty (Rebuilt ns cs) e = chain-is-full ns cs (merged-is rs p used root ∙ e)
 
   -- The kept nodes are used records, and the comparisons fit the fields of a record.
   pub chain-fits-fields : (ns : List ℕ) (cs : List (ℕ × ColumnComparison ℕ)) → outcomeOf rs p used root ≡
@@ -291,7 +295,7 @@ module _ (t rs p : List ℕ) (used root : ℕ) (bytes : demand.AreBytes rs) (ok 
 
   module _ (kept : demand.isRefused a ≡ false) where
     is : Told o a
-    is = told o kept
+    is = told o (never-empty o refl) kept
 
     holds : Holds (outcomeBytes t rs used o) p (back o .used) (back o .records)
     holds =

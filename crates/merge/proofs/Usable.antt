@@ -138,18 +138,14 @@ module _ (t rs p : List ℕ) (used root : ℕ) (bytes : AreBytes rs) (ok : Check
       go true f h = nothing-usable f
       go false f h = absurd (true≢false h)
   outcome-usable sent (Rebuilt ns cs) e h =
-      go (isEmpty (chainNodes used ns cs)) (chainFits t rs used ns cs) refl h
+      go (chainFits t rs used ns cs) refl h
     where
-      a : Bool → Bool → RewriteAnswer
-      a b c =
-          cond b (answer.Refused 10)
-          (cond c (answer.Rewritten (chainRoot used ns cs) (chainUsed used ns cs)) (answer.Refused 11))
+      a : Bool → RewriteAnswer
+      a c = cond c (answer.Rewritten (chainRoot used ns cs) (chainUsed used ns cs)) (answer.Refused 11)
 
-      go :
-          (b c : Bool) → chainFits t rs used ns cs ≡ c → isRefused (a b c) ≡ false → Good (Rebuilt ns cs) (a b c)
-      go true c f h = absurd (true≢false h)
-      go false true f h = chain-usable ns cs e f
-      go false false f h = absurd (true≢false h)
+      go : (c : Bool) → chainFits t rs used ns cs ≡ c → isRefused (a c) ≡ false → Good (Rebuilt ns cs) (a c)
+      go true f h = chain-usable ns cs e f
+      go false f h = absurd (true≢false h)
 
 -- ---- From the answer to the screen: what was sent is usable, and what is returned.
 both-usable :

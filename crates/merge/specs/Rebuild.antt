@@ -38,7 +38,7 @@ abbrev pub andsEnd : ℕ → List ℕ → ℕ
 andsEnd u [] = u
 andsEnd u (n ∷ l) = andsEnd (suc u) l
 
--- The root and the used count after `fold_and` of the conjuncts; without any the screen is refused (10).
+-- The root and the used count after `fold_and` of the conjuncts; a rebuilt chain is never without one.
 abbrev pub foldRoot : ℕ → List ℕ → ℕ
 foldRoot u [] = 0
 foldRoot u (n ∷ l) = andRoot u n l

@@ -1,5 +1,5 @@
--- Rewriting a screen, 01, 'Answers by operation': as checking; 8, 9, 10, 11 in this order; else unchanged, nothing
--- passes, or rewritten. t is the column table, rs the records, p the pool. A refusal and "unchanged" write nothing.
+-- Rewriting a screen, 01, 'Answers by operation': as checking; 8, 9, 11 in this order; else unchanged, nothing passes,
+-- or rewritten. (10 is no refusal: a rebuilt chain always has a conjunct, `RebuiltCompares` in Compared.) t is the column table, rs the records, p the pool. A refusal and "unchanged" write nothing.
 use mathlib.Core.Bool.{Bool, cond, _&&_}
 use mathlib.Core.List.{List, _++_}
 use Prim.Native.Nat.{ℕ, suc, _/_}
@@ -11,7 +11,6 @@ use Rattle.checking.specs.declared.check.CheckAnswer.{CheckAnswer}
 use Rattle.checking.specs.declared.check.CheckAnswer.the-variants as check
 use Rattle.truth.specs.FromBytes.{aexprAt}
 use Rattle.constraints.specs.Payload.{payload}
-use Rattle.constraints.specs.Values.{isEmpty}
 use Rattle.merge.specs.declared.answer.RewriteAnswer.{RewriteAnswer}
 use Rattle.merge.specs.declared.answer.RewriteAnswer.the-variants as answer
 use Rattle.merge.specs.Minterms.{minterms}
@@ -46,15 +45,13 @@ chainFits t rs used ns cs =
     hasRoom rs (chainUsed used ns cs)
     && leb (treeCount (outcomeBytes t rs used (Rebuilt ns cs)) (chainRoot used ns cs)) 4096
 
--- 10, 11 and the answer for an outcome of the merging.
+-- 11 and the answer for an outcome of the merging.
 abbrev pub outcomeAnswer : List ℕ → List ℕ → ℕ → Outcome ℕ → RewriteAnswer
 outcomeAnswer t rs used Unchanged = answer.Unchanged
 outcomeAnswer t rs used NothingPasses =
     cond (hasRoom rs (suc used)) (answer.NothingPasses used (suc used)) (answer.Refused 11)
 outcomeAnswer t rs used (Rebuilt ns cs) =
-    cond (isEmpty (chainNodes used ns cs)) (answer.Refused 10)
-    (cond (chainFits t rs used ns cs) (answer.Rewritten (chainRoot used ns cs) (chainUsed used ns cs))
-    (answer.Refused 11))
+    cond (chainFits t rs used ns cs) (answer.Rewritten (chainRoot used ns cs) (chainUsed used ns cs)) (answer.Refused 11)
 
 -- 8, 9 and the rest, of a checked screen.
 abbrev pub checkedAnswer : List ℕ → List ℕ → List ℕ → ℕ → ℕ → RewriteAnswer

@@ -17,7 +17,6 @@ use Rattle.records.specs.declared.record.Record.{Record}
 use Rattle.records.specs.declared.record.Record.the-variants as kind
 use Rattle.truth.specs.FromBytes.{aexprAt}
 use Rattle.constraints.specs.Comparisons.{ColumnComparison}
-use Rattle.constraints.specs.Values.{isEmpty}
 use Rattle.merge.specs.declared.answer.RewriteAnswer.{RewriteAnswer}
 use Rattle.merge.specs.declared.answer.RewriteAnswer.the-variants as answer
 use Rattle.merge.specs.Minterms.{minterms}
@@ -153,18 +152,15 @@ module _ (t rs : List ℕ) (used : ℕ) where
           let h : 16 * suc used ≤ length rs = room-of (suc used) e in
           record-kept rs used (kind.Literal 3 0) (omega arith)
       go false e = kept-all rs used used
-  outcome-kept (Rebuilt ns cs) = go (isEmpty (chainNodes used ns cs)) (chainFits t rs used ns cs) refl
+  outcome-kept (Rebuilt ns cs) = go (chainFits t rs used ns cs) refl
     where
-      a : Bool → Bool → RewriteAnswer
-      a b c =
-          cond b (answer.Refused 10)
-          (cond c (answer.Rewritten (chainRoot used ns cs) (chainUsed used ns cs)) (answer.Refused 11))
+      a : Bool → RewriteAnswer
+      a c = cond c (answer.Rewritten (chainRoot used ns cs) (chainUsed used ns cs)) (answer.Refused 11)
 
-      go : (b c : Bool) → chainFits t rs used ns cs ≡ c
-          → BytesKept rs (writtenIf (a b c) rs (outcomeBytes t rs used (Rebuilt ns cs))) used (usedAfter (a b c) used)
-      go true c e = kept-all rs used used
-      go false true e = chain-kept ns cs e
-      go false false e = kept-all rs used used
+      go : (c : Bool) → chainFits t rs used ns cs ≡ c
+          → BytesKept rs (writtenIf (a c) rs (outcomeBytes t rs used (Rebuilt ns cs))) used (usedAfter (a c) used)
+      go true e = chain-kept ns cs e
+      go false e = kept-all rs used used
 
 -- Rewriting writes records behind those used, and none behind the used count answered.
 pub rewrite-kept : (t rs p : List ℕ) (used root : ℕ)

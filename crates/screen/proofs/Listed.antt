@@ -18,12 +18,11 @@ use Rattle.truth.specs.declared.test.RowAnswer.{RowAnswer}
 use Rattle.truth.specs.declared.test.RowAnswer.the-variants as row
 use Rattle.truth.specs.FromBytes.{aexprAt, rowOf, truthIn}
 use Rattle.truth.specs.RowTest.{marksOk, columnsOk, rowFault, checkedAnswer, answerIf, testRowAnswer}
-use Rattle.constraints.specs.Values.{isEmpty}
 use Rattle.merge.specs.declared.answer.RewriteAnswer.{RewriteAnswer}
 use Rattle.merge.specs.declared.answer.RewriteAnswer.the-variants as answer
 use Rattle.merge.specs.Emit.{Outcome, Unchanged, NothingPasses, Rebuilt}
 use Rattle.merge.specs.Minterms.{minterms}
-use Rattle.merge.specs.Rewrite.{outcomeOf, chainNodes, chainRoot, chainUsed, hasRoom, chainFits, outcomeAnswer}
+use Rattle.merge.specs.Rewrite.{outcomeOf, chainRoot, chainUsed, hasRoom, chainFits, outcomeAnswer}
 use Rattle.merge.specs.Rewrite.{rewriteIf, rewriteAnswer}
 use Rattle.screen.specs.Answers.{checkNumber, columnsNumber, rowNumber, truthNumber, rewriteNumber}
 use Rattle.screen.specs.Listed.{listed, checkRefusals, checkListed, columnsListed, rowListed, rewriteListed}
@@ -107,15 +106,14 @@ module _ (t rs p : List ℕ) (used root : ℕ) where
       outcome NothingPasses =
           pick Ok (hasRoom rs (suc used)) (answer.NothingPasses used (suc used)) (answer.Refused 11) refl refl
       outcome (Rebuilt ns cs) =
-          pick Ok (isEmpty (chainNodes used ns cs)) (answer.Refused 10) _ refl
-          (pick Ok (chainFits t rs used ns cs) (answer.Rewritten (chainRoot used ns cs) (chainUsed used ns cs))
-          (answer.Refused 11) refl refl)
+          pick Ok (chainFits t rs used ns cs) (answer.Rewritten (chainRoot used ns cs) (chainUsed used ns cs))
+          (answer.Refused 11) refl refl
 
       go : (a : CheckAnswer) → checkAnswer t rs p used root ≡ a
           → Ok (rewriteIf a (cond (ltb 4096 (treeCount rs root)) (answer.Refused 8)
           (cond (ltb 128 (length (minterms (aexprAt rs p used) root))) (answer.Refused 9)
           (outcomeAnswer t rs used (outcomeOf rs p used root)))))
-      go (check.Refused k) e = refusal-listed (8 ∷ 9 ∷ 10 ∷ 11 ∷ 256 ∷ 257 ∷ 258 ∷ []) k e
+      go (check.Refused k) e = refusal-listed (8 ∷ 9 ∷ 11 ∷ 256 ∷ 257 ∷ 258 ∷ []) k e
       go check.Accepted e =
           pick Ok (ltb 4096 (treeCount rs root)) (answer.Refused 8) _ refl
           (pick Ok (ltb 128 (length (minterms (aexprAt rs p used) root))) (answer.Refused 9) _ refl

@@ -14,7 +14,6 @@ use Rattle.checking.specs.declared.check.CheckAnswer.{CheckAnswer}
 use Rattle.checking.specs.declared.check.CheckAnswer.the-variants as check
 use Rattle.checking.proofs.Answers.{refused-numbered}
 use Rattle.truth.specs.FromBytes.{aexprAt}
-use Rattle.constraints.specs.Values.{isEmpty}
 use Rattle.merge.specs.declared.answer.RewriteAnswer.{RewriteAnswer}
 use Rattle.merge.specs.declared.answer.RewriteAnswer.the-variants as answer
 use Rattle.merge.specs.Demand.{Row, IsRow, IsChain, isRefused, isNothing, AreBytes, passes, rowsPassing, Demand3}
@@ -22,8 +21,9 @@ use Rattle.merge.specs.Demand.{rootAfter, usedAfter, AcceptedScreen}
 use Rattle.merge.specs.Emit.{Outcome, Unchanged, NothingPasses, Rebuilt}
 use Rattle.merge.specs.Minterms.{minterms}
 use Rattle.merge.specs.Usable.{Usable, SameTests}
-use Rattle.merge.specs.Rewrite.{outcomeOf, chainNodes, chainRoot, chainUsed, hasRoom, chainFits, outcomeAnswer}
+use Rattle.merge.specs.Rewrite.{outcomeOf, chainRoot, chainUsed, hasRoom, chainFits, outcomeAnswer}
 use Rattle.merge.specs.Rewrite.{rewriteIf, rewriteAnswer, rewriteBytes}
+use Rattle.merge.proofs.Compared.{rewritten-root-is-new}
 use Rattle.merge.proofs.Demand.{demand-3}
 use Rattle.merge.proofs.Usable.{returned-usable, returned-tests-same}
 use Rattle.screen.specs.Answers.{rewriteNumber, newRootOut, newUsedOut}
@@ -48,11 +48,8 @@ outcome-small t rs used Unchanged = tt
 outcome-small t rs used NothingPasses =
     cond-small (hasRoom rs (suc used)) (answer.NothingPasses used (suc used)) (answer.Refused 11) tt (omega arith)
 outcome-small t rs used (Rebuilt ns cs) =
-    cond-small (isEmpty (chainNodes used ns cs)) (answer.Refused 10)
-    (cond (chainFits t rs used ns cs) (answer.Rewritten (chainRoot used ns cs) (chainUsed used ns cs))
-    (answer.Refused 11)) (omega arith)
-    (cond-small (chainFits t rs used ns cs) (answer.Rewritten (chainRoot used ns cs) (chainUsed used ns cs))
-    (answer.Refused 11) tt (omega arith))
+    cond-small (chainFits t rs used ns cs) (answer.Rewritten (chainRoot used ns cs) (chainUsed used ns cs))
+    (answer.Refused 11) tt (omega arith)
 
 small : (t rs p : List ℕ) (used root : ℕ) → SmallRefusal (rewriteAnswer t rs p used root)
 unfolding rewriteAnswer
@@ -132,6 +129,14 @@ module _ (t rs p : List ℕ) (used root : ℕ) (a : RewriteAnswer) (is : rewrite
       (subst (P (rewriteBytes t rs p used root) (usedAfter a used)) (root-returned a root oldRoot low)
       (subst (λ x. P (rewriteBytes t rs p used root) (usedAfter x used) (rootAfter x root)) is h)))
 
+  -- With 258 the root is new.
+  new-root : (x : RewriteAnswer) → rewriteAnswer t rs p used root ≡ x → SmallRefusal x → rewriteNumber x ≡ 258
+      → (root < used) × (used ≤ newRootOut x oldRoot) × (newRootOut x oldRoot < newUsedOut x oldUsed)
+  new-root (answer.Refused k) q h e = absurd (omega (arith, h, e))
+  new-root answer.Unchanged q h e = absurd (omega (arith, e))
+  new-root (answer.NothingPasses root′ used′) q h e = absurd (omega (arith, e))
+  new-root (answer.Rewritten root′ used′) q h e = rewritten-root-is-new t rs p used root root′ used′ q
+
   module _ (bytes : AreBytes rs) where
     kept : 256 ≤ rewriteNumber a → AcceptedScreen t rs p used root
     kept n = ap isRefused is ∙ accepted a low n
@@ -158,6 +163,7 @@ module _ (t rs p : List ℕ) (used root : ℕ) (a : RewriteAnswer) (is : rewrite
               λ n. moved (λ o u s. Usable t o p u s) (returned-usable t rs p used root bytes (kept n));
           tests =
               λ n. moved (SameTests t rs p used root) (returned-tests-same t rs p used root bytes (kept n));
+          root-is-new = λ e. new-root a is low e;
         }
 
     -- All that the call ensures.

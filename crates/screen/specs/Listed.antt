@@ -25,6 +25,6 @@ columnsListed r = listed (checkRefusals ++ (256 ∷ [])) r
 abbrev pub rowListed : ℕ → Bool
 rowListed r = listed (checkRefusals ++ (8 ∷ 12 ∷ 13 ∷ 256 ∷ 257 ∷ 258 ∷ [])) r
 
--- "Rewriting: as checking; 8 ..; 9 ..; 10 ..; 11 .. Else unchanged, nothing passes, or rewritten"
+-- "Rewriting: as checking; 8 ..; 9 ..; 11 .. Else unchanged, nothing passes, or rewritten"; 10 is unused (2.11)
 abbrev pub rewriteListed : ℕ → Bool
-rewriteListed r = listed (checkRefusals ++ (8 ∷ 9 ∷ 10 ∷ 11 ∷ 256 ∷ 257 ∷ 258 ∷ [])) r
+rewriteListed r = listed (checkRefusals ++ (8 ∷ 9 ∷ 11 ∷ 256 ∷ 257 ∷ 258 ∷ [])) r

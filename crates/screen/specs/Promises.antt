@@ -34,7 +34,8 @@ pub record BytesKept (rs out : List ℕ) (first end : ℕ) : Type 0 where
 -- exactly when it passes under the screen sent, and of every chain as many rows pass; with 257 no row of any chain
 -- passes; and of a plain screen, 257 is the answer exactly when no row at all passes. The screen returned is itself
 -- accepted by checking, with a tree of at most 4,096 records; so testing a row, whatever its bytes and null marks,
--- refuses it under both screens with the same number or under neither, and it passes under both or under neither.
+-- refuses it under both screens with the same number or under neither, and it passes under both or under neither. The
+-- root of a rewritten screen is one of the records added, so the screen sent still stands under its old root.
 pub record RewritePromise (t rs p : List ℕ) (used root answer : ℕ) (out : List ℕ) (newRoot newUsed : ℕ) : Type 0 where
   pub rows : 256 ≤ answer → (row : Row) → IsRow t row
       → passes out p (returned answer used newUsed) (returned answer root newRoot) row ≡ passes rs p used root row
@@ -47,3 +48,4 @@ pub record RewritePromise (t rs p : List ℕ) (used root answer : ℕ) (out : Li
   pub usable : 256 ≤ answer → Usable t out p (returned answer used newUsed) (returned answer root newRoot)
   pub tests : 256 ≤ answer
       → SameTests t rs p used root out (returned answer used newUsed) (returned answer root newRoot)
+  pub root-is-new : answer ≡ 258 → (root < used) × (used ≤ newRoot) × (newRoot < newUsed)

@@ -4,7 +4,7 @@ use mathlib.Core.Path.{_≡_, refl, sym, _∙_, ap}
 use mathlib.Core.Bool.{Bool, true, false, cond, _&&_, true≢false}
 use mathlib.Core.List.{List, map}
 use Prim.Native.Nat.{ℕ, _+_, _≤_, _<_, min}
-use lib.Dec.{ltb, leb, eqb}
+use lib.Dec.{ltb, leb}
 use lib.ListN.{length, getD}
 use borrow.Author.Tests.{lt-ltb, le-ltb}
 use Rattle.checking.specs.Check.{checkAnswer}
@@ -121,13 +121,11 @@ module _ (len : ℕ) (trees : List ℕ) (used : ℕ) (ns : List ℕ) (m : ℕ) (
       → writtenIf (reckoned len trees used ns m) rs out ≡ rs
   unfolding reckoned
   chain-unwritten h =
-      go (eqb (length ns + m) 0)
+      go
       (roomFor len (reckonedUsed used ns m) && leb (reckonedTree trees ns m) 4096) (reckonedRoot used ns m)
       (reckonedUsed used ns m) h
     where
-      go : (b c : Bool) (r u : ℕ)
-          → isRewritten (cond b (answer.Refused 10) (cond c (answer.Rewritten r u) (answer.Refused 11))) ≡ false
-          → writtenIf (cond b (answer.Refused 10) (cond c (answer.Rewritten r u) (answer.Refused 11))) rs out ≡ rs
-      go true c r u e = refl
-      go false true r u e = absurd (true≢false e)
-      go false false r u e = refl
+      go : (c : Bool) (r u : ℕ) → isRewritten (cond c (answer.Rewritten r u) (answer.Refused 11)) ≡ false
+          → writtenIf (cond c (answer.Rewritten r u) (answer.Refused 11)) rs out ≡ rs
+      go true r u e = absurd (true≢false e)
+      go false r u e = refl

@@ -1,13 +1,13 @@
--- Numbers 10 and 11, reckoned before a byte is written, are those of the records written.
+-- Number 11, reckoned before a byte is written, is that of the records written.
 use Rattle.merge.specs.Demand.{rootAfter, usedAfter}
 use mathlib.Core.Path.{_≡_, refl, sym, _∙_, ap, subst}
 use mathlib.Core.Bool.{Bool, true, false, cond, _&&_, true≢false}
 use mathlib.Core.List.{List, [], _∷_, _++_}
 use Prim.Native.Nat.{ℕ, suc, _+_, _*_, _-_, _/_, _%_, _≤_, _<_, min}
 use native.Mathlib.Omega.{arith}
-use lib.Dec.{leb, eqb}
+use lib.Dec.{leb}
 use lib.ListN.{length, getD}
-use borrow.Author.Tests.{leb-true, leb-false, le-leb, lt-leb, eq-eqb, ne-eqb, eqb-false}
+use borrow.Author.Tests.{leb-true, leb-false, le-leb, lt-leb}
 use lib.IntN.{ℤ}
 use Rattle.records.specs.Record.{node, columnNumber, encode}
 use Rattle.checking.specs.Tree.{sumAt, treeCount}
@@ -30,6 +30,8 @@ use Rattle.merge.specs.Write.{writeComparisons, foldBytes, outcomeBytes}
 use Rattle.merge.specs.Rewrite.{outcomeOf, chainNodes, chainRoot, chainUsed, hasRoom, chainFits, outcomeAnswer}
 use Rattle.merge.proofs.Accepted.{inputs-fall}
 use Rattle.merge.proofs.Chains.{Below, below-more}
+use Rattle.merge.proofs.Compared.{full-right, nodes-full, rebuilt-compares}
+use Rattle.merge.specs.Minterms.{minterms}
 use Rattle.merge.proofs.Demand.{halves}
 use Rattle.merge.proofs.Fitting.{Both, both-opens, outcome-p}
 use Rattle.merge.proofs.Literals.{WrittenP, OutcomeP}
@@ -204,36 +206,30 @@ and-root : (u acc n : ℕ) (l : List ℕ) → andRoot u acc (n ∷ l) ≡ u + le
 and-root u acc n [] = omega arith
 and-root u acc n (m ∷ l) = let e = and-root (suc u) u m l in omega (arith, e)
 
-fold-root : (u n : ℕ) (l : List ℕ) → foldRoot u (n ∷ l) ≡ cond (leb (suc (length l)) 1) n (u + length l - 1)
-fold-root u n [] = refl
-fold-root u n (m ∷ l) =
-    let a : andRoot u n (m ∷ l) ≡ u + length l = and-root u n m l in
-    let b : u + suc (length l) - 1 ≡ u + length l = omega arith in
-    let c : 1 < suc (suc (length l)) = omega arith in
-    a ∙ sym (ap (λ f. cond f n (u + suc (length l) - 1)) (lt-leb (suc (suc (length l))) 1 c) ∙ b)
+-- the last And
+last-and : (u n : ℕ) (l : List ℕ) → isEmpty l ≡ false → foldRoot u (n ∷ l) ≡ u + length l - 1
+last-and u n [] f = absurd (true≢false f)
+last-and u n (m ∷ l) f = let e : andRoot u n (m ∷ l) ≡ u + length l = and-root u n m l in omega (arith, e)
 
-cond-same : (a b n m x y : ℕ) → a ≡ b → n ≡ m → x ≡ y → cond (leb a 1) n x ≡ cond (leb b 1) m y
-cond-same a b n m x y e f g = rw (e, f, g)
-
-chain-root : (used : ℕ) (ns : List ℕ) (cs : List (ℕ × ColumnComparison ℕ)) → isEmpty (chainNodes used ns cs) ≡ false
+chain-root : (used : ℕ) (ns : List ℕ) (cs : List (ℕ × ColumnComparison ℕ)) → isEmpty cs ≡ false
     → chainRoot used ns cs ≡ reckonedRoot used ns (length cs)
-chain-root used [] [] e = absurd (true≢false e)
-chain-root used [] (x ∷ cs) e =
-    let a : length (comparisonNodes (suc (suc (suc used))) cs) ≡ length cs = nodes-length (suc (suc (suc used))) cs in
-    let b : comparisonsEnd (suc (suc (suc used))) cs ≡ suc (suc (suc used)) + 3 * length cs =
-    comparisons-count (suc (suc (suc used))) cs in
-    fold-root (comparisonsEnd (suc (suc (suc used))) cs) (suc (suc used)) (comparisonNodes (suc (suc (suc used))) cs)
-    ∙ cond-same (suc (length (comparisonNodes (suc (suc (suc used))) cs))) (0 + suc (length cs)) (suc (suc used))
-    (used + 2)
-    (comparisonsEnd (suc (suc (suc used))) cs + length (comparisonNodes (suc (suc (suc used))) cs) - 1)
-    (reckonedUsed used [] (suc (length cs)) - 1) (omega (arith, a)) (omega arith) (omega (arith, a, b))
-chain-root used (n ∷ ns) cs e =
-    let a : length (ns ++ comparisonNodes used cs) ≡ length ns + length cs = chain-length used ns cs in
-    let b : comparisonsEnd used cs ≡ used + 3 * length cs = comparisons-count used cs in
-    fold-root (comparisonsEnd used cs) n (ns ++ comparisonNodes used cs)
-    ∙ cond-same (suc (length (ns ++ comparisonNodes used cs))) (suc (length ns) + length cs) n n
-    (comparisonsEnd used cs + length (ns ++ comparisonNodes used cs) - 1)
-    (reckonedUsed used (n ∷ ns) (length cs) - 1) (omega (arith, a)) refl (omega (arith, a, b))
+chain-root used ns [] e = absurd (true≢false e)
+chain-root used [] (x ∷ []) e = let q : suc (suc used) ≡ used + (3 * 1 + (0 + 1 - 1)) - 1 = omega arith in q
+chain-root used [] (x ∷ y ∷ cs) e =
+    let a : length (comparisonNodes (suc (suc (suc used))) (y ∷ cs)) ≡ length (y ∷ cs) =
+    nodes-length (suc (suc (suc used))) (y ∷ cs) in
+    let b : comparisonsEnd used (x ∷ y ∷ cs) ≡ used + 3 * length (x ∷ y ∷ cs) =
+    comparisons-count used (x ∷ y ∷ cs) in
+    let c = last-and (comparisonsEnd used (x ∷ y ∷ cs)) (suc (suc used))
+    (comparisonNodes (suc (suc (suc used))) (y ∷ cs)) refl in
+    omega (arith, a, b, c)
+chain-root used (n ∷ ns) (x ∷ cs) e =
+    let a : length (ns ++ comparisonNodes used (x ∷ cs)) ≡ length ns + length (x ∷ cs) =
+    chain-length used ns (x ∷ cs) in
+    let b : comparisonsEnd used (x ∷ cs) ≡ used + 3 * length (x ∷ cs) = comparisons-count used (x ∷ cs) in
+    let c = last-and (comparisonsEnd used (x ∷ cs)) n (ns ++ comparisonNodes used (x ∷ cs))
+    (full-right ns (comparisonNodes used (x ∷ cs)) refl) in
+    omega (arith, a, b, c)
 
 chain-used : (used : ℕ) (ns : List ℕ) (cs : List (ℕ × ColumnComparison ℕ)) → isEmpty (chainNodes used ns cs) ≡ false
     → chainUsed used ns cs ≡ reckonedUsed used ns (length cs)
@@ -248,10 +244,6 @@ room-of rs u h =
     let a : u ≤ 4096 = leb-true u 4096 (and-left (leb u 4096) (leb u (length rs / 16)) h) in
     let b : u ≤ length rs / 16 = leb-true u (length rs / 16) (and-right (leb u 4096) (leb u (length rs / 16)) h) in
     (a, omega arith)
-
-empty-none : (l : List ℕ) → isEmpty l ≡ true → length l ≡ 0
-empty-none [] e = refl
-empty-none (x ∷ l) e = absurd (true≢false (sym e))
 
 answer-same : (b d : Bool) (r s u w : ℕ) → b ≡ d → r ≡ s → u ≡ w
     → cond b (answer.Rewritten r u) (answer.Refused 11) ≡ cond d (answer.Rewritten s w) (answer.Refused 11)
@@ -301,42 +293,17 @@ module _ (t rs trees : List ℕ) (used bound : ℕ) (low : bound ≤ used)
           ap (λ x. x && leb (reckonedTree trees ns (length cs)) 4096) (same ∙ r)
           ∙ sym (ap (λ x. x && leb (treeCount (outcomeBytes t rs used (Rebuilt ns cs)) (chainRoot used ns cs)) 4096) r)
 
-  -- Reckoning gives the answer for a rebuilt chain.
-  pub reckoned-rebuilt : reckoned (length rs) trees used ns (length cs) ≡ outcomeAnswer t rs used (Rebuilt ns cs)
+  -- Reckoning gives the answer for a rebuilt chain, which has a comparison.
+  pub reckoned-rebuilt : isEmpty cs ≡ false
+      → reckoned (length rs) trees used ns (length cs) ≡ outcomeAnswer t rs used (Rebuilt ns cs)
   unfolding reckoned
-  reckoned-rebuilt = by-test (isEmpty (chainNodes used ns cs)) none some
-    where
-      none : isEmpty (chainNodes used ns cs) ≡ true
-          → reckoned (length rs) trees used ns (length cs) ≡ outcomeAnswer t rs used (Rebuilt ns cs)
-      none e =
-          let n : length (chainNodes used ns cs) ≡ length ns + length cs = chain-length used ns cs in
-          let z : length (chainNodes used ns cs) ≡ 0 = empty-none (chainNodes used ns cs) e in
-          ap (λ x. cond x (answer.Refused 10)
-          (cond (roomFor (length rs) (reckonedUsed used ns (length cs)) && leb (reckonedTree trees ns (length cs)) 4096)
-          (answer.Rewritten (reckonedRoot used ns (length cs)) (reckonedUsed used ns (length cs)))
-          (answer.Refused 11))) (eq-eqb (length ns + length cs) 0 (omega (arith, n, z)))
-          ∙ sym (ap (λ x. cond x (answer.Refused 10)
-          (cond (chainFits t rs used ns cs) (answer.Rewritten (chainRoot used ns cs) (chainUsed used ns cs))
-          (answer.Refused 11))) e)
-
-      some : isEmpty (chainNodes used ns cs) ≡ false
-          → reckoned (length rs) trees used ns (length cs) ≡ outcomeAnswer t rs used (Rebuilt ns cs)
-      some e =
-          let n : length (chainNodes used ns cs) ≡ length ns + length cs = chain-length used ns cs in
-          let z : 0 < length (chainNodes used ns cs) = empty-not (chainNodes used ns cs) e in
-          let d : (length ns + length cs ≡ 0 → ⊥) = λ q. absurd (omega (arith, n, z, q)) in
-          ap (λ x. cond x (answer.Refused 10)
-          (cond (roomFor (length rs) (reckonedUsed used ns (length cs)) && leb (reckonedTree trees ns (length cs)) 4096)
-          (answer.Rewritten (reckonedRoot used ns (length cs)) (reckonedUsed used ns (length cs)))
-          (answer.Refused 11))) (ne-eqb (length ns + length cs) 0 d)
-          ∙ answer-same
-          (roomFor (length rs) (reckonedUsed used ns (length cs)) && leb (reckonedTree trees ns (length cs)) 4096)
-          (chainFits t rs used ns cs) (reckonedRoot used ns (length cs)) (chainRoot used ns cs)
-          (reckonedUsed used ns (length cs)) (chainUsed used ns cs) (fits-same e) (sym (chain-root used ns cs e))
-          (sym (chain-used used ns cs e))
-          ∙ sym (ap (λ x. cond x (answer.Refused 10)
-          (cond (chainFits t rs used ns cs) (answer.Rewritten (chainRoot used ns cs) (chainUsed used ns cs))
-          (answer.Refused 11))) e)
+  reckoned-rebuilt f =
+      let e = full-right ns (comparisonNodes used cs) (nodes-full used cs f) in
+      answer-same
+      (roomFor (length rs) (reckonedUsed used ns (length cs)) && leb (reckonedTree trees ns (length cs)) 4096)
+      (chainFits t rs used ns cs) (reckonedRoot used ns (length cs)) (chainRoot used ns cs)
+      (reckonedUsed used ns (length cs)) (chainUsed used ns cs) (fits-same e) (sym (chain-root used ns cs f))
+      (sym (chain-used used ns cs e))
 
 -- ---- The screen's own outcome.
 abbrev payload : Scalars ℤ ℕ
@@ -386,17 +353,17 @@ module _ (t rs p : List ℕ) (used root : ℕ) (ok : Checked t rs p used root) w
         let h : root < used = ok .root-used in
         reckoned-rebuilt t rs trees used (suc root) (omega arith) (λ a k. counted a (omega arith)) ns cs
         (kept-below ns cs e) (compared-in-table ns cs e)
+        (rebuilt-compares values.payload (aexprAt rs p used) (minterms (aexprAt rs p used) root) ns cs e)
 
     -- Reckoning gives the answer for the screen's own outcome.
     pub reckoned-answer : reckonedAnswer (length rs) trees used (outcomeOf rs p used root)
         ≡ outcomeAnswer t rs used (outcomeOf rs p used root)
     reckoned-answer = reckoned-of (outcomeOf rs p used root) refl
 
--- ---- What a writer needs: a chain that is rewritten has a conjunct, and its records fit.
+-- ---- What a writer needs: the records of a chain that is rewritten fit.
 pub record ChainRoom (len : ℕ) (trees : List ℕ) (used : ℕ) (ns : List ℕ) (m : ℕ) : Type 0 where
   pub few : used + 3 * m + (length ns + m - 1) ≤ 4096
   pub lent : 16 * (used + 3 * m + (length ns + m - 1)) ≤ len
-  pub some : 0 < length ns + m
   pub is : reckoned len trees used ns m ≡ answer.Rewritten (reckonedRoot used ns m) (reckonedUsed used ns m)
 
 -- A chain is rewritten only if it has room.
@@ -404,23 +371,19 @@ pub rewritten-room : (len : ℕ) (trees : List ℕ) (used : ℕ) (ns : List ℕ)
     → isRewritten (reckoned len trees used ns m) ≡ true → ChainRoom len trees used ns m
 unfolding reckoned
 rewritten-room len trees used ns m h =
-    let a = one (eqb (length ns + m) 0) _ _ _ h in
-    let d : (length ns + m ≡ 0 → ⊥) = eqb-false (length ns + m) 0 (a .0) in
+    let a = one _ _ _ h in
     let r : roomFor len (reckonedUsed used ns m) ≡ true =
-    and-left (roomFor len (reckonedUsed used ns m)) (leb (reckonedTree trees ns m) 4096) (a .1) in
+    and-left (roomFor len (reckonedUsed used ns m)) (leb (reckonedTree trees ns m) 4096) (a .0) in
     let k : reckonedUsed used ns m ≤ 4096 = leb-true (reckonedUsed used ns m) 4096
     (and-left (leb (reckonedUsed used ns m) 4096) (leb (reckonedUsed used ns m) (len / 16)) r) in
     let l : reckonedUsed used ns m ≤ len / 16 = leb-true (reckonedUsed used ns m) (len / 16)
     (and-right (leb (reckonedUsed used ns m) 4096) (leb (reckonedUsed used ns m) (len / 16)) r) in
-    record { few = omega (arith, k); lent = omega (arith, l); some = omega (arith, d); is = a .2 }
+    record { few = omega (arith, k); lent = omega (arith, l); is = a .1 }
   where
-    one : (b c : Bool) (r u : ℕ)
-        → isRewritten (cond b (answer.Refused 10) (cond c (answer.Rewritten r u) (answer.Refused 11))) ≡ true
-        → (b ≡ false) × (c ≡ true)
-        × (cond b (answer.Refused 10) (cond c (answer.Rewritten r u) (answer.Refused 11)) ≡ answer.Rewritten r u)
-    one true c r u e = absurd (true≢false (sym e))
-    one false true r u e = (refl, refl, refl)
-    one false false r u e = absurd (true≢false (sym e))
+    one : (c : Bool) (r u : ℕ) → isRewritten (cond c (answer.Rewritten r u) (answer.Refused 11)) ≡ true
+        → (c ≡ true) × (cond c (answer.Rewritten r u) (answer.Refused 11) ≡ answer.Rewritten r u)
+    one true r u e = (refl, refl)
+    one false r u e = absurd (true≢false (sym e))
 
 -- The same from the answer itself, whose root and used count are then those reckoned.
 pub rewritten-is : (len : ℕ) (trees : List ℕ) (used : ℕ) (ns : List ℕ) (m r u : ℕ)

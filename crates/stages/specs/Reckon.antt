@@ -1,9 +1,9 @@
--- Numbers 10 and 11 of a rebuilt chain, reckoned before a byte is written: from the kept nodes ns, their tree counts,
+-- Number 11 of a rebuilt chain, reckoned before a byte is written: from the kept nodes ns, their tree counts,
 -- and how many comparisons m follow them. `len` is the length of the records' bytes, `trees` a table of tree counts.
 use mathlib.Core.Bool.{Bool, cond, _&&_}
-use mathlib.Core.List.{List, [], _∷_}
+use mathlib.Core.List.{List}
 use Prim.Native.Nat.{ℕ, suc, _+_, _*_, _-_, _/_}
-use lib.Dec.{leb, eqb}
+use lib.Dec.{leb}
 use lib.ListN.{length, getD}
 use Rattle.checking.specs.Tree.{sumAt}
 use Rattle.constraints.specs.Comparisons.{ColumnComparison}
@@ -19,14 +19,9 @@ added ns m = 3 * m + (length ns + m - 1)
 abbrev pub reckonedUsed : ℕ → List ℕ → ℕ → ℕ
 reckonedUsed used ns m = used + added ns m
 
--- The chain's first conjunct: the first kept node, or the first comparison's binary record.
-abbrev pub firstConjunct : ℕ → List ℕ → ℕ
-firstConjunct used [] = used + 2
-firstConjunct used (n ∷ ns) = n
-
--- The chain's root: its one conjunct, or the last And.
+-- The chain's root: the last record added, an And or its one comparison.
 abbrev pub reckonedRoot : ℕ → List ℕ → ℕ → ℕ
-reckonedRoot used ns m = cond (leb (length ns + m) 1) (firstConjunct used ns) (reckonedUsed used ns m - 1)
+reckonedRoot used ns m = reckonedUsed used ns m - 1
 
 -- The tree of that root: the kept nodes' trees and the records added.
 abbrev pub reckonedTree : List ℕ → List ℕ → ℕ → ℕ
@@ -37,10 +32,9 @@ roomFor len used = leb used 4096 && leb used (len / 16)
 
 unfoldable pub reckoned : ℕ → List ℕ → ℕ → List ℕ → ℕ → RewriteAnswer
 reckoned len trees used ns m =
-    cond (eqb (length ns + m) 0) (answer.Refused 10)
-    (cond (roomFor len (reckonedUsed used ns m) && leb (reckonedTree trees ns m) 4096)
+    cond (roomFor len (reckonedUsed used ns m) && leb (reckonedTree trees ns m) 4096)
     (answer.Rewritten (reckonedRoot used ns m) (reckonedUsed used ns m))
-    (answer.Refused 11))
+    (answer.Refused 11)
 
 -- The answer for an outcome of the merging, so reckoned.
 abbrev pub reckonedAnswer : ℕ → List ℕ → ℕ → Outcome ℕ → RewriteAnswer

@@ -2,7 +2,7 @@
 // add: what a conjunct says, taken into its column;
 // emit: the comparisons of a resolved column, written out;
 // fields: small steps;
-// reckon: numbers 10 and 11 and the answer, before a byte is written;
+// reckon: number 11 and the answer, before a byte is written;
 // rows: the calls of the merging that a column's numbers are lent to.
 pub mod add;
 pub mod emit;

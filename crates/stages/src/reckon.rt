@@ -1,4 +1,4 @@
-// Numbers 10 and 11, reckoned before a byte is written.
+// Number 11, reckoned before a byte is written.
 ghost use mathlib.Core.Path.{_≡_};
 ghost use mathlib.Core.List.{List};
 ghost use Prim.Native.Nat.{ℕ, _≤_, _<_, _*_};
@@ -8,7 +8,7 @@ ghost use Rattle.merge.specs.Emit.{NothingPasses};
 ghost use Rattle.merge.specs.Write.{outcomeBytes};
 ghost use Rattle.merge.specs.Rewrite.{writtenIf};
 ghost use Rattle.rewrite.specs.Walk.{firstOf};
-ghost use Rattle.stages.specs.Reckon.{firstConjunct, roomFor, reckoned, reckonedAnswer};
+ghost use Rattle.stages.specs.Reckon.{roomFor, reckoned, reckonedAnswer};
 use merge::answer::RewriteAnswer;
 use records::record::Node;
 use rewrite::write::write_false;
@@ -47,23 +47,13 @@ fn kept_trees(trees: &[u16], nodes: &[u32], kept: usize) -> usize
     sum
 }
 
-fn first_conjunct(nodes: &[u32], kept: usize, used: u32) -> u32
-    requires { ⌜ (kept ≤ length (now nodes)) × (used ≤ 4096) ⌝ }
-    ensures { λ r. ⌜ r ≡ firstConjunct used (firstOf (now (nodes .entry)) kept) ⌝ }
-{
-    if kept == 0 {
-        return used + 2;
-    }
-    nodes[0]
-}
-
 fn room_for(len: usize, used: usize) -> bool
     ensures { λ r. ⌜ r ≡ roomFor len used ⌝ }
 {
     (used <= 4096) & (used <= len / 16)
 }
 
-/// The answer for a chain of the first `kept` nodes and `total` comparisons.
+/// The answer for a chain of the first `kept` nodes and `total` comparisons; a rebuilt chain has one.
 pub fn rebuilt_answer(
     len: usize,
     trees: &[u16],
@@ -72,12 +62,10 @@ pub fn rebuilt_answer(
     used: u32,
     total: usize,
 ) -> RewriteAnswer
-    requires { ⌜ (kept ≤ length (now nodes)) × (kept ≤ 256) × (used ≤ 4096) × (total ≤ 100000) ⌝ }
+    requires { ⌜ (kept ≤ length (now nodes)) × (kept ≤ 256) × (used ≤ 4096) × (total ≤ 100000)
+        × (0 < total) ⌝ }
     ensures { λ r. ⌜ r ≡ reckoned len (now (trees .entry)) used (firstOf (now (nodes .entry)) kept) total ⌝ }
 {
-    if kept + total == 0 {
-        return RewriteAnswer::Refused(10);
-    }
     let added = 3 * total + (kept + total - 1);
     let end = used as usize + added;
     if !room_for(len, end) {
@@ -85,9 +73,6 @@ pub fn rebuilt_answer(
     }
     if 4096 < kept_trees(trees, nodes, kept) + added {
         return RewriteAnswer::Refused(11);
-    }
-    if kept + total <= 1 {
-        return RewriteAnswer::Rewritten(first_conjunct(nodes, kept, used) as u64, end as u64);
     }
     RewriteAnswer::Rewritten((end - 1) as u64, end as u64)
 }
