@@ -42,6 +42,25 @@
  *
  * An answer below 256 is a refusal: the number says why (enum screen_refusal, screen_refusal_text), and nothing was
  * written. 256 and above is an answer of the call, named where the call is declared.
+ *
+ * WHAT IS PROVED, AND WHAT IS NOT
+ *
+ * Proved is the code of each call, from the bytes lent to the answer and the bytes written. Not covered: the compiler's
+ * back end that turned it into machine code, the stack that a call needs (said where the call is declared), and the C
+ * program around it.
+ *
+ * WHAT A CALL COSTS
+ *
+ * Each call checks every used record first, whether the root reaches it or not, so its time grows with `used`: a screen
+ * that is kept for many calls should hold no record that its root does not reach. Checking a short screen takes some 50
+ * ns, a full one some 15 us; the slowest to check, 4,095 lists of Day values that all span a full pool, some 12 ms. The
+ * slowest screen known to rewrite, 65 lists of 100 values carried from column to column by 63 equalities, about a
+ * second.
+ *
+ * PLATFORM
+ *
+ * x86-64 Linux, two's complement. The archive needs nothing but memcpy and memset, has some 32 KB of code, keeps no
+ * state and opens no file. MIT licence: LICENSE, and NOTICE for the Rust sources that it follows.
  */
 #ifndef SCREEN_H
 #define SCREEN_H

@@ -8,7 +8,7 @@ use Rattle.records.specs.Bytes.{word, valueAt, all, first}
 use Rattle.records.specs.Course.{upTo, course}
 use Rattle.records.specs.Operator.{operatorAt}
 use Rattle.records.specs.Record.{fieldsAt, closedAt, decode, recordAt}
-use Rattle.records.specs.Shape.{knownType, inType, maxCode, isTyped, usesA, usesB, usesC, knownOk, zeroOr, unusedOk, literalOk, shapeOk}
+use Rattle.records.specs.Shape.{knownType, inType, maxCode, uses, knownOk, zeroOr, unusedOk, literalOk, shapeOk}
 use Rattle.checking.specs.Fit.{allFit, listOk, reachOk, isBinary, servedOk, typeOf, typeAt, sameType, binaryFits, betweenFits, memberFits, typesOk}
 use Rattle.checking.specs.Check.{typesKnown, tableOk, sizesOk, meaningFault, recordFault, firstFault, recordsAnswer, checkAnswer}
 use Rattle.checking.specs.Tree.{treeCount}
@@ -99,5 +99,5 @@ holds (c ∷ cs) =
     && (eqb (columnsWord (c .records) (c .root)) (c .columns) && holds cs))
 
 all-hold : holds cases ≡ true
-unfolding holds cases row rec line two one int number word valueAt all first upTo course operatorAt fieldsAt closedAt decode recordAt knownType inType maxCode isTyped usesA usesB usesC knownOk zeroOr unusedOk literalOk shapeOk allFit listOk reachOk isBinary servedOk typeOf typeAt sameType binaryFits betweenFits memberFits typesOk typesKnown tableOk sizesOk meaningFault recordFault firstFault recordsAnswer checkAnswer
+unfolding holds cases row rec line two one int number word valueAt all first upTo course operatorAt fieldsAt closedAt decode recordAt knownType inType maxCode uses knownOk zeroOr unusedOk literalOk shapeOk allFit listOk reachOk isBinary servedOk typeOf typeAt sameType binaryFits betweenFits memberFits typesOk typesKnown tableOk sizesOk meaningFault recordFault firstFault recordsAnswer checkAnswer
 all-hold = refl

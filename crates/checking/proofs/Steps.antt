@@ -1,7 +1,7 @@
 -- The step of a record, kind by kind, has the fault, the entry and the tree count of the record.
 use Prim.Native.Nat.{ℕ, zero, suc, _+_, _*_, _%_, _≤_, _<_, min}
 use mathlib.Core.List.{List}
-use mathlib.Core.Bool.{Bool, true, false, not, _&&_, and-false}
+use mathlib.Core.Bool.{Bool, true, false, not, _&&_, and-true, and-false}
 use mathlib.Core.Path.{_≡_, refl, sym, _∙_, ap, subst}
 use native.Mathlib.Omega.{arith}
 use lib.ListN.{length, getD, set}
@@ -10,7 +10,7 @@ use lib.Dec.{ltb, leb, eqb}
 use borrow.Author.Tests.{ltb-true, leb-true, eqb-true, eqb-false, eq-eqb, ne-eqb, le-leb, lt-leb}
 use Rattle.records.specs.Operator.{operatorAt, codeOf}
 use Rattle.records.specs.Record.{node, columnNumber, closedAt, fieldsAt, decode, recordAt}
-use Rattle.records.specs.Shape.{knownType, maxCode, isTyped, usesA, usesB, usesC, knownOk, zeroOr, unusedOk, literalOk, shapeOk}
+use Rattle.records.specs.Shape.{knownType, inType, maxCode, uses, knownOk, zeroOr, unusedOk, literalOk, shapeOk}
 use Rattle.records.specs.declared.record.Fields.{Fields}
 use Rattle.records.specs.declared.record.Record.{Record}
 use Rattle.records.specs.declared.record.Record.the-variants as kind
@@ -78,10 +78,6 @@ leb-zero : (x : ℕ) → leb x 0 ≡ eqb x 0
 leb-zero x = by-test (eqb x 0) (λ p. let e : x ≡ 0 = eqb-true x 0 p in le-leb x 0 (omega arith) ∙ sym p)
     (λ p. let d : (x ≡ 0 → ⊥) = eqb-false x 0 p in lt-leb x 0 (omega (arith, d)) ∙ sym p)
 
-and-true : (b : Bool) → (b && true) ≡ b
-and-true true = refl
-and-true false = refl
-
 -- the record that a kind's fields mean, and what is left of number 4 for it
 module _ (f : Fields) where
   decode-column : f .kind ≡ 1 → decode f ≡ kind.Column (columnNumber (f .a))
@@ -125,43 +121,46 @@ module _ (f : Fields) where
   decode-member k = rw k
 
   shape-column : f .zero ≡ 0 → f .kind ≡ 1 → shapeOk f ≡ onlyA f
-  unfolding shapeOk knownOk unusedOk literalOk maxCode isTyped usesA usesB usesC zeroOr
+  unfolding shapeOk knownOk unusedOk literalOk maxCode uses zeroOr
   shape-column z k = rw (k, z, leb-zero, and-true)
 
   shape-literal : f .zero ≡ 0 → f .kind ≡ 2 → shapeOk f ≡ literalShape f
-  unfolding shapeOk knownOk unusedOk literalOk maxCode isTyped usesA usesB usesC zeroOr
-  shape-literal z k = rw (k, z, leb-zero, and-true)
+  unfolding shapeOk knownOk unusedOk literalOk maxCode uses zeroOr
+  shape-literal z k =
+      rw (k, z, leb-zero)
+      (ap (λ x. (eqb (f .code) 0 && knownType (f .ty)) && (x && inType (f .ty) (f .b + 4294967296 * f .c)))
+      (and-true (eqb (f .a) 0)))
 
   shape-null : f .zero ≡ 0 → f .kind ≡ 3 → shapeOk f ≡ nullShape f
-  unfolding shapeOk knownOk unusedOk literalOk maxCode isTyped usesA usesB usesC zeroOr
+  unfolding shapeOk knownOk unusedOk literalOk maxCode uses zeroOr
   shape-null z k = rw (k, z, leb-zero, and-true)
 
   shape-binary : f .zero ≡ 0 → f .kind ≡ 4 → shapeOk f ≡ binaryShape f
-  unfolding shapeOk knownOk unusedOk literalOk maxCode isTyped usesA usesB usesC zeroOr
+  unfolding shapeOk knownOk unusedOk literalOk maxCode uses zeroOr
   shape-binary z k = rw (k, z, and-true)
 
   shape-not : f .zero ≡ 0 → f .kind ≡ 5 → shapeOk f ≡ onlyA f
-  unfolding shapeOk knownOk unusedOk literalOk maxCode isTyped usesA usesB usesC zeroOr
+  unfolding shapeOk knownOk unusedOk literalOk maxCode uses zeroOr
   shape-not z k = rw (k, z, leb-zero, and-true)
 
   shape-is-null : f .zero ≡ 0 → f .kind ≡ 6 → shapeOk f ≡ onlyA f
-  unfolding shapeOk knownOk unusedOk literalOk maxCode isTyped usesA usesB usesC zeroOr
+  unfolding shapeOk knownOk unusedOk literalOk maxCode uses zeroOr
   shape-is-null z k = rw (k, z, leb-zero, and-true)
 
   shape-is-not-null : f .zero ≡ 0 → f .kind ≡ 7 → shapeOk f ≡ onlyA f
-  unfolding shapeOk knownOk unusedOk literalOk maxCode isTyped usesA usesB usesC zeroOr
+  unfolding shapeOk knownOk unusedOk literalOk maxCode uses zeroOr
   shape-is-not-null z k = rw (k, z, leb-zero, and-true)
 
   shape-between : f .zero ≡ 0 → f .kind ≡ 8 → shapeOk f ≡ betweenShape f
-  unfolding shapeOk knownOk unusedOk literalOk maxCode isTyped usesA usesB usesC zeroOr
+  unfolding shapeOk knownOk unusedOk literalOk maxCode uses zeroOr
   shape-between z k = rw (k, z, and-true)
 
   shape-list : f .zero ≡ 0 → f .kind ≡ 9 → shapeOk f ≡ listShape f
-  unfolding shapeOk knownOk unusedOk literalOk maxCode isTyped usesA usesB usesC zeroOr
+  unfolding shapeOk knownOk unusedOk literalOk maxCode uses zeroOr
   shape-list z k = rw (k, z, and-true)
 
   shape-member : f .zero ≡ 0 → f .kind ≡ 10 → shapeOk f ≡ memberShape f
-  unfolding shapeOk knownOk unusedOk literalOk maxCode isTyped usesA usesB usesC zeroOr
+  unfolding shapeOk knownOk unusedOk literalOk maxCode uses zeroOr
   shape-member z k = rw (k, z, and-true)
 
 module _ (t rs p types trees : List ℕ) (n : ℕ) (known : typesKnown t ≡ true) (entered : Entered t rs types n)

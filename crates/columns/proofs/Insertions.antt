@@ -39,7 +39,7 @@ sub′ l m = subset payload l m
 
 pub all-sub : (l m : List ℕ) → ((x : ℤ) → mem′ x l ≡ true → mem′ x m ≡ true) → sub′ l m ≡ true
 all-sub [] m h = refl
-all-sub (v ∷ l) m h = rw (h (payload .key v) (rw (cmp-refl (payload .order) (payload .key v))))
+all-sub (v ∷ l) m h = rw (h (payload .key v) (rw (cmp-refl (payload .total) (payload .key v))))
     (all-sub l m (λ x e. h x (rw e (or-true (isEqual (payload .order .cmp x (payload .key v)))))))
 
 sub-self : (l : List ℕ) → sub′ l l ≡ true
@@ -124,7 +124,7 @@ pub marked-has : (ks vs a : List ℕ) (n j : ℕ) → marked a n j ≡ true → 
     has (getD vs j 0) (excludedBy ks vs a n) ≡ true
 marked-has ks vs a zero j e k = absurd (true≢false (sym e ∙ marked-none a j))
 marked-has ks vs a (suc n) j e k = excl-step ks vs a (getD vs j 0) n ∙ marked-case a n j _ e
-    (λ p. rw (p, k, cmp-refl (payload .order) (payload .key (getD vs j 0)))
+    (λ p. rw (p, k, cmp-refl (payload .total) (payload .key (getD vs j 0)))
     (or-true (has (getD vs j 0) (excludedBy ks vs a n))))
     (λ h. rw (marked-has ks vs a n j h k))
 

@@ -1,6 +1,6 @@
 -- Walks over the values of a list in the pool. Assumes nothing.
 use mathlib.Core.Path.{_≡_, refl, sym, _∙_, ap}
-use mathlib.Core.Bool.{Bool, true, false, not, cond, _&&_, _||_, true≢false, or-true, or-false, and-eq-true-iff}
+use mathlib.Core.Bool.{Bool, true, false, not, cond, _&&_, _||_, true≢false, or-true, or-false}
 use mathlib.Core.Bool.{or-assoc}
 use mathlib.Core.List.{List, [], _∷_, _++_}
 use mathlib.Core.Option.{Option, none, some}
@@ -10,6 +10,7 @@ use native.Mathlib.Omega.{arith}
 use native.Mathlib.Numerals.{add-one}
 use lib.ListN.{getD}
 use borrow.Author.Tests.{ne-eqb}
+use Rattle.records.proofs.Laws.{and-left, and-right}
 use Rattle.records.specs.Bytes.{valueAt}
 use Rattle.truth.specs.FromBytes.{valuesFrom}
 use Rattle.truth.specs.Order.{isEqual}
@@ -105,19 +106,13 @@ key-out P (v ∷ l) C h f = go (P (payload .key v)) refl h
     (λ i. key-out P l C i (λ k i e. f k (rw i (or-true (isEqual (payload .order .cmp k (payload .key v))))) e))
   where
     go : (b : Bool) → P (payload .key v) ≡ b → (b || anyKey P l) ≡ true → (anyKey P l ≡ true → C) → C
-    go true e h g = f (payload .key v) (rw (cmp-refl (payload .order) (payload .key v))) e
+    go true e h g = f (payload .key v) (rw (cmp-refl (payload .total) (payload .key v))) e
     go false e h g = g h
 
 bool-iff : (a b : Bool) → (a ≡ true → b ≡ true) → (b ≡ true → a ≡ true) → a ≡ b
 bool-iff true b f g = sym (f refl)
 bool-iff false true f g = g refl
 bool-iff false false f g = refl
-
-and-l : (a b : Bool) → (a && b) ≡ true → a ≡ true
-and-l a b e = and-eq-true-iff a b .0 e .0
-
-and-r : (a b : Bool) → (a && b) ≡ true → b ≡ true
-and-r a b e = and-eq-true-iff a b .0 e .1
 
 not-yes : (b : Bool) → not b ≡ true → b ≡ false
 not-yes true e = absurd (true≢false (sym e))
@@ -128,8 +123,8 @@ pub outside-all : (m x l : List ℕ) → subset payload x x ≡ true → subset 
     anyOf (λ v. outside (some m) l v) x ≡ not (subset payload m l)
 outside-all m x l r s = bool-iff (anyOf (λ v. outside (some m) l v) x) (not (subset payload m l))
     (λ h. key-out (λ k. contains payload k m && not (contains payload k l)) x _ h λ k i e. go k
-    (and-l (contains payload k m) (not (contains payload k l)) e)
-    (not-yes (contains payload k l) (and-r (contains payload k m) (not (contains payload k l)) e))
+    (and-left (contains payload k m) (not (contains payload k l)) e)
+    (not-yes (contains payload k l) (and-right (contains payload k m) (not (contains payload k l)) e))
     (subset payload m l) refl)
     (λ h. key-out (λ k. not (contains payload k l)) m _ (sym (widens-any m l) ∙ h) λ k i e. key-in
     (λ k. contains payload k m && not (contains payload k l)) x k (subset-contains payload k m x s i) (rw (i, e)))
@@ -144,9 +139,9 @@ pub feasible-all : (cc : q.ColumnConstraints ℕ) (m x : List ℕ) → cc .allow
 feasible-all cc m x e s = feasible-any cc x ∙ bool-iff (anyKey (λ k. z.isFeasible payload cc k) x)
     (anyKey (λ k. z.isFeasible payload cc k) m)
     (λ h. key-out (λ k. z.isFeasible payload cc k) x _ h λ k i f. key-in (λ k. z.isFeasible payload cc k) m k
-    (ap (λ o. z.isAllowed payload o k) (sym e) ∙ and-l (z.isAllowed payload (cc .allowed) k)
+    (ap (λ o. z.isAllowed payload o k) (sym e) ∙ and-left (z.isAllowed payload (cc .allowed) k)
     (not (contains payload k (cc .disallowed)))
-    (and-r (b.clears payload (cc .lower) k &&
+    (and-right (b.clears payload (cc .lower) k &&
     (b.clears (opposite payload) (cc .upper) k && not (contains payload k (cc .excluded))))
     (z.isAllowed payload (cc .allowed) k && not (contains payload k (cc .disallowed))) f)) f)
     (λ h. key-out (λ k. z.isFeasible payload cc k) m _ h λ k i f. key-in (λ k. z.isFeasible payload cc k) x k

@@ -13,13 +13,13 @@ module _ {K Val : Type 0} (S : Scalars K Val) where
   -- a key above the higher bound is above the lower one
   clears-chain : (a b k : K) (c d : Bool) → S .order .less a b →
       (above d (S .order .cmp a k) && above c (S .order .cmp b k)) ≡ above c (S .order .cmp b k)
-  clears-chain a b k c d h = go (S .order .view b k)
+  clears-chain a b k c d h = go (S .total .view b k)
     where
       low : S .order .less a k → (o : Ordering) → (above d (S .order .cmp a k) && above c o) ≡ above c o
-      low p o = simp (cmp-lt (S .order) p)
+      low p o = simp (cmp-lt (S .total) p)
 
       go : {o : Ordering} → View (S .order .less) b k o → (above d (S .order .cmp a k) && above c o) ≡ above c o
-      go (is-less p) = low (S .order .trans h p) Less
+      go (is-less p) = low (S .total .trans h p) Less
       go (is-equal e) = low (subst (S .order .less a) e h) Equal
       go (is-greater p) = simp and-false
 
@@ -37,7 +37,7 @@ module _ {K Val : Type 0} (S : Scalars K Val) where
   pub tighten-is-intersection : (b : Bound Val) (c : Bool) (v : Val) (k : K) → clears S (tighten S b c v) k ≡
       (clears S b k && clears S (at c v) k)
   tighten-is-intersection absent c v k = refl
-  tighten-is-intersection (at d w) c v k = go (S .order .view (S .key v) (S .key w))
+  tighten-is-intersection (at d w) c v k = go (S .total .view (S .key v) (S .key w))
     where
       go : {o : Ordering} → View (S .order .less) (S .key v) (S .key w) o → clears S (tightenBy o d w c v) k ≡
           (clears S (at d w) k && clears S (at c v) k)
@@ -74,7 +74,7 @@ module _ {K Val : Type 0} (S : Scalars K Val) where
   same-of-still absent absent p q = tt
   same-of-still absent (at d w) p q = absurd (true≢false p)
   same-of-still (at c v) absent p q = absurd (true≢false q)
-  same-of-still (at c v) (at d w) p q = go (S .order .view (S .key v) (S .key w)) p q
+  same-of-still (at c v) (at d w) p q = go (S .total .view (S .key v) (S .key w)) p q
     where
       both : (c d : Bool) → tightensBy Equal c d ≡ false → tightensBy Equal d c ≡ false → c ≡ d
       both true true p q = refl
@@ -85,8 +85,8 @@ module _ {K Val : Type 0} (S : Scalars K Val) where
       go : {o : Ordering} → View (S .order .less) (S .key v) (S .key w) o →
           tightensBy (S .order .cmp (S .key w) (S .key v)) c d ≡ false → tightensBy o d c ≡ false →
           (S .key v ≡ S .key w) × (c ≡ d)
-      go (is-less h) p q = absurd (true≢false (rw (cmp-gt (S .order) h) at p))
-      go (is-equal e) p q = (e, both c d (rw (cmp-eq (S .order) (sym e)) at p) q)
+      go (is-less h) p q = absurd (true≢false (rw (cmp-gt (S .total) h) at p))
+      go (is-equal e) p q = (e, both c d (rw (cmp-eq (S .total) (sym e)) at p) q)
       go (is-greater h) p q = absurd (true≢false q)
 
 module _ {K Val : Type 0} (S : Scalars K Val) where
@@ -94,8 +94,8 @@ module _ {K Val : Type 0} (S : Scalars K Val) where
       (clears S l k && clears (opposite S) u k) ≡ false
   crossing-clears-nothing absent u k e = absurd (true≢false (sym e))
   crossing-clears-nothing (at c v) absent k e = absurd (true≢false (sym e))
-  crossing-clears-nothing (at c v) (at d w) k e = go (S .order .view (S .key v) (S .key w))
-      (S .order .view (S .key v) k) e
+  crossing-clears-nothing (at c v) (at d w) k e = go (S .total .view (S .key v) (S .key w))
+      (S .total .view (S .key v) k) e
     where
       eqs : (c d : Bool) → not (c && d) ≡ true → (c && d) ≡ false
       eqs true true e = sym e
@@ -105,11 +105,11 @@ module _ {K Val : Type 0} (S : Scalars K Val) where
       go : {o p : Ordering} → View (S .order .less) (S .key v) (S .key w) o → View (S .order .less) (S .key v) k p →
           crossesBy o c d ≡ true → (above c p && above d (S .order .cmp k (S .key w))) ≡ false
       go (is-less h) q e = absurd (true≢false (sym e))
-      go (is-equal e) (is-less q) x = rw (cmp-gt (S .order) (subst (λ y. S .order .less y k) e q))
-      go (is-equal e) (is-equal q) x = rw (cmp-eq (S .order) (sym q ∙ e)) (eqs c d x)
+      go (is-equal e) (is-less q) x = rw (cmp-gt (S .total) (subst (λ y. S .order .less y k) e q))
+      go (is-equal e) (is-equal q) x = rw (cmp-eq (S .total) (sym q ∙ e)) (eqs c d x)
       go (is-equal e) (is-greater q) x = refl
-      go (is-greater h) (is-less q) x = rw (cmp-gt (S .order) (S .order .trans h q))
-      go (is-greater h) (is-equal q) x = rw (cmp-gt (S .order) (subst (S .order .less (S .key w)) q h)) (and-false c)
+      go (is-greater h) (is-less q) x = rw (cmp-gt (S .total) (S .total .trans h q))
+      go (is-greater h) (is-equal q) x = rw (cmp-gt (S .total) (subst (S .order .less (S .key w)) q h)) (and-false c)
       go (is-greater h) (is-greater q) x = refl
 
 module _ {K Val : Type 0} (S : Scalars K Val) where

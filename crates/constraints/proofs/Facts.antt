@@ -32,13 +32,13 @@ module _ {K Val : Type 0} (S : Scalars K Val) where
   -- of two bounds, the tighter is at least as tight as a third where one of the two is
   tightens-chain : (a b : K) (c d : Bool) → S .order .less a b → (k : K) (e : Bool) →
       tightensBy (S .order .cmp k b) c e ≡ true → tightensBy (S .order .cmp k a) d e ≡ true
-  tightens-chain a b c d h k e m = go (S .order .view k b) m
+  tightens-chain a b c d h k e m = go (S .total .view k b) m
     where
       go : {o : Ordering} → View (S .order .less) k b o → tightensBy o c e ≡ true →
           tightensBy (S .order .cmp k a) d e ≡ true
       go (is-less p) m = absurd (true≢false (sym m))
-      go (is-equal p) m = rw (cmp-gt (S .order) (subst (S .order .less a) (sym p) h))
-      go (is-greater p) m = rw (cmp-gt (S .order) (S .order .trans h p))
+      go (is-equal p) m = rw (cmp-gt (S .total) (subst (S .order .less a) (sym p) h))
+      go (is-greater p) m = rw (cmp-gt (S .total) (S .total .trans h p))
 
   imp-and : (a b : Bool) → (b ≡ true → a ≡ true) → b ≡ (a && b)
   imp-and true b h = refl
@@ -48,7 +48,7 @@ module _ {K Val : Type 0} (S : Scalars K Val) where
   tighten-tightens : (b : Bound Val) (d : Bool) (w : Val) (c : Bool) (v : Val) → tightens S (tighten S b d w) c v ≡
       (tightens S b c v && tightens S (at d w) c v)
   tighten-tightens absent d w c v = refl
-  tighten-tightens (at e z) d w c v = go (S .order .view (S .key w) (S .key z))
+  tighten-tightens (at e z) d w c v = go (S .total .view (S .key w) (S .key z))
     where
       eqs : (o : Ordering) (d e : Bool) → tightensBy o (d && e) c ≡ (tightensBy o e c && tightensBy o d c)
       eqs Less d e = refl
@@ -363,7 +363,7 @@ module _ {K Val : Type 0} (S : Scalars K Val) where
       go : (b : Bool) → contains S (S .key v) m ≡ b → (b && subset S l m) ≡ false →
           (subset S l m ≡ false → (w : Val) × (contains S (S .key w) l ≡ true) × (contains S (S .key w) m ≡ false)) →
           (w : Val) × (contains S (S .key w) (v ∷ l) ≡ true) × (contains S (S .key w) m ≡ false)
-      go false e h ih = (v, rw (cmp-refl (S .order) (S .key v)), e)
+      go false e h ih = (v, rw (cmp-refl (S .total) (S .key v)), e)
       go true e h ih = let r = ih h in
           (r .0, rw (r .1) (or-true (isEqual (S .order .cmp (S .key (r .0)) (S .key v)))), r .2)
 
@@ -375,7 +375,7 @@ module _ {K Val : Type 0} (S : Scalars K Val) where
   not-yes false e = refl
 
   unmoved-self : (P : Scalars K Val) (c : Bool) (v : Val) → tightens P (at c v) c v ≡ false
-  unmoved-self P c v = rw (cmp-refl (P .order) (P .key v)) (go c)
+  unmoved-self P c v = rw (cmp-refl (P .total) (P .key v)) (go c)
     where
       go : (c : Bool) → (c && not c) ≡ false
       go true = refl
@@ -401,7 +401,7 @@ module _ {K Val : Type 0} (S : Scalars K Val) where
   change-new (Exclude v) q k e = (
     f-exc (S .key v),
     not-yes (contains S (S .key v) (q .excluded)) e,
-    ap isEqual (cmp-refl (S .order) (S .key v)),
+    ap isEqual (cmp-refl (S .total) (S .key v)),
   )
   change-new (Allow l) q k e = go (q .allowed) refl e
     where

@@ -1,8 +1,9 @@
 -- Merging one column's constraints into another's.
 use mathlib.Core.Path.{_≡_, refl, sym, _∙_, subst}
-use mathlib.Core.Bool.{Bool, true, false, not, _&&_, _||_, and-true, and-assoc, true≢false, or-false, and-eq-true-iff}
+use mathlib.Core.Bool.{Bool, true, false, not, _&&_, _||_, and-true, and-assoc, true≢false, or-false}
 use mathlib.Core.List.{List, [], _∷_, _++_, map}
 use mathlib.Core.Option.{Option, none, some}
+use Rattle.records.proofs.Laws.{and-left}
 use Rattle.truth.specs.Order.{isEqual}
 use Rattle.constraints.proofs.Bounds.{tighten-changes-nothing, tightensFrom}
 use Rattle.constraints.proofs.Columns.{add-live, add-put, addAll-emitted, addAll-is-intersection, addAll-live}
@@ -241,22 +242,19 @@ module _ {K Val : Type 0} (S : Scalars K Val) where
       (and-assoc (admits S q (some k)) (admitsEmitted S r (some k))
       (isAllowed S (r .allowed) k && not (contains S k (r .disallowed))))
 
-  and-l : (a b : Bool) → (a && b) ≡ true → a ≡ true
-  and-l a b e = and-eq-true-iff a b .0 e .0
-
   -- what a merged column shows or minds, the column before showed or minded
   pub merge-emitted : (q r : ColumnConstraints Val) (x : Option K) → mergeFrom S q r .unsat ≡ false →
       admitsEmitted S (mergeFrom S q r) x ≡ true → admitsEmitted S q x ≡ true
   merge-emitted q r x f e =
       let p = addAll-emitted S (recorded r) (addAll S (emitted r) q) x f in
       let p′ = addAll-emitted S (emitted r) q x (addAll-live S (recorded r) (addAll S (emitted r) q) f) in
-      and-l (admitsEmitted S q x) (obeysEmittedAll S (emitted r) x)
-      (sym p′ ∙ and-l (admitsEmitted S (addAll S (emitted r) q) x) (obeysEmittedAll S (recorded r) x) (sym p ∙ e))
+      and-left (admitsEmitted S q x) (obeysEmittedAll S (emitted r) x)
+      (sym p′ ∙ and-left (admitsEmitted S (addAll S (emitted r) q) x) (obeysEmittedAll S (recorded r) x) (sym p ∙ e))
 
   pub merge-recorded : (q r : ColumnConstraints Val) (x : Option K) → mergeFrom S q r .unsat ≡ false →
       admitsRecorded S (mergeFrom S q r) x ≡ true → admitsRecorded S q x ≡ true
   merge-recorded q r x f e =
       let p = addAll-recorded S (recorded r) (addAll S (emitted r) q) x f in
       let p′ = addAll-recorded S (emitted r) q x (addAll-live S (recorded r) (addAll S (emitted r) q) f) in
-      and-l (admitsRecorded S q x) (obeysRecordedAll S (emitted r) x)
-      (sym p′ ∙ and-l (admitsRecorded S (addAll S (emitted r) q) x) (obeysRecordedAll S (recorded r) x) (sym p ∙ e))
+      and-left (admitsRecorded S q x) (obeysRecordedAll S (emitted r) x)
+      (sym p′ ∙ and-left (admitsRecorded S (addAll S (emitted r) q) x) (obeysRecordedAll S (recorded r) x) (sym p ∙ e))

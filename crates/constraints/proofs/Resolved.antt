@@ -59,8 +59,8 @@ module _ {K Val : Type 0} (S : Scalars K Val) where
   keep-unfixed (at false w) u e h = refl
   keep-unfixed (at true w) absent e h = refl
   keep-unfixed (at true w) (at false z) e h = refl
-  keep-unfixed (at true w) (at true z) e h = go (S .order .view (S .key w) (S .key z))
-      (S .order .view (S .key e) (S .key w)) h
+  keep-unfixed (at true w) (at true z) e h = go (S .total .view (S .key w) (S .key z))
+      (S .total .view (S .key e) (S .key w)) h
     where
       go : {o p : Ordering} → View (S .order .less) (S .key w) (S .key z) o →
           View (S .order .less) (S .key e) (S .key w) p →
@@ -72,7 +72,7 @@ module _ {K Val : Type 0} (S : Scalars K Val) where
       go (is-equal a) (is-equal b) h = absurd (true≢false (sym h))
       go (is-equal a) (is-greater b) h =
           absurd (true≢false (sym h ∙ ap (λ o. isKeep (classifyBy o true TightenUpper Keep))
-          (cmp-lt (S .order) (subst (λ y. S .order .less y (S .key e)) a b))))
+          (cmp-lt (S .total) (subst (λ y. S .order .less y (S .key e)) a b))))
 
   abbrev Point : Range Val → Type 0
   Point r = (v : Val) → fixedAt S (r .lower) (r .upper) ≡ some v → r .kept ≡ []
@@ -162,7 +162,7 @@ module _ {K Val : Type 0} (S : Scalars K Val) where
   fixed-clears (at false w) u v e k = absurd (Option·none-ne-some v e)
   fixed-clears (at true w) absent v e k = absurd (Option·none-ne-some v e)
   fixed-clears (at true w) (at false z) v e k = absurd (Option·none-ne-some v e)
-  fixed-clears (at true w) (at true z) v e k = go (S .order .view (S .key w) (S .key z)) (S .order .view (S .key w) k)
+  fixed-clears (at true w) (at true z) v e k = go (S .total .view (S .key w) (S .key z)) (S .total .view (S .key w) k)
       e
     where
       same : (cond (isEqual Equal) (some w) none) ≡ some v → isEqual (S .order .cmp k (S .key v)) ≡
@@ -175,9 +175,9 @@ module _ {K Val : Type 0} (S : Scalars K Val) where
       go (is-less a) b e = absurd (Option·none-ne-some v e)
       go (is-greater a) b e = absurd (Option·none-ne-some v e)
       go (is-equal a) (is-less b) e = same e ∙
-          rw (cmp-gt (S .order) b, cmp-gt (S .order) (subst (λ y. S .order .less y k) a b))
-      go (is-equal a) (is-equal b) e = same e ∙ rw (cmp-eq (S .order) (sym b), cmp-eq (S .order) (sym b ∙ a))
-      go (is-equal a) (is-greater b) e = same e ∙ rw (cmp-lt (S .order) b)
+          rw (cmp-gt (S .total) b, cmp-gt (S .total) (subst (λ y. S .order .less y k) a b))
+      go (is-equal a) (is-equal b) e = same e ∙ rw (cmp-eq (S .total) (sym b), cmp-eq (S .total) (sym b ∙ a))
+      go (is-equal a) (is-greater b) e = same e ∙ rw (cmp-lt (S .total) b)
 
 module _ {K Val : Type 0} (S : Scalars K Val) where
   abbrev pub comparisonTrue : ColumnComparison Val → Option K → Bool

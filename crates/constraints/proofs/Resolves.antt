@@ -51,7 +51,7 @@ module _ {K Val : Type 0} (S : Scalars K Val) where
   differs e (some k) = not (isEqual (S .order .cmp k (S .key e)))
 
   except : (k e : K) (b : Bool) → (k ≡ e → b ≡ false) → (b && not (isEqual (S .order .cmp k e))) ≡ b
-  except k e b h = go (S .order .view k e)
+  except k e b h = go (S .total .view k e)
     where
       go : {o : Ordering} → View (S .order .less) k e o → (b && not (isEqual o)) ≡ b
       go (is-less p) = and-true b
@@ -61,12 +61,12 @@ module _ {K Val : Type 0} (S : Scalars K Val) where
   -- a closed lower bound and the value that opens it
   opened-low : (k e w : K) → e ≡ w → above false (S .order .cmp e k) ≡
       (above true (S .order .cmp w k) && not (isEqual (S .order .cmp k e)))
-  opened-low k e w p = rw (← p) (go (S .order .view e k))
+  opened-low k e w p = rw (← p) (go (S .total .view e k))
     where
       go : {o : Ordering} → View (S .order .less) e k o → above false o ≡
           (above true o && not (isEqual (S .order .cmp k e)))
-      go (is-less h) = rw (cmp-gt (S .order) h)
-      go (is-equal h) = rw (cmp-eq (S .order) (sym h))
+      go (is-less h) = rw (cmp-gt (S .total) h)
+      go (is-equal h) = rw (cmp-eq (S .total) (sym h))
       go (is-greater h) = refl
 
   opened-up : (k e w : K) → w ≡ e → above false (S .order .cmp k e) ≡
@@ -112,19 +112,19 @@ module _ {K Val : Type 0} (S : Scalars K Val) where
       (within (range l u m b) (some k) && differs e (some k))
   step-up l absent e m b k = rw (contains-insert S k e m, not-or)
       (sym (and-assoc (clears S l k) (not (contains S k m)) (differs e (some k))))
-  step-up l (at d w) e m b k = go d (S .order .view (S .key w) (S .key e))
+  step-up l (at d w) e m b k = go d (S .total .view (S .key w) (S .key e))
     where
       go : (d : Bool) {o : Ordering} → View (S .order .less) (S .key w) (S .key e) o →
           within (resolveBy S (classifyBy o d TightenUpper Keep) e (range l (at d w) m b)) (some k) ≡
           (within (range l (at d w) m b) (some k) && differs e (some k))
       go d (is-less p) = sym (except k (S .key e) (within (range l (at d w) m b) (some k)) λ q. gone-m (clears S l k)
           (clears (opposite S) (at d w) k) (not (contains S k m))
-          (rw (cmp-gt (S .order) (subst (S .order .less (S .key w)) (sym q) p))))
+          (rw (cmp-gt (S .total) (subst (S .order .less (S .key w)) (sym q) p))))
       go true (is-equal p) = rw (S .opened-key w e, opened-up k (S .key e) (S .key w) p)
           (at-2 (clears S l k) (above true (S .order .cmp k (S .key w))) (differs e (some k)) (not (contains S k m)))
       go false (is-equal p) = sym (except k (S .key e) (within (range l (at false w) m b) (some k)) λ q. gone-m
           (clears S l k) (clears (opposite S) (at false w) k) (not (contains S k m))
-          (rw (cmp-eq (S .order) (q ∙ sym p))))
+          (rw (cmp-eq (S .total) (q ∙ sym p))))
       go d (is-greater p) = rw (contains-insert S k e m, not-or)
           (at-3 (clears S l k) (clears (opposite S) (at d w) k) (not (contains S k m)) (differs e (some k)))
 
@@ -132,20 +132,20 @@ module _ {K Val : Type 0} (S : Scalars K Val) where
       within (resolveBy S (classifyAt S l u e) e (range l u m b)) (some k) ≡
       (within (range l u m b) (some k) && differs e (some k))
   step-some absent u e m b k = step-up absent u e m b k
-  step-some (at c w) u e m b k = go c (S .order .view (S .key e) (S .key w))
+  step-some (at c w) u e m b k = go c (S .total .view (S .key e) (S .key w))
     where
       go : (c : Bool) {o : Ordering} → View (S .order .less) (S .key e) (S .key w) o →
           within (resolveBy S (classifyBy o c TightenLower (classifyUpper S u e)) e (range (at c w) u m b)) (some k) ≡
           (within (range (at c w) u m b) (some k) && differs e (some k))
       go c (is-less p) = sym (except k (S .key e) (within (range (at c w) u m b) (some k)) λ q. gone-l
           (clears S (at c w) k) (clears (opposite S) u k && not (contains S k m))
-          (rw (cmp-gt (S .order) (subst (λ y. S .order .less y (S .key w)) (sym q) p))))
+          (rw (cmp-gt (S .total) (subst (λ y. S .order .less y (S .key w)) (sym q) p))))
       go true (is-equal p) = rw (S .opened-key w e, opened-low k (S .key e) (S .key w) p)
           (at-1 (above true (S .order .cmp (S .key w) k)) (differs e (some k)) (clears (opposite S) u k)
           (not (contains S k m)))
       go false (is-equal p) = sym (except k (S .key e) (within (range (at false w) u m b) (some k)) λ q. gone-l
           (clears S (at false w) k) (clears (opposite S) u k && not (contains S k m))
-          (rw (cmp-eq (S .order) (sym p ∙ sym q))))
+          (rw (cmp-eq (S .total) (sym p ∙ sym q))))
       go c (is-greater p) = step-up (at c w) u e m b k
 
   step-within : (r : Range Val) (e : Val) (x : Option K) →
@@ -269,7 +269,7 @@ module _ {K Val : Type 0} (S : Scalars K Val) where
   infeasible : (q : ColumnConstraints Val) (l : List Val) (k : K) → anyFeasible S q l ≡ false → contains S k l ≡
       true → isFeasible S q k ≡ false
   infeasible q [] k h e = absurd (true≢false (sym e))
-  infeasible q (v ∷ l) k h e = go (S .order .view k (S .key v))
+  infeasible q (v ∷ l) k h e = go (S .total .view k (S .key v))
       (or-no (isFeasible S q (S .key v)) (anyFeasible S q l) h) e (infeasible q l k)
     where
       go : {o : Ordering} → View (S .order .less) k (S .key v) o → (isFeasible S q (S .key v) ≡ false) ×
@@ -315,14 +315,14 @@ module _ {K Val : Type 0} (S : Scalars K Val) where
   fixed-at (at false w) u v e k = absurd (Option·none-ne-some v e)
   fixed-at (at true w) absent v e k = absurd (Option·none-ne-some v e)
   fixed-at (at true w) (at false z) v e k = absurd (Option·none-ne-some v e)
-  fixed-at (at true w) (at true z) v e k = go (S .order .view (S .key w) (S .key z)) (S .order .view (S .key w) k) e
+  fixed-at (at true w) (at true z) v e k = go (S .total .view (S .key w) (S .key z)) (S .total .view (S .key w) k) e
     where
       go : {o p : Ordering} → View (S .order .less) (S .key w) (S .key z) o → View (S .order .less) (S .key w) k p →
           cond (isEqual o) (some w) none ≡ some v → ((above true p && above true (S .order .cmp k (S .key z))) ≡
           false) ⊎ (k ≡ S .key v)
       go (is-less a) b e = absurd (Option·none-ne-some v e)
       go (is-greater a) b e = absurd (Option·none-ne-some v e)
-      go (is-equal a) (is-less b) e = inl (rw (cmp-gt (S .order) (subst (λ y. S .order .less y k) a b)))
+      go (is-equal a) (is-less b) e = inl (rw (cmp-gt (S .total) (subst (λ y. S .order .less y k) a b)))
       go (is-equal a) (is-equal b) e = inr (sym b ∙ ap (S .key) (Option·some-injective w v e))
       go (is-equal a) (is-greater b) e = inl refl
 

@@ -9,7 +9,7 @@ use Rattle.constraints.specs.Values.{contains, extend, insert, retain, s
 
 module _ {K Val : Type 0} (S : Scalars K Val) where
   pub isEqual-subst : {a b : K} (P : K → Type 0) → isEqual (S .order .cmp a b) ≡ true → P a → P b
-  isEqual-subst {a} {b} P = go (S .order .view a b)
+  isEqual-subst {a} {b} P = go (S .total .view a b)
     where
       go : {o : Ordering} → View (S .order .less) a b o → isEqual o ≡ true → P a → P b
       go (is-less h) e p = absurd (true≢false (sym e))
@@ -24,7 +24,7 @@ module _ {K Val : Type 0} (S : Scalars K Val) where
   -- a test that is true only at one key says nothing new where the list has the key
   pub contains-at : (k j : K) (l : List Val) → contains S j l ≡ true → (contains S k l || isEqual (S .order .cmp k j))
       ≡ contains S k l
-  contains-at k j l h = go (S .order .view k j)
+  contains-at k j l h = go (S .total .view k j)
     where
       go : {o : Ordering} → View (S .order .less) k j o → (contains S k l || isEqual o) ≡ contains S k l
       go (is-less p) = or-false (contains S k l)
@@ -63,13 +63,13 @@ module _ {K Val : Type 0} (S : Scalars K Val) where
       go : (b : Bool) → contains S (S .key v) m ≡ b → contains S k (retain S m l) ≡
           (contains S k l && contains S k m) → contains S k (cond b (v ∷ (retain S m l)) (retain S m l)) ≡
           ((isEqual (S .order .cmp k (S .key v)) || contains S k l) && contains S k m)
-      go true e ih = rw ih (inn e (S .order .view k (S .key v)))
-      go false e ih = ih ∙ out e (S .order .view k (S .key v))
+      go true e ih = rw ih (inn e (S .total .view k (S .key v)))
+      go false e ih = ih ∙ out e (S .total .view k (S .key v))
 
   pub subset-contains : (k : K) (l m : List Val) → subset S l m ≡ true → contains S k l ≡ true → contains S k m ≡ true
   subset-contains k [] m s e = absurd (true≢false (sym e))
   subset-contains k (v ∷ l) m s e =
-      go (S .order .view k (S .key v)) e (and-eq-true-iff (contains S (S .key v) m) (subset S l m) .0 s)
+      go (S .total .view k (S .key v)) e (and-eq-true-iff (contains S (S .key v) m) (subset S l m) .0 s)
       (subset-contains k l m)
     where
       go : {o : Ordering} → View (S .order .less) k (S .key v) o → (isEqual o || contains S k l) ≡ true →

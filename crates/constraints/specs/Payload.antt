@@ -4,7 +4,15 @@ use mathlib.Core.Path.{refl}
 use Prim.Native.Nat.{ℕ}
 use lib.IntN.{ℤ}
 use Rattle.truth.specs.Halves.{ordZ, key}
+use Rattle.truth.proofs.Orders.{total-z}
 use Rattle.constraints.specs.Scalars.{Scalars}
 
 unfoldable pub payload : Scalars ℤ ℕ
-payload = record { key = key; order = ordZ; opened = λ held excluded. excluded; opened-key = λ held excluded. refl }
+payload =
+    record {
+      key = key;
+      order = ordZ;
+      total = total-z;
+      opened = λ held excluded. excluded;
+      opened-key = λ held excluded. refl;
+    }

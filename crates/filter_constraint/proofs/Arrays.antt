@@ -15,22 +15,11 @@ use Rattle.columns.specs.Abstraction.{Conjuncts, numbered, columnOf, Fine}
 use Rattle.columns.specs.declared.column.ColumnConstraints.{ColumnConstraints}
 use Rattle.merge.specs.Collect.{isIn, enter, update}
 use Rattle.rewrite.specs.Walk.{firstOf}
+use Rattle.rewrite.proofs.Walks.{first-kept, first-more}
 use Rattle.stages.specs.Rows.{stride, rowOf, RowsKept}
 use Rattle.filter_constraint.specs.Words.{pastColumn, columnsOf}
 use Rattle.filter_constraint.proofs.Encoding.{columns-size}
 use Rattle.filter_constraint.specs.State.{columnAt, Shows, Fits, Entered, Keeps, Edges, edgesOf}
-
--- ---- the first entries of an array
-pub first-kept : (a : List ℕ) (i v n : ℕ) → n ≤ i → firstOf (set a i v) n ≡ firstOf a n
-unfolding firstOf
-first-kept a i v zero h = refl
-first-kept a i v (suc n) h =
-    let d : (n ≡ i → ⊥) = λ e. absurd (omega (arith, e)) in
-    rw (first-kept a i v n (omega arith), getD-set-other a i n v 0 d)
-
-pub first-more : (a : List ℕ) (n v : ℕ) → n < length a → firstOf (set a n v) (n + 1) ≡ firstOf a n ++ (v ∷ [])
-unfolding firstOf
-first-more a n v h = rw (add-one, first-kept a n v n (omega arith), getD-set-same a n v 0 h)
 
 pub keeps-more : (a : List ℕ) (n v : ℕ) (l : List ℕ) → n < 260 → Keeps a n l → Keeps (set a n v) (n + 1) (l ++ (v ∷ []))
 keeps-more a n v l h k =

@@ -22,7 +22,7 @@ use Rattle.rewrite.specs.Read.{conjunctIn}
 use Rattle.rewrite.specs.declared.classify.Conjunct as code
 use Rattle.rewrite.specs.Walk.{firstOf}
 use Rattle.filter_constraint.specs.Words.{pastColumn}
-use Rattle.filter_constraint.specs.State.{Table, Shows, Added, Entered, Keeps, Edges, Collects, collectTo, edgesOf}
+use Rattle.filter_constraint.specs.State.{ColumnTable, Shows, Added, Entered, Keeps, Edges, Collects, collectTo, edgesOf}
 use Rattle.rewrite.proofs.Telling.{fine-same}
 use Rattle.stages.specs.Rows.{stride, rowOf, RowsKept}
 use Rattle.stages.proofs.Lending.{rows-same}
@@ -134,7 +134,7 @@ pub read-as : (rs p : List ℕ) (n : ℕ) (k k′ : code.Conjunct) → conjunctI
 read-as rs p n k k′ e h = sym e ∙ ap (conjunctIn p n) h
 
 -- ---- what the calls for one column give
-pub required : (t : Conjuncts) (table table′ : List ColumnConstraints) (ms : List ℕ) (T : Table) (a x : ℕ)
+pub required : (t : Conjuncts) (table table′ : List ColumnConstraints) (ms : List ℕ) (T : ColumnTable) (a x : ℕ)
     (c r : ColumnConstraints) → Shows t table ms T → a < 64 → x ≡ a % 64 → c ≡ getD table x pastColumn
     → ((m : List ℕ) → columnOf t (numbered m r) ≡ add payload (Require NonNull) (columnOf t (numbered m c)))
     → r .len ≡ c .len → table′ ≡ set table x r → Shows t table′ ms (requireNonNull payload a T)
@@ -147,7 +147,7 @@ required t table table′ ms T a x c r S la ex hc er el et =
     ∙ ap (add payload (Require NonNull)) (S .column a la))
     (fine-same (stride ms) (rowOf ms a) (getD table a pastColumn .len) (r .len) (el ∙ ap (λ d. d .len) h) (S .fine a la)))
 
-pub added : (t : Conjuncts) (table table′ : List ColumnConstraints) (ms ms′ : List ℕ) (T : Table) (a x : ℕ)
+pub added : (t : Conjuncts) (table table′ : List ColumnConstraints) (ms ms′ : List ℕ) (T : ColumnTable) (a x : ℕ)
     (c r : ColumnConstraints) (l : List (Constraint ℕ)) → Shows t table ms T → a < 64 → x ≡ a % 64
     → c ≡ getD table x pastColumn
     → columnOf t (numbered (rowOf ms′ x) r) ≡ addAll payload l (columnOf t (numbered (rowOf ms x) c))
@@ -179,7 +179,7 @@ module _ (t : Conjuncts) (table : List ColumnConstraints) (ms : List ℕ) (seen 
     pub bounds-turn : (table′ : List ColumnConstraints) (ms′ : List ℕ) (seen′ : List Bool) (order′ : List ℕ) (a o : ℕ)
         (l : List (Constraint ℕ)) (u : Bool) → k ≡ Bounds a l
         → ((m : List ℕ) → Entered order columns seen m → Entered order′ o seen′ (enter a m))
-        → ((T : Table) → Shows t table ms T → Added t table′ ms′ a l u T)
+        → ((T : ColumnTable) → Shows t table ms T → Added t table′ ms′ a l u T)
         → Collects t table′ ms′ seen′ order′ o kept keeps lefts rights equals edges (bounds + 1) u s′
     bounds-turn table′ ms′ seen′ order′ a o l u ek en ad =
         let A : Added t table′ ms′ a l u (s .constraints) = ad (s .constraints) (C .shows) in
@@ -197,7 +197,7 @@ module _ (t : Conjuncts) (table : List ColumnConstraints) (ms : List ℕ) (seen 
     pub recorded-turn : (table′ : List ColumnConstraints) (ms′ : List ℕ) (seen′ : List Bool) (order′ : List ℕ) (a o n : ℕ)
         (l : List (Constraint ℕ)) (stops u : Bool) → k ≡ Recorded stops n a l → keeps < 260
         → ((m : List ℕ) → Entered order columns seen m → Entered order′ o seen′ (enter a m))
-        → ((T : Table) → Shows t table ms T → Added t table′ ms′ a l u T)
+        → ((T : ColumnTable) → Shows t table ms T → Added t table′ ms′ a l u T)
         → Collects t table′ ms′ seen′ order′ o (set kept keeps n) (keeps + 1) lefts rights equals edges bounds (stops && u) s′
     recorded-turn table′ ms′ seen′ order′ a o n l stops u ek lk en ad =
         let A : Added t table′ ms′ a l u (s .constraints) = ad (s .constraints) (C .shows) in
@@ -230,9 +230,9 @@ module _ (t : Conjuncts) (table : List ColumnConstraints) (ms : List ℕ) (seen 
     module _ (table₁ table₂ : List ColumnConstraints) (seen₁ seen₂ : List Bool) (order₁ order₂ : List ℕ) (a b o o′ n : ℕ)
         (h : unsat ≡ false)
         (en : (m : List ℕ) → Entered order columns seen m → Entered order₁ o seen₁ (enter a m))
-        (ra : (u : Conjuncts) (m : List ℕ) (T : Table) → Shows u table m T → Shows u table₁ m (requireNonNull payload a T))
+        (ra : (u : Conjuncts) (m : List ℕ) (T : ColumnTable) → Shows u table m T → Shows u table₁ m (requireNonNull payload a T))
         (fn : (m : List ℕ) → Entered order₁ o seen₁ m → Entered order₂ o′ seen₂ (enter b m))
-        (rb : (u : Conjuncts) (m : List ℕ) (T : Table) → Shows u table₁ m T → Shows u table₂ m (requireNonNull payload b T))
+        (rb : (u : Conjuncts) (m : List ℕ) (T : ColumnTable) → Shows u table₁ m T → Shows u table₂ m (requireNonNull payload b T))
       where
         pub equality-turn : k ≡ Equality a b n → edges < 130 → a < 64 → b < 64
             → Collects t table₂ ms seen₂ order₂ o′ kept keeps (set lefts edges a) (set rights edges b) (set equals edges n)

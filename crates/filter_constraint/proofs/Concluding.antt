@@ -30,7 +30,7 @@ use Rattle.rewrite.specs.Written.{chainAt, andsTo}
 use Rattle.stages.specs.Reckon.{reckoned, reckonedAnswer}
 use Rattle.stages.specs.Rewritten.{isRewritten}
 use Rattle.stages.specs.Rows.{stride, rowOf}
-use Rattle.filter_constraint.specs.State.{columnAt, Table, Shows, Entered, Keeps, Edges, edgesOf, Collects, collectTo}
+use Rattle.filter_constraint.specs.State.{columnAt, ColumnTable, Shows, Entered, Keeps, Edges, edgesOf, Collects, collectTo}
 use Rattle.filter_constraint.specs.Words.{pastColumn}
 use Rattle.filter_constraint.specs.State.{Spread, Kept, resolveAll, resolvedIn, Resolved, shown, Written}
 use Rattle.stages.proofs.Answers.{chain-written, chain-unwritten}
@@ -79,13 +79,13 @@ module _ (t : Conjuncts) (table₁ table₂ table₃ : List ColumnConstraints) (
     (edges bounds : ℕ) (stop : Bool) (s : Collected ℕ)
     (C : Collects t table₁ ms₁ seen order columns kept₁ keeps₁ lefts rights equals edges bounds stop s)
     (live : stop ≡ false) (emitted : Bool) (passes : ℕ)
-    (spread : (T : Table) (equals : List ℕ) → Shows t table₁ ms₁ T
+    (spread : (T : ColumnTable) (equals : List ℕ) → Shows t table₁ ms₁ T
     → Spread t table₂ ms₂ (edgesOf lefts rights equals edges) columns emitted passes T)
     (dropped : Bool)
-    (keeping : (u : Conjuncts) (m : List ℕ) (T : Table) (l rights : List ℕ) → Shows u table₂ m T → Keeps kept₁ keeps₁ l
+    (keeping : (u : Conjuncts) (m : List ℕ) (T : ColumnTable) (l rights : List ℕ) → Shows u table₂ m T → Keeps kept₁ keeps₁ l
     → Kept T (edgesOf lefts rights equals edges) kept keeps dropped l)
     (unsat : Bool) (total : ℕ)
-    (resolving : (T : Table) → Shows t table₂ ms₂ T → Resolved t table₃ ms₃ (firstOf order columns) false unsat total T) where
+    (resolving : (T : ColumnTable) → Shows t table₂ ms₂ T → Resolved t table₃ ms₃ (firstOf order columns) false unsat total T) where
   columns-are : columns ≡ length (s .order)
   columns-are = sym (first-length order columns) ∙ ap length (C .entered .listed)
 

@@ -19,14 +19,15 @@ use Rattle.columns.specs.declared.column.ColumnConstraints.{ColumnConstraints}
 use Rattle.merge.specs.Collect.{update}
 use Rattle.merge.specs.Emit.{isFixed, keptEqualities, droppedEquality}
 use Rattle.rewrite.specs.Walk.{firstOf}
+use Rattle.rewrite.proofs.Walks.{first-kept}
 use Rattle.stages.specs.Rows.{stride, rowOf, RowsKept}
 use Rattle.filter_constraint.specs.Words.{pastColumn}
-use Rattle.filter_constraint.specs.State.{columnAt, Table, Shows, Keeps, edgesOf, Kept}
-use Rattle.filter_constraint.proofs.Arrays.{keeps-more, first-kept, low-slot}
+use Rattle.filter_constraint.specs.State.{columnAt, ColumnTable, Shows, Keeps, edgesOf, Kept}
+use Rattle.filter_constraint.proofs.Arrays.{keeps-more, low-slot}
 use Rattle.filter_constraint.proofs.Propagating.{or-assoc}
 
 -- ---- the kept equalities
-kept-snoc : (T : Table) (es : List (ℕ × ℕ × ℕ)) (e : ℕ × ℕ × ℕ)
+kept-snoc : (T : ColumnTable) (es : List (ℕ × ℕ × ℕ)) (e : ℕ × ℕ × ℕ)
     → keptEqualities payload T (es ++ (e ∷ [])) ≡
     keptEqualities payload T es ++ keptBy (fixedAt payload (T (e .0) .lower) (T (e .0) .upper)) (e .2) []
 kept-snoc T [] e = refl
@@ -40,7 +41,7 @@ kept-snoc T (f ∷ es) e =
     go none = refl
     go (some v) = refl
 
-dropped-snoc : (T : Table) (es : List (ℕ × ℕ × ℕ)) (e : ℕ × ℕ × ℕ)
+dropped-snoc : (T : ColumnTable) (es : List (ℕ × ℕ × ℕ)) (e : ℕ × ℕ × ℕ)
     → droppedEquality payload T (es ++ (e ∷ [])) ≡
     (droppedEquality payload T es || isFixed (fixedAt payload (T (e .0) .lower) (T (e .0) .upper)))
 dropped-snoc T [] e = or-false (isFixed (fixedAt payload (T (e .0) .lower) (T (e .0) .upper)))
@@ -49,14 +50,14 @@ dropped-snoc T (f ∷ es) e =
     ∙ or-assoc (isFixed (fixedAt payload (T (f .0) .lower) (T (f .0) .upper))) (droppedEquality payload T es)
     (isFixed (fixedAt payload (T (e .0) .lower) (T (e .0) .upper)))
 
-pub kept-none : (T : Table) (lefts rights equals kept : List ℕ) (keeps : ℕ) (l : List ℕ) → Keeps kept keeps l
+pub kept-none : (T : ColumnTable) (lefts rights equals kept : List ℕ) (keeps : ℕ) (l : List ℕ) → Keeps kept keeps l
     → Kept T (edgesOf lefts rights equals 0) kept keeps false l
 unfolding edgesOf
 kept-none T lefts rights equals kept keeps l K =
     record { keeping = subst (Keeps kept keeps) (sym (append-nil l)) K; drops = refl }
 
 pub kept-more :
-    (t : Conjuncts) (table : List ColumnConstraints) (ms : List ℕ) (T : Table) (lefts rights equals kept : List ℕ) (keeps keeps′ e x : ℕ)
+    (t : Conjuncts) (table : List ColumnConstraints) (ms : List ℕ) (T : ColumnTable) (lefts rights equals kept : List ℕ) (keeps keeps′ e x : ℕ)
     (dropped fixed : Bool) (l : List ℕ) → Shows t table ms T
     → Kept T (edgesOf lefts rights equals e) kept keeps dropped l
     → getD lefts e 0 < 64 → keeps < 260 → x ≡ getD lefts e 0 % 64

@@ -22,11 +22,11 @@ use Rattle.merge.specs.Propagate.{mergedRight, mergedLeft, mergeEdge, edgeAny, 
 use Rattle.merge.specs.Propagate.{propagate, propagateEmitted}
 use Rattle.stages.specs.Rows.{stride, rowOf, RowsKept}
 use Rattle.filter_constraint.specs.Words.{pastColumn, columnsOf}
-use Rattle.filter_constraint.specs.State.{columnAt, Table, Shows, Fits, edgesOf, EdgeMerged, Merged, Passed, Spread}
+use Rattle.filter_constraint.specs.State.{columnAt, ColumnTable, Shows, Fits, edgesOf, EdgeMerged, EdgesMerged, Passed, Spread}
 use Rattle.filter_constraint.proofs.Arrays.{shows-set, low-slot}
 
 -- ---- an edge: its two columns are one
-pub edge-self : (t : Conjuncts) (table : List ColumnConstraints) (ms : List ℕ) (T : Table) (a b x y : ℕ) → Shows t table ms T
+pub edge-self : (t : Conjuncts) (table : List ColumnConstraints) (ms : List ℕ) (T : ColumnTable) (a b x y : ℕ) → Shows t table ms T
     → a < 64 → b < 64 → x ≡ a % 64 → y ≡ b % 64 → x ≡ y → EdgeMerged t table ms a b false false T
 edge-self t table ms T a b x y S la lb ex ey h =
     let e : eqb a b ≡ true = eq-eqb a b (sym (low-slot a x la ex) ∙ h ∙ low-slot b y lb ey) in
@@ -37,7 +37,7 @@ edge-self t table ms T a b x y S la lb ex ey h =
     }
 
 -- the two columns merged both ways: f is the right one as it becomes, g the left one; the tables and rows then
-at-two : (t : Conjuncts) (table : List ColumnConstraints) (ms ms₁ ms₂ : List ℕ) (T : Table) (a b : ℕ)
+at-two : (t : Conjuncts) (table : List ColumnConstraints) (ms ms₁ ms₂ : List ℕ) (T : ColumnTable) (a b : ℕ)
     (f g : ColumnConstraints) (em en an ao : Bool) → Shows t table ms T → a < 64 → b < 64 → (a ≡ b → ⊥)
     → columnOf t (numbered (rowOf ms₁ b) f) ≡
     mergeFrom payload (columnOf t (columnAt table ms b)) (columnOf t (columnAt table ms a))
@@ -82,7 +82,7 @@ at-two t table ms ms₁ ms₂ T a b f g em en an ao S la lb h ec fe fa fc K ed g
     }
 
 -- the same, as the code has it: x and y are the places, c and d the columns loaded, table₁ and table₂ what is stored
-pub edge-two : (t : Conjuncts) (table table₁ table₂ : List ColumnConstraints) (ms ms₁ ms₂ : List ℕ) (T : Table)
+pub edge-two : (t : Conjuncts) (table table₁ table₂ : List ColumnConstraints) (ms ms₁ ms₂ : List ℕ) (T : ColumnTable)
     (a b x y : ℕ) (c d f g : ColumnConstraints) (em en an ao : Bool) → Shows t table ms T → a < 64 → b < 64
     → x ≡ a % 64 → y ≡ b % 64 → (x ≡ y → ⊥) → c ≡ getD table x pastColumn → d ≡ getD table y pastColumn
     → (columnOf t (numbered (rowOf ms₁ y) f) ≡
@@ -112,12 +112,12 @@ pub or-assoc : (x y z : Bool) → (x || (y || z)) ≡ ((x || y) || z)
 or-assoc true y z = refl
 or-assoc false y z = refl
 
-pass-snoc : (es : List (ℕ × ℕ × ℕ)) (e : ℕ × ℕ × ℕ) (T : Table)
+pass-snoc : (es : List (ℕ × ℕ × ℕ)) (e : ℕ × ℕ × ℕ) (T : ColumnTable)
     → pass payload (es ++ (e ∷ [])) T ≡ mergeEdge payload (e .0) (e .1) (pass payload es T)
 pass-snoc [] e T = refl
 pass-snoc (f ∷ es) e T = pass-snoc es e (mergeEdge payload (f .0) (f .1) T)
 
-any-snoc : (es : List (ℕ × ℕ × ℕ)) (e : ℕ × ℕ × ℕ) (T : Table)
+any-snoc : (es : List (ℕ × ℕ × ℕ)) (e : ℕ × ℕ × ℕ) (T : ColumnTable)
     → passAny payload (es ++ (e ∷ [])) T ≡
     (passAny payload es T || edgeAny payload (e .0) (e .1) (pass payload es T))
 any-snoc [] e T = or-false (edgeAny payload (e .0) (e .1) T)
@@ -129,7 +129,7 @@ any-snoc (f ∷ es) e T =
     (edgeAny payload (e .0) (e .1)
     (pass payload es (mergeEdge payload (f .0) (f .1) T)))
 
-emitted-snoc : (es : List (ℕ × ℕ × ℕ)) (e : ℕ × ℕ × ℕ) (T : Table)
+emitted-snoc : (es : List (ℕ × ℕ × ℕ)) (e : ℕ × ℕ × ℕ) (T : ColumnTable)
     → passEmitted payload (es ++ (e ∷ [])) T ≡
     (passEmitted payload es T || edgeEmitted payload (e .0) (e .1) (pass payload es T))
 emitted-snoc [] e T = or-false (edgeEmitted payload (e .0) (e .1) T)
@@ -143,19 +143,19 @@ emitted-snoc (f ∷ es) e T =
 
 -- ---- a pass, edge by edge
 pub merged-none : (t : Conjuncts) (table : List ColumnConstraints) (ms : List ℕ) (lefts rights equals : List ℕ)
-    (T : Table) → Shows t table ms T → Merged t table ms (edgesOf lefts rights equals 0) false false T
+    (T : ColumnTable) → Shows t table ms T → EdgesMerged t table ms (edgesOf lefts rights equals 0) false false T
 unfolding edgesOf
 merged-none t table ms lefts rights equals T S = record { shows = S; emits = refl; changes = refl }
 
 pub merged-more : (t : Conjuncts) (table table′ : List ColumnConstraints) (ms ms′ : List ℕ) (lefts rights equals : List ℕ) (e : ℕ)
-    (emitted any em an : Bool) (T : Table) → Merged t table ms (edgesOf lefts rights equals e) emitted any T
-    → ((U : Table) → Shows t table ms U → EdgeMerged t table′ ms′ (getD lefts e 0) (getD rights e 0) em an U)
-    → Merged t table′ ms′ (edgesOf lefts rights equals (e + 1)) (emitted || em) (any || an) T
+    (emitted any em an : Bool) (T : ColumnTable) → EdgesMerged t table ms (edgesOf lefts rights equals e) emitted any T
+    → ((U : ColumnTable) → Shows t table ms U → EdgeMerged t table′ ms′ (getD lefts e 0) (getD rights e 0) em an U)
+    → EdgesMerged t table′ ms′ (edgesOf lefts rights equals (e + 1)) (emitted || em) (any || an) T
 unfolding edgesOf
 merged-more t table table′ ms ms′ lefts rights equals e emitted any em an T M E =
     let es : List (ℕ × ℕ × ℕ) = edgesOf lefts rights equals e in
     let k : ℕ × ℕ × ℕ = (getD lefts e 0, getD rights e 0, getD equals e 0) in
-    let U : Table = pass payload es T in
+    let U : ColumnTable = pass payload es T in
     let X = E U (M .shows) in
     rw (add-one)
     (record {
@@ -165,12 +165,12 @@ merged-more t table table′ ms ms′ lefts rights equals e emitted any em an T 
     })
 
 -- ---- the passes
-times-snoc : (p : ℕ) (es : List (ℕ × ℕ × ℕ)) (T : Table)
+times-snoc : (p : ℕ) (es : List (ℕ × ℕ × ℕ)) (T : ColumnTable)
     → passTimes payload (suc p) es T ≡ pass payload es (passTimes payload p es T)
 times-snoc zero es T = refl
 times-snoc (suc p) es T = times-snoc p es (pass payload es T)
 
-pub passed-none : (t : Conjuncts) (table : List ColumnConstraints) (ms : List ℕ) (es : List (ℕ × ℕ × ℕ)) (n : ℕ) (T : Table)
+pub passed-none : (t : Conjuncts) (table : List ColumnConstraints) (ms : List ℕ) (es : List (ℕ × ℕ × ℕ)) (n : ℕ) (T : ColumnTable)
     → Shows t table ms T → Passed t table ms es n 0 false true T
 passed-none t table ms es n T S =
     let z : n - 0 ≡ n = omega arith in
@@ -183,29 +183,29 @@ passed-none t table ms es n T S =
     }
 
 -- a pass that is not the last
-propagate-by : (b : Bool) (m : ℕ) (es : List (ℕ × ℕ × ℕ)) (T : Table) → passAny payload es T ≡ b
+propagate-by : (b : Bool) (m : ℕ) (es : List (ℕ × ℕ × ℕ)) (T : ColumnTable) → passAny payload es T ≡ b
     → propagate payload (suc m) es T ≡ cond b (propagate payload m es (pass payload es T)) (pass payload es T)
 propagate-by b m es T e = ap (λ x. cond x (propagate payload m es (pass payload es T)) (pass payload es T)) e
 
-emitted-by : (b : Bool) (m : ℕ) (es : List (ℕ × ℕ × ℕ)) (T : Table) → passAny payload es T ≡ b
+emitted-by : (b : Bool) (m : ℕ) (es : List (ℕ × ℕ × ℕ)) (T : ColumnTable) → passAny payload es T ≡ b
     → propagateEmitted payload (suc m) es T ≡
     (passEmitted payload es T || cond b (propagateEmitted payload m es (pass payload es T)) false)
 emitted-by b m es T e =
     ap (λ x. passEmitted payload es T || cond x (propagateEmitted payload m es (pass payload es T)) false) e
 
-count-by : (b : Bool) (m : ℕ) (es : List (ℕ × ℕ × ℕ)) (T : Table) → passAny payload es T ≡ b
+count-by : (b : Bool) (m : ℕ) (es : List (ℕ × ℕ × ℕ)) (T : ColumnTable) → passAny payload es T ≡ b
     → passCount payload (suc m) es T ≡ suc (cond b (passCount payload m es (pass payload es T)) 0)
 count-by b m es T e = ap (λ x. suc (cond x (passCount payload m es (pass payload es T)) 0)) e
 
 pub passed-more :
     (t : Conjuncts) (table table′ : List ColumnConstraints) (ms ms′ : List ℕ) (es : List (ℕ × ℕ × ℕ)) (n p : ℕ)
-    (emitted going em any : Bool) (T : Table) → p < n → going ≡ true
+    (emitted going em any : Bool) (T : ColumnTable) → p < n → going ≡ true
     → Passed t table ms es n p emitted going T
-    → ((U : Table) → Shows t table ms U → Merged t table′ ms′ es em any U)
+    → ((U : ColumnTable) → Shows t table ms U → EdgesMerged t table′ ms′ es em any U)
     → Passed t table′ ms′ es n (p + 1) (emitted || em) any T
 passed-more t table table′ ms ms′ es n p emitted going em any T l eg P N =
-    let U : Table = passTimes payload p es T in
-    let M : Merged t table′ ms′ es em any U = N U (P .shows) in
+    let U : ColumnTable = passTimes payload p es T in
+    let M : EdgesMerged t table′ ms′ es em any U = N U (P .shows) in
     let m : ℕ = n - suc p in
     let en : n - p ≡ suc m = omega arith in
     let left : propagate payload (n - p) es U ≡ propagate payload n es T =
@@ -245,7 +245,7 @@ passed-more t table table′ ms ms′ es n p emitted going em any T l eg P N =
 -- the last pass was quiet, or there were as many as columns
 pub passed-end :
     (t : Conjuncts) (table : List ColumnConstraints) (ms : List ℕ) (es : List (ℕ × ℕ × ℕ)) (n p : ℕ) (emitted going : Bool)
-    (T : Table) → p ≤ n → (ltb p n && going) ≡ false → Passed t table ms es n p emitted going T
+    (T : ColumnTable) → p ≤ n → (ltb p n && going) ≡ false → Passed t table ms es n p emitted going T
     → Spread t table ms es n emitted p T
 passed-end t table ms es n p emitted going T l h P = go going refl
   where
@@ -253,7 +253,7 @@ passed-end t table ms es n p emitted going T l h P = go going refl
     last true q r = absurd (true≢false r)
     last false q r = ltb-false p n q
 
-    U : Table
+    U : ColumnTable
     U = passTimes payload p es T
 
     go : (g : Bool) → going ≡ g → Spread t table ms es n emitted p T

@@ -26,18 +26,18 @@ use Rattle.merge.specs.Write.{writeComparison, writeComparisons}
 use Rattle.rewrite.specs.Walk.{firstOf}
 use Rattle.stages.specs.Rows.{stride, rowOf, RowsKept}
 use Rattle.filter_constraint.specs.Words.{pastColumn}
-use Rattle.filter_constraint.specs.State.{columnAt, Table, Shows, resolveAll, resolvedIn, Resolved, shown, Written}
+use Rattle.filter_constraint.specs.State.{columnAt, ColumnTable, Shows, resolveAll, resolvedIn, Resolved, shown, Written}
 use Rattle.stages.proofs.Emitting.{of-column-length, write-append}
 use Rattle.filter_constraint.proofs.Arrays.{shows-set, is-in-snoc, low-slot}
 use Rattle.filter_constraint.proofs.Propagating.{or-assoc}
 
 -- a table that agrees on the columns
-shows-agree : (t : Conjuncts) (table : List ColumnConstraints) (ms : List ℕ) (T U : Table) → ((a : ℕ) → T a ≡ U a)
+shows-agree : (t : Conjuncts) (table : List ColumnConstraints) (ms : List ℕ) (T U : ColumnTable) → ((a : ℕ) → T a ≡ U a)
     → Shows t table ms T → Shows t table ms U
 shows-agree t table ms T U e S = record { size = S .size; column = λ a h. S .column a h ∙ e a; fine = S .fine }
 
 -- ---- a column behind the others
-unsat-snoc : (l : List ℕ) (a : ℕ) (T : Table) → anyUnsat (l ++ (a ∷ [])) T ≡ (anyUnsat l T || T a .unsat)
+unsat-snoc : (l : List ℕ) (a : ℕ) (T : ColumnTable) → anyUnsat (l ++ (a ∷ [])) T ≡ (anyUnsat l T || T a .unsat)
 unsat-snoc [] a T = or-false (T a .unsat)
 unsat-snoc (c ∷ l) a T =
     ap (λ x. T c .unsat || x) (unsat-snoc l a T) ∙ or-assoc (T c .unsat) (anyUnsat l T) (T a .unsat)
@@ -46,7 +46,7 @@ append-assoc′ : (x y z : List (ℕ × ColumnComparison ℕ)) → x ++ (y ++ z)
 append-assoc′ [] y z = refl
 append-assoc′ (c ∷ x) y z = ap (λ l. c ∷ l) (append-assoc′ x y z)
 
-pub comparisons-snoc : (l : List ℕ) (a : ℕ) (T : Table)
+pub comparisons-snoc : (l : List ℕ) (a : ℕ) (T : ColumnTable)
     → comparisons payload (l ++ (a ∷ [])) T ≡
     comparisons payload l T ++ ofColumn a (collectColumnComparisons payload (T a))
 comparisons-snoc [] a T = append-nil (ofColumn a (collectColumnComparisons payload (T a)))
@@ -55,7 +55,7 @@ comparisons-snoc (c ∷ l) a T =
     ∙ append-assoc′ (ofColumn c (collectColumnComparisons payload (T c))) (comparisons payload l T)
     (ofColumn a (collectColumnComparisons payload (T a)))
 
-pub comparisons-more : (order : List ℕ) (o : ℕ) (T : Table)
+pub comparisons-more : (order : List ℕ) (o : ℕ) (T : ColumnTable)
     → length (comparisons payload (firstOf order (o + 1)) T) ≡
     length (comparisons payload (firstOf order o) T) + length (collectColumnComparisons payload (T (getD order o 0)))
 unfolding firstOf
@@ -68,7 +68,7 @@ comparisons-more order o T =
     (of-column-length (getD order o 0) (collectColumnComparisons payload (T (getD order o 0)))))
 
 -- fewer columns have no more comparisons
-pub comparisons-upto : (order : List ℕ) (T : Table) (o d : ℕ)
+pub comparisons-upto : (order : List ℕ) (T : ColumnTable) (o d : ℕ)
     → length (comparisons payload (firstOf order o) T) ≤ length (comparisons payload (firstOf order (o + d)) T)
 comparisons-upto order T o zero =
     let e : o + 0 ≡ o = omega arith in rw e (omega arith)
@@ -98,7 +98,7 @@ in-first order w (suc n) h = by-test (eqb w n)
         ∙ or-true (isIn (getD order w 0) (firstOf order n))
 
 -- the comparisons depend on the listed columns only
-pub comparisons-agree : (order : List ℕ) (T U : Table) (n : ℕ) → ((w : ℕ) → w < n → T (getD order w 0) ≡ U (getD order w 0))
+pub comparisons-agree : (order : List ℕ) (T U : ColumnTable) (n : ℕ) → ((w : ℕ) → w < n → T (getD order w 0) ≡ U (getD order w 0))
     → comparisons payload (firstOf order n) T ≡ comparisons payload (firstOf order n) U
 unfolding firstOf
 comparisons-agree order T U zero e = refl
@@ -153,12 +153,12 @@ column-few t c k f l128 = go (fixedAt payload (columnOf t c .lower) (columnOf t 
 
 -- ---- resolving, column by column
 pub resolved-none : (t : Conjuncts) (table : List ColumnConstraints) (ms : List ℕ) (order : List ℕ) (held : Bool)
-    (T : Table) → Shows t table ms T → Resolved t table ms (firstOf order 0) held held 0 T
+    (T : ColumnTable) → Shows t table ms T → Resolved t table ms (firstOf order 0) held held 0 T
 unfolding firstOf
 resolved-none t table ms order held T S = record { shows = S; stops = sym (or-false held); counted = refl }
 
 module _ (t : Conjuncts) (table : List ColumnConstraints) (ms ms′ : List ℕ) (order : List ℕ) (o : ℕ)
-    (held unsat : Bool) (total : ℕ) (T : Table) (P : Resolved t table ms (firstOf order o) held unsat total T) where
+    (held unsat : Bool) (total : ℕ) (T : ColumnTable) (P : Resolved t table ms (firstOf order o) held unsat total T) where
   abbrev a : ℕ
   a = getD order o 0
 
@@ -217,7 +217,7 @@ module _ (t : Conjuncts) (table : List ColumnConstraints) (ms ms′ : List ℕ) 
       rw p (at-a c k la new (rw p at ec) (rw p at f) (rw p at K) (rw p at ek))
 
 -- ---- writing, column by column
-pub written-none : (t : List ℕ) (used : ℕ) (order : List ℕ) (T : Table) (rs : List ℕ)
+pub written-none : (t : List ℕ) (used : ℕ) (order : List ℕ) (T : ColumnTable) (rs : List ℕ)
     → Written t used rs (comparisons payload (firstOf order 0) T) used rs
 unfolding firstOf
 written-none t used order T rs = record { end = omega arith; bytes = refl; size = refl }
@@ -271,7 +271,7 @@ same-comparisons s s′ c ek ev = go (fixedAt payload (columnOf s c .lower) (col
 
 -- ---- the same, as the code has it: c₀ is the column loaded, table′ what is stored
 pub resolved-stored : (t : Conjuncts) (table table′ : List ColumnConstraints) (ms ms′ : List ℕ) (order : List ℕ) (o : ℕ)
-    (held unsat : Bool) (total : ℕ) (T : Table) (x : ℕ) (c₀ c : ColumnConstraints) (k : ℕ)
+    (held unsat : Bool) (total : ℕ) (T : ColumnTable) (x : ℕ) (c₀ c : ColumnConstraints) (k : ℕ)
     → Resolved t table ms (firstOf order o) held unsat total T → getD order o 0 < 64
     → isIn (getD order o 0) (firstOf order o) ≡ false → x ≡ getD order o 0 % 64 → c₀ ≡ getD table x pastColumn
     → columnOf t (numbered (rowOf ms′ x) c) ≡ resolveDeferred payload (columnOf t (numbered (rowOf ms x) c₀))
@@ -294,7 +294,7 @@ pub row-asked :
     → (u ≤ 4096) × ((s′ : Conjuncts) → s′ .kinds ≡ s .kinds → s′ .values ≡ s .values
     → 16 * (u + 3 * length (collectColumnComparisons payload (columnOf s′ (numbered (rowOf ms x) c)))) ≤ length rs)
 row-asked t used order w columns s table ms sent rs u x c l la ex hc W room =
-    let T : Table = shown s table ms in
+    let T : ColumnTable = shown s table ms in
     let d : w + 1 + (columns - (w + 1)) ≡ columns = omega (arith, l) in
     let m = comparisons-more order w T in
     let n : length (comparisons payload (firstOf order (w + 1)) T) ≤ length (comparisons payload (firstOf order columns) T) =

@@ -12,7 +12,7 @@ use Rattle.constraints.specs.Resolve.{resolveDeferred}
 use Rattle.columns.specs.Abstraction.{Conjuncts, Numbered, numbered, columnOf, Fine}
 use Rattle.columns.specs.declared.column.ColumnConstraints.{ColumnConstraints}
 use Rattle.merge.specs.Classify.{classify}
-use Rattle.merge.specs.Collect.{Collected, begin, collect, isIn, addTo}
+use Rattle.merge.specs.Collect.{Table, Collected, begin, collect, isIn, addTo}
 use Rattle.merge.specs.Emit.{keptEqualities, droppedEquality, anyUnsat, comparisons}
 use Rattle.merge.specs.Passes.{passTimes, passCount}
 use Rattle.merge.specs.Propagate.{mergeEdge, edgeAny, edgeEmitted, pass, passAny, passEmitted, propagate, propagateEmitted}
@@ -21,8 +21,9 @@ use Rattle.rewrite.specs.Walk.{firstOf}
 use Rattle.stages.specs.Rows.{stride, rowOf}
 use Rattle.filter_constraint.specs.Words.{pastColumn, columnsOf}
 
-abbrev pub Table : Type 0
-Table = ℕ → q.ColumnConstraints ℕ
+-- The table of merging, of values of 64 bits.
+abbrev pub ColumnTable : Type 0
+ColumnTable = Table ℕ
 
 -- The column at place a of the array, with its row of numbers.
 abbrev pub columnAt : List ColumnConstraints → List ℕ → ℕ → Numbered
@@ -102,7 +103,7 @@ pub record EdgeMerged (t : Conjuncts) (table : List ColumnConstraints) (marks : 
   pub changes : any ≡ edgeAny payload a b T
 
 -- A pass as far as its edges es, over the table that the array stood for when it began.
-pub record Merged (t : Conjuncts) (table : List ColumnConstraints) (marks : List ℕ) (es : List (ℕ × ℕ × ℕ)) (emitted any : Bool)
+pub record EdgesMerged (t : Conjuncts) (table : List ColumnConstraints) (marks : List ℕ) (es : List (ℕ × ℕ × ℕ)) (emitted any : Bool)
     (T : ℕ → q.ColumnConstraints ℕ) : Type 0 where
   pub shows : Shows t table marks (pass payload es T)
   pub emits : emitted ≡ passEmitted payload es T
@@ -135,11 +136,11 @@ pub record Kept (table : ℕ → q.ColumnConstraints ℕ) (es : List (ℕ × ℕ
   pub drops : dropped ≡ droppedEquality payload table es
 
 -- ---- Resolve.
-abbrev pub resolveAll : Table → Table
+abbrev pub resolveAll : ColumnTable → ColumnTable
 resolveAll T a = resolveDeferred payload (T a)
 
 -- The columns of l resolved, the others not.
-abbrev pub resolvedIn : List ℕ → Table → Table
+abbrev pub resolvedIn : List ℕ → ColumnTable → ColumnTable
 resolvedIn l T a = cond (isIn a l) (resolveDeferred payload (T a)) (T a)
 
 pub record Resolved (t : Conjuncts) (table : List ColumnConstraints) (marks : List ℕ) (l : List ℕ) (held unsat : Bool) (total : ℕ)
@@ -150,7 +151,7 @@ pub record Resolved (t : Conjuncts) (table : List ColumnConstraints) (marks : Li
 
 -- ---- Write: the table that an array of resolved columns stands for, and the records' bytes with its comparisons cs
 -- written from record `used` on.
-abbrev pub shown : Conjuncts → List ColumnConstraints → List ℕ → Table
+abbrev pub shown : Conjuncts → List ColumnConstraints → List ℕ → ColumnTable
 shown t table marks a = columnOf t (columnAt table marks a)
 
 pub record Written (t : List ℕ) (used : ℕ) (sent : List ℕ) (cs : List (ℕ × ColumnComparison ℕ)) (u : ℕ)

@@ -14,7 +14,7 @@ ghost use Rattle.rewrite.specs.Told.{Told, ToldConjunct};
 ghost use Rattle.stages.specs.Columns.{ColumnsBelow};
 ghost use Rattle.stages.specs.Rows.{stride};
 ghost use Rattle.filter_constraint.specs.Words.{pastColumn, columnsOf};
-ghost use Rattle.filter_constraint.specs.State.{Table, Shows, Fits, Entered, Added, Collects, collectTo};
+ghost use Rattle.filter_constraint.specs.State.{ColumnTable, Shows, Fits, Entered, Added, Collects, collectTo};
 use crate::cells::load;
 use crate::cells::store;
 use columns::column::require_nullability;
@@ -54,7 +54,7 @@ fn enter(seen: &mut [bool], order: &mut [u32], columns: usize, a: Column) -> usi
 
 fn require_non_null(cells: &mut [u64], a: Column)
     requires { ⌜ (a .0 < 64) × (length (now cells) ≡ 512) ⌝ }
-    ensures { λ _. ⌜ ((t : Conjuncts) (marks : List ℕ) (T : Table) → Shows t (columnsOf (now (cells .entry))) marks T →
+    ensures { λ _. ⌜ ((t : Conjuncts) (marks : List ℕ) (T : ColumnTable) → Shows t (columnsOf (now (cells .entry))) marks T →
         Shows t (columnsOf (now (cells .exit))) marks (d.requireNonNull payload (a .0) T)) ⌝ }
     ensures { λ _. ⌜ length (now (cells .exit)) ≡ length (now (cells .entry)) ⌝ }
 {
@@ -80,7 +80,7 @@ fn add_to_column(
     requires { ⌜ Fits (now cells) (now marks) × (a .0 < 64) × (j < stride (now marks)) ⌝ }
     requires { ⌜ Told (conjuncts (now kinds) (now values) (now starts) (now counts) (now pool)) j (saysIn (now pool) s) ⌝ }
     ensures { λ r. ⌜ (let t = conjuncts (now (kinds .entry)) (now (values .entry)) (now (starts .entry))
-        (now (counts .entry)) (now (pool .entry)) in (T : Table) →
+        (now (counts .entry)) (now (pool .entry)) in (T : ColumnTable) →
         Shows t (columnsOf (now (cells .entry))) (now (marks .entry)) T →
         Added t (columnsOf (now (cells .exit))) (now (marks .exit)) (a .0) (saysIn (now (pool .entry)) s) r T) ⌝ }
     ensures { λ _. ⌜ length (now (cells .exit)) ≡ length (now (cells .entry)) ⌝ }

@@ -10,7 +10,7 @@ ghost use Rattle.merge.specs.Collect.{isIn};
 ghost use Rattle.merge.specs.Emit.{comparisons};
 ghost use Rattle.rewrite.specs.Walk.{firstOf};
 ghost use Rattle.filter_constraint.specs.Words.{columnsOf};
-ghost use Rattle.filter_constraint.specs.State.{Table, Shows, Fits, Keeps, edgesOf, Kept, Resolved, shown, Written};
+ghost use Rattle.filter_constraint.specs.State.{ColumnTable, Shows, Fits, Keeps, edgesOf, Kept, Resolved, shown, Written};
 use crate::cells::load;
 use crate::cells::store;
 use records::record::Column;
@@ -43,7 +43,7 @@ pub fn keep_equalities(
     requires { ⌜ (length (now cells) ≡ 512) × (edges ≤ length (now lefts)) × (edges ≤ length (now equals))
         × (keeps + edges ≤ 256) × (length (now kept) ≡ 260) ⌝ }
     requires { ⌜ ((e : ℕ) → e < edges → getD (now lefts) e 0 < 64) ⌝ }
-    ensures { λ r. ⌜ ((t : Conjuncts) (marks : List ℕ) (T : Table) (l rights : List ℕ) →
+    ensures { λ r. ⌜ ((t : Conjuncts) (marks : List ℕ) (T : ColumnTable) (l rights : List ℕ) →
         Shows t (columnsOf (now (cells .entry))) marks T → Keeps (now (kept .entry)) keeps l →
         Kept T (edgesOf (now (lefts .entry)) rights (now (equals .entry)) edges) (now (kept .exit)) (r .keeps)
         (r .dropped) l) ⌝ }
@@ -83,7 +83,7 @@ pub fn resolve_all(
     requires { ⌜ ((o : ℕ) → o < columns → (getD (now order) o 0 < 64) ×
         (isIn (getD (now order) o 0) (firstOf (now order) o) ≡ false)) ⌝ }
     ensures { λ r. ⌜ (let t = conjuncts (now (kinds .entry)) (now (values .entry)) (now (starts .entry))
-        (now (counts .entry)) (now (pool .entry)) in (T : Table) →
+        (now (counts .entry)) (now (pool .entry)) in (T : ColumnTable) →
         Shows t (columnsOf (now (cells .entry))) (now (marks .entry)) T →
         Resolved t (columnsOf (now (cells .exit))) (now (marks .exit)) (firstOf (now (order .entry)) columns)
         false (r .unsat) (r .total) T) ⌝ }

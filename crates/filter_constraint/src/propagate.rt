@@ -5,7 +5,7 @@ ghost use Prim.Native.Nat.{ℕ, _<_, _≤_};
 ghost use lib.ListN.{length};
 ghost use Rattle.columns.specs.Abstraction.{conjuncts};
 ghost use Rattle.filter_constraint.specs.Words.{columnsOf};
-ghost use Rattle.filter_constraint.specs.State.{Table, Shows, Fits, EdgesBelow, edgesOf, EdgeMerged, Merged, Spread};
+ghost use Rattle.filter_constraint.specs.State.{ColumnTable, Shows, Fits, EdgesBelow, edgesOf, EdgeMerged, EdgesMerged, Spread};
 use crate::cells::load;
 use crate::cells::store;
 use records::record::Column;
@@ -37,7 +37,7 @@ pub fn merge_edge(
 ) -> Moved
     requires { ⌜ Fits (now cells) (now marks) × (a .0 < 64) × (b .0 < 64) ⌝ }
     ensures { λ r. ⌜ (let t = conjuncts (now (kinds .entry)) (now (values .entry)) (now (starts .entry))
-        (now (counts .entry)) (now (pool .entry)) in (T : Table) →
+        (now (counts .entry)) (now (pool .entry)) in (T : ColumnTable) →
         Shows t (columnsOf (now (cells .entry))) (now (marks .entry)) T →
         EdgeMerged t (columnsOf (now (cells .exit))) (now (marks .exit)) (a .0) (b .0) (r .emitted) (r .any) T) ⌝ }
     ensures { λ _. ⌜ Fits (now (cells .exit)) (now (marks .exit)) ⌝ }
@@ -80,9 +80,9 @@ pub fn propagate_pass(
     requires { ⌜ Fits (now cells) (now marks) × (edges ≤ length (now lefts)) × (edges ≤ length (now rights)) ⌝ }
     requires { ⌜ EdgesBelow (now lefts) (now rights) edges ⌝ }
     ensures { λ r. ⌜ (let t = conjuncts (now (kinds .entry)) (now (values .entry)) (now (starts .entry))
-        (now (counts .entry)) (now (pool .entry)) in (T : Table) (equals : List ℕ) →
+        (now (counts .entry)) (now (pool .entry)) in (T : ColumnTable) (equals : List ℕ) →
         Shows t (columnsOf (now (cells .entry))) (now (marks .entry)) T →
-        Merged t (columnsOf (now (cells .exit))) (now (marks .exit))
+        EdgesMerged t (columnsOf (now (cells .exit))) (now (marks .exit))
         (edgesOf (now (lefts .entry)) (now (rights .entry)) equals edges) (r .emitted) (r .any) T) ⌝ }
     ensures { λ _. ⌜ Fits (now (cells .exit)) (now (marks .exit)) ⌝ }
 {
@@ -128,7 +128,7 @@ pub fn propagate_equalities(
     requires { ⌜ Fits (now cells) (now marks) × (edges ≤ length (now lefts)) × (edges ≤ length (now rights)) ⌝ }
     requires { ⌜ EdgesBelow (now lefts) (now rights) edges ⌝ }
     ensures { λ r. ⌜ (let t = conjuncts (now (kinds .entry)) (now (values .entry)) (now (starts .entry))
-        (now (counts .entry)) (now (pool .entry)) in (T : Table) (equals : List ℕ) →
+        (now (counts .entry)) (now (pool .entry)) in (T : ColumnTable) (equals : List ℕ) →
         Shows t (columnsOf (now (cells .entry))) (now (marks .entry)) T →
         Spread t (columnsOf (now (cells .exit))) (now (marks .exit))
         (edgesOf (now (lefts .entry)) (now (rights .entry)) equals edges) columns (r .emitted) (r .passes) T) ⌝ }

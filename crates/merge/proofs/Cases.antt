@@ -9,9 +9,9 @@ use Rattle.checking.specs.Fit.{allFit, listOk, reachOk, isBinary, servedOk, typ
 use Rattle.checking.specs.Fit.{betweenFits, memberFits, typesOk}
 use Rattle.records.specs.Operator.{operatorAt}
 use Rattle.records.specs.Record.{fieldsAt, closedAt, decode, recordAt, encode}
-use Rattle.records.specs.Shape.{knownType, inType, maxCode, isTyped, usesA, usesB, usesC, knownOk, zeroOr, unusedOk}
+use Rattle.records.specs.Shape.{knownType, inType, maxCode, uses, knownOk, zeroOr, unusedOk}
 use Rattle.records.specs.Shape.{literalOk, shapeOk}
-use Rattle.truth.specs.FromBytes.{valuesFrom, aexprOf, aexprAt, rowOf}
+use Rattle.truth.specs.FromBytes.{valuesFrom, aexprOf, aexprAt, rowKeys}
 use Rattle.merge.specs.Rewrite.{rewriteAnswer, rewriteBytes}
 use Rattle.merge.specs.Write.{splice}
 use Rattle.constraints.specs.Payload.{payload}
@@ -20,15 +20,15 @@ use Rattle.merge.specs.Cases.{starred, further, yielded, due}
 pub starred-cases : map yielded starred ≡ map due starred
 unfolding payload word valueAt all first typesKnown tableOk sizesOk meaningFault recordFault firstFault recordsAnswer
     checkAnswer upTo course allFit listOk reachOk isBinary servedOk typeOf typeAt sameType binaryFits betweenFits
-    memberFits typesOk operatorAt fieldsAt closedAt decode recordAt encode knownType inType maxCode isTyped usesA
-    usesB usesC knownOk zeroOr unusedOk literalOk shapeOk valuesFrom aexprOf aexprAt rowOf rewriteAnswer rewriteBytes
+    memberFits typesOk operatorAt fieldsAt closedAt decode recordAt encode knownType inType maxCode uses
+    knownOk zeroOr unusedOk literalOk shapeOk valuesFrom aexprOf aexprAt rowKeys rewriteAnswer rewriteBytes
     splice
 starred-cases = refl
 
 pub further-cases : map yielded further ≡ map due further
 unfolding payload word valueAt all first typesKnown tableOk sizesOk meaningFault recordFault firstFault recordsAnswer
     checkAnswer upTo course allFit listOk reachOk isBinary servedOk typeOf typeAt sameType binaryFits betweenFits
-    memberFits typesOk operatorAt fieldsAt closedAt decode recordAt encode knownType inType maxCode isTyped usesA
-    usesB usesC knownOk zeroOr unusedOk literalOk shapeOk valuesFrom aexprOf aexprAt rowOf rewriteAnswer rewriteBytes
+    memberFits typesOk operatorAt fieldsAt closedAt decode recordAt encode knownType inType maxCode uses
+    knownOk zeroOr unusedOk literalOk shapeOk valuesFrom aexprOf aexprAt rowKeys rewriteAnswer rewriteBytes
     splice
 further-cases = refl

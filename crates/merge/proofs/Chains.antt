@@ -149,7 +149,7 @@ module _ {Val : Type 0} (R : ℕ → AExpr Val) (wf : (n : ℕ) → Inputs n (R 
       go n h none b = tt
       go n h (some s) b = let x : s .0 < n = b .0 in let y : s .1 < n = b .1 in (omega arith, omega arith)
 
-module _ {K Val : Type 0} (S : Scalars K Val) (tk : TruthKeys K) (R : ℕ → AExpr Val) (wf : (n : ℕ) → Inputs n (R n))
+module _ {K Val : Type 0} (S : Scalars K Val) (tk : TruthKeys (S .order)) (R : ℕ → AExpr Val) (wf : (n : ℕ) → Inputs n (R n))
     (ρ : ℕ → Option K) where
   abbrev pub holdsAt : ℕ → Bool
   holdsAt n = isTrue (truthAt (S .key) (S .order) tk R ρ n)

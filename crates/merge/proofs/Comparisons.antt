@@ -13,28 +13,28 @@ use Rattle.merge.specs.Classify.{comparisonConstraints}
 module _ {K Val : Type 0} (S : Scalars K Val) where
   pub comparison-obeyed : (o : Comparison) (v : Val) (k : K) → obeysAll S (comparisonConstraints o v) (some k) ≡
       comparisonHolds o (S .order .cmp k (S .key v))
-  comparison-obeyed o v k = go o (S .order .view k (S .key v))
+  comparison-obeyed o v k = go o (S .total .view k (S .key v))
     where
       go : (o : Comparison) {r : Ordering} → View (S .order .less) k (S .key v) r →
           obeysAll S (comparisonConstraints o v) (some k) ≡ comparisonHolds o r
-      go Eq (is-less h) = rw (cmp-gt (S .order) h)
-      go Eq (is-equal h) = rw (cmp-eq (S .order) h, cmp-eq (S .order) (sym h))
-      go Eq (is-greater h) = rw (cmp-lt (S .order) h, cmp-gt (S .order) h)
-      go NotEq (is-less h) = rw (cmp-lt (S .order) h)
-      go NotEq (is-equal h) = rw (cmp-eq (S .order) h)
-      go NotEq (is-greater h) = rw (cmp-gt (S .order) h)
-      go Lt (is-less h) = rw (cmp-lt (S .order) h)
-      go Lt (is-equal h) = rw (cmp-eq (S .order) h)
-      go Lt (is-greater h) = rw (cmp-gt (S .order) h)
-      go LtEq (is-less h) = rw (cmp-lt (S .order) h)
-      go LtEq (is-equal h) = rw (cmp-eq (S .order) h)
-      go LtEq (is-greater h) = rw (cmp-gt (S .order) h)
-      go Gt (is-less h) = rw (cmp-gt (S .order) h)
-      go Gt (is-equal h) = rw (cmp-eq (S .order) (sym h))
-      go Gt (is-greater h) = rw (cmp-lt (S .order) h)
-      go GtEq (is-less h) = rw (cmp-gt (S .order) h)
-      go GtEq (is-equal h) = rw (cmp-eq (S .order) (sym h))
-      go GtEq (is-greater h) = rw (cmp-lt (S .order) h)
+      go Eq (is-less h) = rw (cmp-gt (S .total) h)
+      go Eq (is-equal h) = rw (cmp-eq (S .total) h, cmp-eq (S .total) (sym h))
+      go Eq (is-greater h) = rw (cmp-lt (S .total) h, cmp-gt (S .total) h)
+      go NotEq (is-less h) = rw (cmp-lt (S .total) h)
+      go NotEq (is-equal h) = rw (cmp-eq (S .total) h)
+      go NotEq (is-greater h) = rw (cmp-gt (S .total) h)
+      go Lt (is-less h) = rw (cmp-lt (S .total) h)
+      go Lt (is-equal h) = rw (cmp-eq (S .total) h)
+      go Lt (is-greater h) = rw (cmp-gt (S .total) h)
+      go LtEq (is-less h) = rw (cmp-lt (S .total) h)
+      go LtEq (is-equal h) = rw (cmp-eq (S .total) h)
+      go LtEq (is-greater h) = rw (cmp-gt (S .total) h)
+      go Gt (is-less h) = rw (cmp-gt (S .total) h)
+      go Gt (is-equal h) = rw (cmp-eq (S .total) (sym h))
+      go Gt (is-greater h) = rw (cmp-lt (S .total) h)
+      go GtEq (is-less h) = rw (cmp-gt (S .total) h)
+      go GtEq (is-equal h) = rw (cmp-eq (S .total) (sym h))
+      go GtEq (is-greater h) = rw (cmp-lt (S .total) h)
 
   pub comparison-null : (o : Comparison) (v : Val) → obeysAll S (comparisonConstraints o v) none ≡ false
   comparison-null Eq v = refl

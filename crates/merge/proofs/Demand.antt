@@ -28,6 +28,7 @@ use Rattle.records.specs.declared.record.Record.the-variants as kind
 use Rattle.checking.specs.declared.check.CheckAnswer.{CheckAnswer}
 use Rattle.checking.specs.declared.check.CheckAnswer.the-variants as check
 use Rattle.truth.specs.Halves.{ordZ, twice, key}
+use Rattle.truth.proofs.Orders.{total-z}
 use Rattle.truth.specs.declared.logic.Truth.{Truth}
 use Rattle.truth.specs.declared.logic.Truth.the-variants.{False, True}
 use Rattle.truth.specs.Logic.{isTrue}
@@ -41,14 +42,14 @@ use Rattle.constraints.specs.Values.{isEmpty}
 use Rattle.merge.specs.declared.answer.RewriteAnswer.{RewriteAnswer}
 use Rattle.merge.specs.declared.answer.RewriteAnswer.the-variants as answer
 use Rattle.merge.specs.Minterms.{minterms}
-use Rattle.merge.specs.Classify.{conjuncts}
+use Rattle.merge.specs.Classify.{readConjuncts}
 use Rattle.constraints.specs.Comparisons.{ColumnComparison}
 use Rattle.merge.specs.Emit.{mergeFilterConstraints, Outcome, Unchanged, NothingPasses, Rebuilt}
 use Rattle.merge.specs.Plain.{readsColumn, isNumberColumn, readsOnlyNumbers, plainConjuncts, plainScreen}
 use Rattle.merge.specs.Rebuild.{comparisonNodes, comparisonsEnd, foldUsed}
 use Rattle.merge.specs.Write.{writeComparisons, outcomeBytes}
 use Rattle.merge.specs.Rewrite.{outcomeOf, chainNodes, chainRoot, chainUsed, hasRoom, chainFits, outcomeAnswer}
-use Rattle.merge.specs.Rewrite.{checkedAnswer, rewriteIf, rewriteAnswer, writtenIf, rewriteBytes}
+use Rattle.merge.specs.Rewrite.{rewriteChecked, rewriteIf, rewriteAnswer, writtenIf, rewriteBytes}
 use Rattle.merge.specs.Demand as demand
 use Rattle.merge.proofs.Passes.{eqb-path, eqb-self}
 use Rattle.merge.proofs.Chains.{Below}
@@ -69,17 +70,24 @@ use Rattle.merge.proofs.Accepted.{binary-ind, inputs-fall}
 
 -- ---- The values of a screen, spelled out.
 abbrev pub payload : Scalars ℤ ℕ
-payload = record { key = key; order = ordZ; opened = λ held excluded. excluded; opened-key = λ held excluded. refl }
+payload =
+    record {
+      key = key;
+      order = ordZ;
+      total = total-z;
+      opened = λ held excluded. excluded;
+      opened-key = λ held excluded. refl;
+    }
 
 payload-is : values.payload ≡ payload
 unfolding values.payload
 payload-is = refl
 
 abbrev pub merged : List ℕ → List ℕ → ℕ → ℕ → Outcome ℕ
-merged rs p used root = mergeFilterConstraints payload (conjuncts (aexprAt rs p used) root)
+merged rs p used root = mergeFilterConstraints payload (readConjuncts (aexprAt rs p used) root)
 
 pub merged-is : (rs p : List ℕ) (used root : ℕ) → outcomeOf rs p used root ≡ merged rs p used root
-merged-is rs p used root = ap (λ S. mergeFilterConstraints S (conjuncts (aexprAt rs p used) root)) payload-is
+merged-is rs p used root = ap (λ S. mergeFilterConstraints S (readConjuncts (aexprAt rs p used) root)) payload-is
 
 -- ---- The keys of 64-bit values leave room between them.
 pub halves : HalfPoints payload
@@ -405,8 +413,8 @@ settled t rs p used root h =
     inner false false h = refl
 
     go :
-        (c : CheckAnswer) → demand.isRefused (rewriteIf c (checkedAnswer t rs p used root)) ≡ false →
-        (c ≡ check.Accepted) × (rewriteIf c (checkedAnswer t rs p used root) ≡ x)
+        (c : CheckAnswer) → demand.isRefused (rewriteIf c (rewriteChecked t rs p used root)) ≡ false →
+        (c ≡ check.Accepted) × (rewriteIf c (rewriteChecked t rs p used root) ≡ x)
     go (check.Refused k) h = absurd (true≢false h)
     go check.Accepted h =
         (refl, inner (ltb 4096 (treeCount rs root)) (ltb 128 (length (minterms (aexprAt rs p used) root))) h)

@@ -9,7 +9,7 @@ use lib.ListN.{length, getD}
 use borrow.Author.Tests.{lt-ltb, eq-eqb, ltb-true, ltb-false, leb-true}
 use Rattle.records.specs.Bytes.{all}
 use Rattle.records.specs.Record.{node, fieldsAt, decode, recordAt, encode}
-use Rattle.records.specs.Shape.{knownType, inType, maxCode, isTyped, usesA, usesB, usesC, knownOk, zeroOr, unusedOk}
+use Rattle.records.specs.Shape.{knownType, inType, maxCode, uses, knownOk, zeroOr, unusedOk}
 use Rattle.records.specs.Shape.{literalOk, shapeOk}
 use Rattle.records.specs.declared.record.Node.{Node}
 use Rattle.records.specs.declared.record.Record.{Record}
@@ -173,7 +173,7 @@ put-extends t rs p u r room h new =
 
 -- ---- The four records that a rebuilt chain writes.
 column-new : (t rs p : List ℕ) (u c : ℕ) → c < length t → c < 4294967296 → New t rs p u (columnRecord c)
-unfolding encode shapeOk knownOk unusedOk literalOk maxCode isTyped zeroOr usesA usesB usesC reachOk servedOk typesOk
+unfolding encode shapeOk knownOk unusedOk literalOk maxCode zeroOr uses reachOk servedOk typesOk
 column-new t rs p u c h w =
     record {
       words = column-words c w;
@@ -186,7 +186,7 @@ column-new t rs p u c h w =
 literal-new :
     (t rs p : List ℕ) (u ty v : ℕ) → knownType ty ≡ true → inType ty v ≡ true → v < 18446744073709551616 →
     New t rs p u (literalRecord ty v)
-unfolding encode shapeOk knownOk unusedOk literalOk maxCode isTyped zeroOr usesA usesB usesC reachOk servedOk typesOk
+unfolding encode shapeOk knownOk unusedOk literalOk maxCode zeroOr uses reachOk servedOk typesOk
 literal-new t rs p u ty v known h w =
     let e : v % 4294967296 + 4294967296 * (v / 4294967296) ≡ v = omega arith in
     record {
@@ -206,7 +206,7 @@ comparison-new :
     (t rs p : List ℕ) (u : ℕ) (o : Comparison) (x y ty : ℕ) → x < u → y < u → u < 4294967296 →
     knownType ty ≡ true → typeAt t rs (node x) ≡ ty → typeAt t rs (node y) ≡ ty →
     New t rs p u (comparisonRecord o x y)
-unfolding encode shapeOk knownOk unusedOk literalOk maxCode isTyped zeroOr usesA usesB usesC reachOk servedOk typesOk
+unfolding encode shapeOk knownOk unusedOk literalOk maxCode zeroOr uses reachOk servedOk typesOk
     binaryFits sameType
 comparison-new t rs p u o x y ty i j small known a b =
     record {
@@ -250,7 +250,7 @@ comparison-new t rs p u o x y ty i j small known a b =
 and-new :
     (t rs p : List ℕ) (u x y : ℕ) → x < u → y < u → u < 4294967296 → typeAt t rs (node x) ≡ 3 →
     typeAt t rs (node y) ≡ 3 → New t rs p u (andRecord x y)
-unfolding encode shapeOk knownOk unusedOk literalOk maxCode isTyped zeroOr usesA usesB usesC reachOk servedOk typesOk
+unfolding encode shapeOk knownOk unusedOk literalOk maxCode zeroOr uses reachOk servedOk typesOk
     binaryFits
 and-new t rs p u x y i j small a b =
     record {

@@ -13,7 +13,7 @@ use Rattle.truth.specs.AExpr.{BinaryOp, Compare, EqValidity, NotEqValidity, And
 use Rattle.constraints.specs.Scalars.{Scalars}
 use Rattle.merge.specs.Minterms.{minterms}
 use Rattle.merge.specs.Classify.{Operand, AColumn, ALiteral, AList, Other, operand, classify}
-use Rattle.merge.specs.Classify.{comparisonConstraints, conjuncts, swapComparison}
+use Rattle.merge.specs.Classify.{comparisonConstraints, readConjuncts, swapComparison}
 use Rattle.merge.specs.Emit.{mergeFilterConstraints}
 use Rattle.merge.proofs.Forms.{ReadForms, read-ind}
 use Rattle.merge.proofs.Literals.{Alike, ConjunctP, ConjunctsP, ConstraintsP, OutcomeP, merge-p}
@@ -114,8 +114,8 @@ module _ {K Val : Type 0} (S : Scalars K Val) (P : ℕ → Val → Type 0)
         lines-p l,
       )
 
-      pub records-p : (root : ℕ) → OutcomeP S P opens (mergeFilterConstraints S (conjuncts R root))
-      records-p root = merge-p S P opens (conjuncts R root) (lines-p (minterms R root))
+      pub records-p : (root : ℕ) → OutcomeP S P opens (mergeFilterConstraints S (readConjuncts R root))
+      records-p root = merge-p S P opens (readConjuncts R root) (lines-p (minterms R root))
 
 -- ---- What is asked of columns and of literals apart.
 module _ {K Val : Type 0} (S : Scalars K Val) (P : Val → Type 0) (opens : (w e : Val) → P w → P e → P (S .opened w e))
@@ -194,5 +194,5 @@ module _ {K Val : Type 0} (S : Scalars K Val) (P : Val → Type 0) (opens : (w e
     both-record (IsIn e x y) = tt
     both-record Missing = tt
 
-    pub outcome-p : (root : ℕ) → OutcomeP S Both both-opens (mergeFilterConstraints S (conjuncts R root))
+    pub outcome-p : (root : ℕ) → OutcomeP S Both both-opens (mergeFilterConstraints S (readConjuncts R root))
     outcome-p root = records-p S Both both-opens R (λ n. both-record (R n)) root

@@ -11,10 +11,10 @@ use Rattle.truth.specs.FromBytes.{valuesFrom, aexprOf, aexprAt}
 use Rattle.constraints.specs.declared.column.Nullability.the-variants.{NonNull}
 use Rattle.constraints.specs.declared.column.Nullability.the-variants as required
 use Rattle.constraints.specs.Column.{Constraint, Lower, Upper, Exclude, Allow, Disallow, Require}
-use Rattle.merge.specs.Classify.{Conjunct, Bounds, Equality, Recorded, NonNullPair, Opaque, conjuncts}
+use Rattle.merge.specs.Classify.{Conjunct, Bounds, Equality, Recorded, NonNullPair, Opaque, readConjuncts}
 use Rattle.merge.specs.Plain.{plainScreen}
 use Rattle.merge.specs.Write.{fieldBytes}
-use Rattle.merge.specs.Cases.{column, binary, negation, isNull, isIn, between}
+use Rattle.merge.specs.Cases.{column, binary, negation, isNull, membership, between}
 
 abbrev literal : ℕ → List ℕ
 literal v = fieldBytes (fields 2 0 1 0 (v % 4294967296) (v / 4294967296))
@@ -126,54 +126,54 @@ table =
     -- is_between(3, 3, 5)
     ∷ reading false (literal 3 ++ literal 5 ++ between 0 0 0 1) [] 3 2 (Opaque 2 ∷ [])
     -- is_in(c0, [1, 2])
-    ∷ reading true (column 0 ++ list 0 0 2 ++ isIn 0 0 1)
+    ∷ reading true (column 0 ++ list 0 0 2 ++ membership 0 0 1)
     (1 ∷ 0 ∷ 0 ∷ 0 ∷ 0 ∷ 0 ∷ 0 ∷ 0 ∷ 2 ∷ 0 ∷ 0 ∷ 0 ∷ 0 ∷ 0 ∷ 0 ∷ 0 ∷
     []) 3 2 (Recorded false 2 0 (Allow (1 ∷ 2 ∷ []) ∷ []) ∷ [])
     -- is_in(c0, [2])
-    ∷ reading true (column 0 ++ list 0 1 1 ++ isIn 0 0 1)
+    ∷ reading true (column 0 ++ list 0 1 1 ++ membership 0 0 1)
     (1 ∷ 0 ∷ 0 ∷ 0 ∷ 0 ∷ 0 ∷ 0 ∷ 0 ∷ 2 ∷ 0 ∷ 0 ∷ 0 ∷ 0 ∷ 0 ∷ 0 ∷ 0 ∷
     []) 3 2 (Recorded false 2 0 (Allow (2 ∷ []) ∷ []) ∷ [])
     -- is_in(c0, [1, null])
-    ∷ reading false (column 0 ++ list 1 0 1 ++ isIn 0 0 1)
+    ∷ reading false (column 0 ++ list 1 0 1 ++ membership 0 0 1)
     (1 ∷ 0 ∷ 0 ∷ 0 ∷ 0 ∷ 0 ∷ 0 ∷ 0 ∷ 2 ∷ 0 ∷ 0 ∷ 0 ∷ 0 ∷ 0 ∷ 0 ∷ 0 ∷
     []) 3 2 (Opaque 2 ∷ [])
     -- Not is_in(c0, [1, 2])
-    ∷ reading true (column 0 ++ list 0 0 2 ++ isIn 0 0 1 ++ negation 2)
+    ∷ reading true (column 0 ++ list 0 0 2 ++ membership 0 0 1 ++ negation 2)
     (1 ∷ 0 ∷ 0 ∷ 0 ∷ 0 ∷ 0 ∷ 0 ∷ 0 ∷ 2 ∷ 0 ∷ 0 ∷ 0 ∷ 0 ∷ 0 ∷ 0 ∷ 0 ∷ []) 4 3
     (Recorded false 3 0 (Disallow true (1 ∷ 2 ∷ []) ∷ []) ∷ [])
     -- Not is_in(c0, [1, null])
-    ∷ reading false (column 0 ++ list 1 0 1 ++ isIn 0 0 1 ++ negation 2)
+    ∷ reading false (column 0 ++ list 1 0 1 ++ membership 0 0 1 ++ negation 2)
     (1 ∷ 0 ∷ 0 ∷ 0 ∷ 0 ∷ 0 ∷ 0 ∷ 0 ∷ 2 ∷ 0 ∷ 0 ∷ 0 ∷ 0 ∷ 0 ∷ 0 ∷ 0 ∷ []) 4 3 (Opaque 3 ∷ [])
     -- is_in(c0, [1, 2]) with nulls_equal
-    ∷ reading true (column 0 ++ list 0 0 2 ++ isIn 1 0 1)
+    ∷ reading true (column 0 ++ list 0 0 2 ++ membership 1 0 1)
     (1 ∷ 0 ∷ 0 ∷ 0 ∷ 0 ∷ 0 ∷ 0 ∷ 0 ∷ 2 ∷ 0 ∷ 0 ∷ 0 ∷ 0 ∷ 0 ∷ 0 ∷ 0 ∷
     []) 3 2 (Recorded false 2 0 (Allow (1 ∷ 2 ∷ []) ∷ []) ∷ [])
     -- is_in(c0, [2]) with nulls_equal
-    ∷ reading true (column 0 ++ list 0 1 1 ++ isIn 1 0 1)
+    ∷ reading true (column 0 ++ list 0 1 1 ++ membership 1 0 1)
     (1 ∷ 0 ∷ 0 ∷ 0 ∷ 0 ∷ 0 ∷ 0 ∷ 0 ∷ 2 ∷ 0 ∷ 0 ∷ 0 ∷ 0 ∷ 0 ∷ 0 ∷ 0 ∷
     []) 3 2 (Recorded false 2 0 (Allow (2 ∷ []) ∷ []) ∷ [])
     -- is_in(c0, [1, null]) with nulls_equal
-    ∷ reading false (column 0 ++ list 1 0 1 ++ isIn 1 0 1)
+    ∷ reading false (column 0 ++ list 1 0 1 ++ membership 1 0 1)
     (1 ∷ 0 ∷ 0 ∷ 0 ∷ 0 ∷ 0 ∷ 0 ∷ 0 ∷ 2 ∷ 0 ∷ 0 ∷ 0 ∷ 0 ∷ 0 ∷ 0 ∷ 0 ∷
     []) 3 2 (Opaque 2 ∷ [])
     -- Not is_in(c0, [1, 2]) with nulls_equal
-    ∷ reading true (column 0 ++ list 0 0 2 ++ isIn 1 0 1 ++ negation 2)
+    ∷ reading true (column 0 ++ list 0 0 2 ++ membership 1 0 1 ++ negation 2)
     (1 ∷ 0 ∷ 0 ∷ 0 ∷ 0 ∷ 0 ∷ 0 ∷ 0 ∷ 2 ∷ 0 ∷ 0 ∷ 0 ∷ 0 ∷ 0 ∷ 0 ∷ 0 ∷ []) 4 3
     (Recorded false 3 0 (Disallow false (1 ∷ 2 ∷ []) ∷ []) ∷ [])
     -- Not is_in(c0, [1, null]) with nulls_equal
-    ∷ reading false (column 0 ++ list 1 0 1 ++ isIn 1 0 1 ++ negation 2)
+    ∷ reading false (column 0 ++ list 1 0 1 ++ membership 1 0 1 ++ negation 2)
     (1 ∷ 0 ∷ 0 ∷ 0 ∷ 0 ∷ 0 ∷ 0 ∷ 0 ∷ 2 ∷ 0 ∷ 0 ∷ 0 ∷ 0 ∷ 0 ∷ 0 ∷ 0 ∷ []) 4 3 (Opaque 3 ∷ [])
     -- is_in(c0, []): the column enters
-    ∷ reading true (column 0 ++ list 0 0 0 ++ isIn 0 0 1) [] 3 2 (Recorded false 2 0 (Allow [] ∷ []) ∷ [])
+    ∷ reading true (column 0 ++ list 0 0 0 ++ membership 0 0 1) [] 3 2 (Recorded false 2 0 (Allow [] ∷ []) ∷ [])
     -- is_in(c0, 100 values)
-    ∷ reading true (column 0 ++ list 0 0 100 ++ isIn 0 0 1) [] 3 2
+    ∷ reading true (column 0 ++ list 0 0 100 ++ membership 0 0 1) [] 3 2
     (Recorded false 2 0 (Allow (valuesFrom [] 0 100) ∷ []) ∷ [])
     -- is_in(c0, 101 values)
-    ∷ reading false (column 0 ++ list 0 0 101 ++ isIn 0 0 1) [] 3 2 (Opaque 2 ∷ [])
+    ∷ reading false (column 0 ++ list 0 0 101 ++ membership 0 0 1) [] 3 2 (Opaque 2 ∷ [])
     -- Not is_in(c0, 101 values)
-    ∷ reading false (column 0 ++ list 0 0 101 ++ isIn 0 0 1 ++ negation 2) [] 4 3 (Opaque 3 ∷ [])
+    ∷ reading false (column 0 ++ list 0 0 101 ++ membership 0 0 1 ++ negation 2) [] 4 3 (Opaque 3 ∷ [])
     -- is_in(3, [1])
-    ∷ reading false (literal 3 ++ list 0 0 1 ++ isIn 0 0 1)
+    ∷ reading false (literal 3 ++ list 0 0 1 ++ membership 0 0 1)
     (1 ∷ 0 ∷ 0 ∷ 0 ∷ 0 ∷ 0 ∷ 0 ∷ 0 ∷ 2 ∷ 0 ∷ 0 ∷ 0 ∷ 0 ∷ 0 ∷ 0 ∷ 0 ∷
     []) 3 2 (Opaque 2 ∷ [])
     -- is_null(c0)
@@ -218,7 +218,7 @@ table =
     ∷ []
 
 abbrev read : Reading → List (Conjunct ℕ)
-read r = conjuncts (aexprAt (r .records) (r .pool) (r .used)) (r .root)
+read r = readConjuncts (aexprAt (r .records) (r .pool) (r .used)) (r .root)
 
 abbrev due : Reading → List (Conjunct ℕ)
 due r = r .expected

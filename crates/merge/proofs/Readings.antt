@@ -107,14 +107,14 @@ not-of false = refl
 iff-of : (a b : Bool) → a ≡ b → (a ≡ true) ↔ (b ≡ true)
 iff-of a b e = (λ h. sym e ∙ h, λ h. e ∙ h)
 
-module _ {K Val : Type 0} (S : Scalars K Val) (tk : TruthKeys K) where
+module _ {K Val : Type 0} (S : Scalars K Val) (tk : TruthKeys (S .order)) where
   cmp-flip : (a b : K) → S .order .cmp b a ≡ flip (S .order .cmp a b)
-  cmp-flip a b = go (S .order .view a b)
+  cmp-flip a b = go (S .total .view a b)
     where
       go : {o : Ordering} → View (S .order .less) a b o → S .order .cmp b a ≡ flip o
-      go (is-less h) = cmp-gt (S .order) h
-      go (is-equal e) = cmp-eq (S .order) (sym e)
-      go (is-greater h) = cmp-lt (S .order) h
+      go (is-less h) = cmp-gt (S .total) h
+      go (is-equal e) = cmp-eq (S .total) (sym e)
+      go (is-greater h) = cmp-lt (S .total) h
 
   -- ---- each kind, over a value
   pub compare-swap : (o : Comparison) (x y : Option K) → compare3 (S .key) (S .order) tk o x y ≡
@@ -205,9 +205,9 @@ module _ {K Val : Type 0} (S : Scalars K Val) (tk : TruthKeys K) where
   eq-mean none y = (λ h. absurd (true≢false (sym h)), λ s. absurd (Option·none-ne-some (s .0) (s .1)))
   eq-mean (some a) none = (λ h. absurd (true≢false (sym h)), λ s. absurd (Option·none-ne-some (s .0) (s .2)))
   eq-mean (some a) (some b) = (
-    λ h. fwd (S .order .view a b) (sym (true-of (isEqual (S .order .cmp a b))) ∙ h),
+    λ h. fwd (S .total .view a b) (sym (true-of (isEqual (S .order .cmp a b))) ∙ h),
     λ s. ap (λ r. isTrue (ofBool (isEqual r)))
-        (cmp-eq (S .order) (Option·some-injective a (s .0) (s .1) ∙ sym (Option·some-injective b (s .0) (s .2)))),
+        (cmp-eq (S .total) (Option·some-injective a (s .0) (s .1) ∙ sym (Option·some-injective b (s .0) (s .2)))),
   )
     where
       fwd : {r : Ordering} → View (S .order .less) a b r → isEqual r ≡ true →
@@ -230,7 +230,7 @@ Names n (Recorded z m c l) = m ≡ n
 Names n (NonNullPair m a b) = m ≡ n
 Names n (Opaque m) = m ≡ n
 
-module _ {K Val : Type 0} (S : Scalars K Val) (H : HalfPoints S) (tk : TruthKeys K) (R : ℕ → AExpr Val)
+module _ {K Val : Type 0} (S : Scalars K Val) (H : HalfPoints S) (tk : TruthKeys (S .order)) (R : ℕ → AExpr Val)
     (wf : (n : ℕ) → Inputs n (R n)) (ρ : ℕ → Option K) where
   abbrev pub N : ℕ → Bool
   N n = holdsAt S tk R wf ρ n

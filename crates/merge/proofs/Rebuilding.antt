@@ -75,7 +75,7 @@ wf-put R u r w i n = go (eqb n u) refl
     go true e = subst (λ m. Inputs m r) (sym (eqb-path n u e)) i
     go false e = w n
 
-module _ {K Val : Type 0} (S : Scalars K Val) (tk : TruthKeys K) (ρ : ℕ → Option K) where
+module _ {K Val : Type 0} (S : Scalars K Val) (tk : TruthKeys (S .order)) (ρ : ℕ → Option K) where
   abbrev pub holds : (ℕ → AExpr Val) → ℕ → Bool
   holds R n = isTrue (truthAt (S .key) (S .order) tk R ρ n)
 

@@ -23,7 +23,7 @@ use Rattle.merge.proofs.Sound.{and-both, keptBy}
 use Rattle.merge.proofs.Whole.{Keeps, is-true, outcome, outcome-keeps}
 use Rattle.merge.proofs.Witness.{HalfPoints}
 use Rattle.merge.specs.Classify.{Bounds, Conjunct, Equality, NonNullPair, Opaque, Recorded, classify}
-use Rattle.merge.specs.Classify.{conjuncts}
+use Rattle.merge.specs.Classify.{readConjuncts}
 use Rattle.merge.specs.Collect.{Collected, Table, begin, collect, collectOne}
 use Rattle.merge.specs.Emit.{NothingPasses, Outcome, Rebuilt, Unchanged, anyUnsat, comparisons, conclude}
 use Rattle.merge.specs.Emit.{droppedEquality, keptEqualities, mergeFilterConstraints}
@@ -107,7 +107,7 @@ module _ {K Val : Type 0} (S : Scalars K Val) (N : ℕ → Type 0) where
   names-has n (NonNullPair m a b) h e = subst N (sym e) h
   names-has n (Opaque m) h e = subst N (sym e) h
 
-  lines-have : (H : HalfPoints S) (tk : TruthKeys K) (R : ℕ → AExpr Val) (wf : WF R) (l : List ℕ) → Every N l →
+  lines-have : (H : HalfPoints S) (tk : TruthKeys (S .order)) (R : ℕ → AExpr Val) (wf : WF R) (l : List ℕ) → Every N l →
       NodesHave (map (classify R) l)
   lines-have H tk R wf [] b = tt
   lines-have H tk R wf (n ∷ l) b = (
@@ -116,21 +116,21 @@ module _ {K Val : Type 0} (S : Scalars K Val) (N : ℕ → Type 0) where
   )
 
   -- the kept nodes have what all conjuncts have
-  pub kept-have : (H : HalfPoints S) (tk : TruthKeys K) (R : ℕ → AExpr Val) (wf : WF R) (root : ℕ) →
+  pub kept-have : (H : HalfPoints S) (tk : TruthKeys (S .order)) (R : ℕ → AExpr Val) (wf : WF R) (root : ℕ) →
       Every N (minterms R root) → KeptHave (outcome S H tk R wf root)
-  kept-have H tk R wf root h = merge-has (conjuncts R root) (lines-have H tk R wf (minterms R root) h)
+  kept-have H tk R wf root h = merge-has (readConjuncts R root) (lines-have H tk R wf (minterms R root) h)
 
 -- the kept nodes are below u
 abbrev pub AnswerLt : {K Val : Type 0} → Scalars K Val → ℕ → Outcome Val → Type 0
 AnswerLt S u o = KeptHave S (λ n. n < u) o
 
 module _ {K Val : Type 0} (S : Scalars K Val) (u : ℕ) where
-  pub answer-lt : (H : HalfPoints S) (tk : TruthKeys K) (R : ℕ → AExpr Val) (wf : WF R) (root : ℕ) → root < u →
+  pub answer-lt : (H : HalfPoints S) (tk : TruthKeys (S .order)) (R : ℕ → AExpr Val) (wf : WF R) (root : ℕ) → root < u →
       AnswerLt S u (outcome S H tk R wf root)
   answer-lt H tk R wf root h = kept-have S (λ n. n < u) H tk R wf root
       (below-more (suc root) u (minterms R root) (omega arith) (minterms-low R wf root))
 
-module _ {K Val : Type 0} (S : Scalars K Val) (H : HalfPoints S) (tk : TruthKeys K) (nay : Val)
+module _ {K Val : Type 0} (S : Scalars K Val) (H : HalfPoints S) (tk : TruthKeys (S .order)) (nay : Val)
     (nay-no : truthOfValue (S .key) (S .order) tk (some (S .key nay)) ≡ False) (R : ℕ → AExpr Val) (wf : WF R)
     (used : ℕ) where
   abbrev pub returned : ℕ → Outcome Val → Built Val

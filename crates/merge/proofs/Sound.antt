@@ -9,6 +9,7 @@ use Prim.Native.Nat.{ℕ, zero}
 use native.Mathlib.Omega.{arith}
 use lib.Dec.{eqb, ltb}
 use lib.ListN.{length}
+use Rattle.records.proofs.Laws.{and-left}
 use Rattle.constraints.proofs.Bounds.{SameBound, same-clears, same-of-still}
 use Rattle.constraints.proofs.Columns.{add-is-intersection, addAll-emitted, addAll-is-intersection, addAll-live}
 use Rattle.constraints.proofs.Columns.{addAll-recorded, admits, admitsEmitted, admitsRecorded, obeys, obeysAll}
@@ -399,9 +400,6 @@ module _ {K Val : Type 0} (S : Scalars K Val) where
           λ c x y. g .min c (h .alive c x) (h .min c x y);
     }
 
-    fst-true : (a b : Bool) → (a && b) ≡ true → a ≡ true
-    fst-true a b h = and-eq-true-iff a b .0 h .0
-
     abbrev pub Tighter : Table Val → Table Val → Type 0
     Tighter t u = (c : ℕ) → (u c .unsat ≡ false → t c .unsat ≡ false) ×
         (u c .unsat ≡ false → admitsEmitted S (u c) (ρ c) ≡ true → admitsEmitted S (t c) (ρ c) ≡ true) ×
@@ -413,9 +411,9 @@ module _ {K Val : Type 0} (S : Scalars K Val) where
         (q .unsat ≡ false → admitsRecorded S q (ρ d) ≡ true → admitsRecorded S (t d) (ρ d) ≡ true)) t c
         (addAll S l (t c)) (λ d. (λ h. h, λ f h. h, λ f h. h)) (
           λ h. addAll-live S l (t c) h,
-          λ f h. fst-true (admitsEmitted S (t c) (ρ c)) (obeysEmittedAll S l (ρ c))
+          λ f h. and-left (admitsEmitted S (t c) (ρ c)) (obeysEmittedAll S l (ρ c))
               (sym (addAll-emitted S l (t c) (ρ c) f) ∙ h),
-          λ f h. fst-true (admitsRecorded S (t c) (ρ c))
+          λ f h. and-left (admitsRecorded S (t c) (ρ c))
               (obeysRecordedAll S l (ρ c)) (sym (addAll-recorded S l (t c) (ρ c) f) ∙ h),
         )
 
@@ -551,7 +549,7 @@ module _ {K Val : Type 0} (S : Scalars K Val) where
         go (inl z) p = absurd (true≢false
             (sym (and-both (clears S (q .lower) k) (clears (opposite S) (q .upper) k)
             (same-clears S (q .lower) (r .lower) sl k ∙ p .0) (same-clears (opposite S) (q .upper) (r .upper) su k ∙
-            fst-true (clears (opposite S) (r .upper) k) (not (contains S k (r .excluded))) (p .1))) ∙ z))
+            and-left (clears (opposite S) (r .upper) k) (not (contains S k (r .excluded))) (p .1))) ∙ z))
         go (inr p) h = ap some p
 
     same-self : (P : Scalars K Val) (a : Bound Val) → SameBound P a a
@@ -678,7 +676,7 @@ module _ {K Val : Type 0} (S : Scalars K Val) where
           nodes-app (s .opaque) (keptEqualities S (propagated S s) (s .edges)) .1
               (k .0, kept-of (propagated S s) (s .edges) (k .1)),
           comparisons-true (s .order) (resolved S s) .1
-              (λ c j. comparisons-resolved s c ∙ fst-true (admitsEmitted S (resolved S s c) (ρ c))
+              (λ c j. comparisons-resolved s c ∙ and-left (admitsEmitted S (resolved S s c) (ρ c))
               (admitsRecorded S (resolved S s c) (ρ c))
               (live-of (resolved S s c .unsat)
               (admitsEmitted S (resolved S s c) (ρ c) && admitsRecorded S (resolved S s c) (ρ c)) (fin h c) .1)),

@@ -13,7 +13,7 @@ use borrow.Author.Tests.{leb-true}
 use Rattle.records.specs.Bytes.{valueAt, all}
 use Rattle.records.specs.Shape.{inType}
 use Rattle.truth.specs.Halves.{key}
-use Rattle.truth.specs.FromBytes.{nullMarked, rowOf}
+use Rattle.truth.specs.FromBytes.{nullMarked, rowKeys}
 use Rattle.truth.specs.RowTest.{columnOk, columnsOk, marksOk, rowFault}
 use Rattle.merge.specs.Plain.{isNumberColumn}
 use Rattle.merge.specs.Demand.{IsRow, NullOrTruth}
@@ -40,8 +40,8 @@ one-column ty v true n h = tt
 one-column ty v false n h = truth-key v (of-truth ty v n h)
 
 -- 12 and 13 are not given: the row's values and null marks make a row of demand 3.
-pub tested-rows : (t row : List ℕ) (nulls : ℕ) → rowFault t row nulls ≡ 0 → IsRow t (rowOf row nulls)
-unfolding rowFault columnsOk rowOf
+pub tested-rows : (t row : List ℕ) (nulls : ℕ) → rowFault t row nulls ≡ 0 → IsRow t (rowKeys row nulls)
+unfolding rowFault columnsOk rowKeys
 tested-rows t row nulls h c l n =
     one-column (getD t c 0) (valueAt row c) (nullMarked nulls c) n
     (all-holds fits c (length t) l (ok (eqb (length row) (8 * length t)) (marksOk (length t) nulls) (all fits (length t))

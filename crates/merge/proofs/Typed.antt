@@ -46,7 +46,7 @@ or-right : (a b : Bool) → b ≡ true → (a || b) ≡ true
 or-right true b h = refl
 or-right false b h = h
 
-module _ {K Val : Type 0} (S : Scalars K Val) (tk : TruthKeys K) (R : ℕ → AExpr Val) (wf : WF R) (ρ σ : ℕ → Option K)
+module _ {K Val : Type 0} (S : Scalars K Val) (tk : TruthKeys (S .order)) (R : ℕ → AExpr Val) (wf : WF R) (ρ σ : ℕ → Option K)
   where
     abbrev Er : ℕ → Cell K Val
     Er n = cellAt (S .key) (S .order) tk R ρ n
@@ -98,7 +98,7 @@ module _ {K Val : Type 0} (S : Scalars K Val) (tk : TruthKeys K) (R : ℕ → AE
     pub reads-only : (n : ℕ) → Agree (readsColumn R n) → Er n ≡ Es n
     reads-only n a = reads-under (suc n) n (omega arith) a
 
-module _ {K Val : Type 0} (S : Scalars K Val) (H : HalfPoints S) (tk : TruthKeys K) (num : ℕ → Bool) where
+module _ {K Val : Type 0} (S : Scalars K Val) (H : HalfPoints S) (tk : TruthKeys (S .order)) (num : ℕ → Bool) where
   abbrev pub OneOfTwo : Option K → Type 0
   OneOfTwo none = Unit {0}
   OneOfTwo (some k) = (k ≡ tk .falseKey) ⊎ (k ≡ tk .trueKey)

@@ -19,7 +19,7 @@ use Rattle.truth.specs.declared.logic.Truth.the-variants.{False, Unknown, True}
 use Rattle.truth.specs.declared.test.RowAnswer.{RowAnswer}
 use Rattle.truth.specs.declared.test.RowAnswer.the-variants as row
 use Rattle.truth.specs.Logic.{isTrue}
-use Rattle.truth.specs.FromBytes.{aexprAt, rowOf, truthIn}
+use Rattle.truth.specs.FromBytes.{aexprAt, rowKeys, truthIn}
 use Rattle.truth.specs.RowTest.{rowFault, testRowAnswer}
 use Rattle.truth.specs.RowTest as test
 use Rattle.constraints.specs.Comparisons.{ColumnComparison}
@@ -190,7 +190,7 @@ rowAnswer fault x = cond (eqb fault 0) (row.Tested x) (row.Refused fault)
 usable-test :
     (t rs p : List ℕ) (used root : ℕ) (values : List ℕ) (nulls : ℕ) → Usable t rs p used root →
     testRowAnswer t rs p used root values nulls
-    ≡ rowAnswer (rowFault t values nulls) (truthIn (aexprAt rs p used) (rowOf values nulls) root)
+    ≡ rowAnswer (rowFault t values nulls) (truthIn (aexprAt rs p used) (rowKeys values nulls) root)
 unfolding testRowAnswer test.checkedAnswer
 usable-test t rs p used root values nulls u = rw (u .accepted, le-ltb 4096 (treeCount rs root) (u .tree))
 
@@ -231,11 +231,11 @@ returned-tests-same t rs p used root bytes h values nulls =
     let u = both-usable t rs p used root bytes h in
     subst (λ s. SameTest s (testRowAnswer t out p newUsed newRoot values nulls))
     (sym (usable-test t rs p used root values nulls (u .0)))
-    (subst (SameTest (rowAnswer fault (truthIn (aexprAt rs p used) (rowOf values nulls) root)))
+    (subst (SameTest (rowAnswer fault (truthIn (aexprAt rs p used) (rowKeys values nulls) root)))
     (sym (usable-test t out p newUsed newRoot values nulls (u .1)))
-    (same-test fault (truthIn (aexprAt rs p used) (rowOf values nulls) root)
-    (truthIn (aexprAt out p newUsed) (rowOf values nulls) newRoot)
-    (λ e. demand-3 t rs p used root bytes h .rows (rowOf values nulls) (tested-rows t values nulls e))))
+    (same-test fault (truthIn (aexprAt rs p used) (rowKeys values nulls) root)
+    (truthIn (aexprAt out p newUsed) (rowKeys values nulls) newRoot)
+    (λ e. demand-3 t rs p used root bytes h .rows (rowKeys values nulls) (tested-rows t values nulls e))))
   where
     out : List ℕ
     out = rewriteBytes t rs p used root

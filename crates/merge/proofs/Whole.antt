@@ -16,7 +16,7 @@ use Rattle.merge.proofs.Complete.{ExactAll, isNothingPasses, nothing-ex
 use Rattle.merge.proofs.Readings.{classified-rightly}
 use Rattle.merge.proofs.Sound.{FairAll, HoldsAll, NodesTrue, Sound, WrittenTrue, and-both, merge-is-sound}
 use Rattle.merge.proofs.Witness.{HalfPoints}
-use Rattle.merge.specs.Classify.{conjuncts, classify}
+use Rattle.merge.specs.Classify.{readConjuncts, classify}
 use Rattle.merge.specs.Emit.{NothingPasses, Outcome, Rebuilt, Unchanged, mergeFilterConstraints}
 use Rattle.merge.specs.Minterms.{minterms}
 use Rattle.merge.proofs.PlainForms.{plainConjunct, plainConjuncts}
@@ -26,7 +26,7 @@ is-true False = (λ h. absurd (true≢false (sym h)), λ h. ap isTrue h)
 is-true Unknown = (λ h. absurd (true≢false (sym h)), λ h. ap isTrue h)
 is-true True = (λ h. refl, λ h. refl)
 
-module _ {K Val : Type 0} (S : Scalars K Val) (H : HalfPoints S) (tk : TruthKeys K) (R : ℕ → AExpr Val)
+module _ {K Val : Type 0} (S : Scalars K Val) (H : HalfPoints S) (tk : TruthKeys (S .order)) (R : ℕ → AExpr Val)
     (wf : (n : ℕ) → Inputs n (R n)) where
   -- the truth of node n of the row ρ, as a test
   abbrev pub M : (ℕ → Option K) → ℕ → Bool
@@ -34,7 +34,7 @@ module _ {K Val : Type 0} (S : Scalars K Val) (H : HalfPoints S) (tk : TruthKeys
 
   -- the answer for the screen with the records R and the given root
   abbrev pub outcome : ℕ → Outcome Val
-  outcome root = mergeFilterConstraints S (conjuncts R root)
+  outcome root = mergeFilterConstraints S (readConjuncts R root)
 
   module _ (ρ : ℕ → Option K) where
     conjuncts-hold : (l : List ℕ) → HoldsAll S ρ (M ρ) (map (classify R) l) ↔ (allTrue (M ρ) l ≡ true)
@@ -57,7 +57,7 @@ module _ {K Val : Type 0} (S : Scalars K Val) (H : HalfPoints S) (tk : TruthKeys
         (classified-rightly S H tk R wf ρ n .2 (b .0), conjuncts-exact l (b .1))
 
     -- the root is true exactly if all that is read of it holds
-    pub root-holds : (root : ℕ) → HoldsAll S ρ (M ρ) (conjuncts R root) ↔ (truthAt (S .key) (S .order) tk R ρ root ≡
+    pub root-holds : (root : ℕ) → HoldsAll S ρ (M ρ) (readConjuncts R root) ↔ (truthAt (S .key) (S .order) tk R ρ root ≡
         True)
     root-holds root = (
       λ h. is-true (truthAt (S .key) (S .order) tk R ρ root) .0
@@ -74,7 +74,7 @@ module _ {K Val : Type 0} (S : Scalars K Val) (H : HalfPoints S) (tk : TruthKeys
     Keeps root (Rebuilt ns cs) = (truthAt (S .key) (S .order) tk R ρ root ≡ True) ↔
         (NodesTrue S ρ (M ρ) ns × WrittenTrue S ρ (M ρ) cs)
 
-    keeps-of : (root : ℕ) (a : Outcome Val) → Sound S ρ (M ρ) (conjuncts R root) a → Keeps root a
+    keeps-of : (root : ℕ) (a : Outcome Val) → Sound S ρ (M ρ) (readConjuncts R root) a → Keeps root a
     keeps-of root Unchanged s = tt
     keeps-of root NothingPasses s = λ h. s (root-holds root .1 h)
     keeps-of root (Rebuilt ns cs) s = (λ h. s .0 (root-holds root .1 h), λ h. root-holds root .0 (s .1 h))
@@ -82,12 +82,12 @@ module _ {K Val : Type 0} (S : Scalars K Val) (H : HalfPoints S) (tk : TruthKeys
     -- for every screen
     pub outcome-keeps : (root : ℕ) → Keeps root (outcome root)
     outcome-keeps root = keeps-of root (outcome root)
-        (merge-is-sound S ρ (M ρ) (conjuncts R root) (conjuncts-fair (minterms R root)))
+        (merge-is-sound S ρ (M ρ) (readConjuncts R root) (conjuncts-fair (minterms R root)))
 
   -- for plain screens
   pub nothing-found : (root : ℕ) → plainConjuncts R (minterms R root) ≡ true →
       (isNothingPasses S H (outcome root) ≡ true) ↔ ((ρ : ℕ → Option K) → truthAt (S .key) (S .order) tk R ρ root ≡
       True → ⊥)
-  nothing-found root p = let e = nothing-exactly S H M (conjuncts R root)
+  nothing-found root p = let e = nothing-exactly S H M (readConjuncts R root)
       (λ ρ. (conjuncts-fair ρ (minterms R root), conjuncts-exact ρ (minterms R root) p)) in
       (λ h ρ t. e .0 h ρ (root-holds ρ root .1 t), λ h. e .1 (λ ρ s. h ρ (root-holds ρ root .0 s)))

@@ -4,8 +4,8 @@ use mathlib.Core.Bool.{Bool, true, false, not, _&&_, _||_, true≢false, or-true
 use mathlib.Core.List.{List, [], _∷_}
 use mathlib.Core.Option.{Option, none, some}
 use mathlib.Core.Logic.{_⊎_, inl, inr}
-use Rattle.truth.proofs.Orders.{cmp-eq, cmp-lt, cmp-refl}
-use Rattle.truth.specs.Order.{Order, View, above, is-equal, is-greater, is-less, isEqual, opp}
+use Rattle.truth.proofs.Orders.{cmp-eq, cmp-lt, cmp-refl, opp-total}
+use Rattle.truth.specs.Order.{Order, Total, View, above, is-equal, is-greater, is-less, isEqual, opp}
 use Rattle.truth.specs.declared.scalar.Ordering.{Ordering}
 use Rattle.truth.specs.declared.scalar.Ordering.the-variants.{Equal, Greater, Less}
 use Rattle.constraints.proofs.Bounds.{SameBound, same-clears, same-of-still}
@@ -83,7 +83,7 @@ module _ {K Val : Type 0} (S : Scalars K Val) (H : HalfPoints S) where
 
   off : (k : K) → ((w : Val) → k ≡ S .key w → ⊥) → (l : List Val) → contains S k l ≡ false
   off k h [] = refl
-  off k h (w ∷ l) = go (S .order .view k (S .key w)) (off k h l)
+  off k h (w ∷ l) = go (S .total .view k (S .key w)) (off k h l)
     where
       go : {o : Ordering} → View (S .order .less) k (S .key w) o → contains S k l ≡ false →
           (isEqual o || contains S k l) ≡ false
@@ -94,9 +94,9 @@ module _ {K Val : Type 0} (S : Scalars K Val) (H : HalfPoints S) where
   point-fits : (l u : Bound Val) → crosses S l u ≡ false →
       (clears S l (point (boundKey l) (boundKey u)) && clears (opposite S) u (point (boundKey l) (boundKey u))) ≡ true
   point-fits absent absent h = refl
-  point-fits absent (at d w) h = rw (cmp-lt (S .order) (H .lo-below w))
-  point-fits (at c v) absent h = rw (cmp-lt (S .order) (H .hi-above v))
-  point-fits (at c v) (at d w) h = go (S .order .view (S .key v) (S .key w)) h
+  point-fits absent (at d w) h = rw (cmp-lt (S .total) (H .lo-below w))
+  point-fits (at c v) absent h = rw (cmp-lt (S .total) (H .hi-above v))
+  point-fits (at c v) (at d w) h = go (S .total .view (S .key v) (S .key w)) h
     where
       both : (c d : Bool) → not (c && d) ≡ false → (c && d) ≡ true
       both true true e = refl
@@ -106,8 +106,8 @@ module _ {K Val : Type 0} (S : Scalars K Val) (H : HalfPoints S) where
       go : {o : Ordering} → View (S .order .less) (S .key v) (S .key w) o → crossesBy o c d ≡ false →
           (above c (S .order .cmp (S .key v) (pointBy o (S .key v))) && above d
           (S .order .cmp (pointBy o (S .key v)) (S .key w))) ≡ true
-      go (is-less p) e = rw (cmp-lt (S .order) (H .hi-above v), cmp-lt (S .order) (H .hi-below v w p))
-      go (is-equal p) e = rw (cmp-refl (S .order) (S .key v), cmp-eq (S .order) p) (both c d e)
+      go (is-less p) e = rw (cmp-lt (S .total) (H .hi-above v), cmp-lt (S .total) (H .hi-below v w p))
+      go (is-equal p) e = rw (cmp-refl (S .total) (S .key v), cmp-eq (S .total) p) (both c d e)
       go (is-greater p) e = absurd (true≢false e)
 
   -- the point is the pinned value, or no value of a screen
@@ -117,14 +117,14 @@ module _ {K Val : Type 0} (S : Scalars K Val) (H : HalfPoints S) where
   point-off absent absent h = inr (H .nil-off)
   point-off absent (at d w) h = inr (H .lo-off w)
   point-off (at c v) absent h = inr (H .hi-off v)
-  point-off (at c v) (at d w) h = go c d (S .order .view (S .key v) (S .key w)) h
+  point-off (at c v) (at d w) h = go c d (S .total .view (S .key v) (S .key w)) h
     where
       go : (c d : Bool) {o : Ordering} → View (S .order .less) (S .key v) (S .key w) o → crossesBy o c d ≡ false →
           ((y : Val) × (fixedAt S (at c v) (at d w) ≡ some y) × (pointBy o (S .key v) ≡ S .key y)) ⊎
           ((y : Val) → pointBy o (S .key v) ≡ S .key y → ⊥)
       go c d (is-less p) e = inr (H .hi-off v)
       go c d (is-greater p) e = absurd (true≢false e)
-      go true true (is-equal p) e = inl (v, ap (λ o. cond (isEqual o) (some v) none) (cmp-eq (S .order) p), refl)
+      go true true (is-equal p) e = inl (v, ap (λ o. cond (isEqual o) (some v) none) (cmp-eq (S .total) p), refl)
       go true false (is-equal p) e = absurd (true≢false e)
       go false d (is-equal p) e = absurd (true≢false e)
 
@@ -135,7 +135,7 @@ module _ {K Val : Type 0} (S : Scalars K Val) (H : HalfPoints S) where
       S .order .less k j → ⊥)
 
   cons-mem : (k : K) (v : Val) (l : List Val) → contains S k (v ∷ l) ≡ true → (k ≡ S .key v) ⊎ (contains S k l ≡ true)
-  cons-mem k v l = go (S .order .view k (S .key v))
+  cons-mem k v l = go (S .total .view k (S .key v))
     where
       go : {o : Ordering} → View (S .order .less) k (S .key v) o → (isEqual o || contains S k l) ≡ true →
           (k ≡ S .key v) ⊎ (contains S k l ≡ true)
@@ -148,7 +148,7 @@ module _ {K Val : Type 0} (S : Scalars K Val) (H : HalfPoints S) where
       or-true (isEqual (S .order .cmp k (S .key v)))
 
   self-mem : (v : Val) (l : List Val) → contains S (S .key v) (v ∷ l) ≡ true
-  self-mem v l = ap (λ o. isEqual o || contains S (S .key v) l) (cmp-refl (S .order) (S .key v))
+  self-mem v l = ap (λ o. isEqual o || contains S (S .key v) l) (cmp-refl (S .total) (S .key v))
 
   by-mem : (k : K) (v : Val) (l : List Val) (A : Type 0) → contains S k (v ∷ l) ≡ true → (k ≡ S .key v → A) →
       (contains S k l ≡ true → A) → A
@@ -171,30 +171,30 @@ module _ {K Val : Type 0} (S : Scalars K Val) (H : HalfPoints S) where
     e,
     self-mem v l,
     λ k m f c. by-mem k v l ⊥ m
-        (λ p. S .order .irrefl (subst (λ x. S .order .less x (S .key v)) p c)) (λ m. true≢false (sym f ∙ h k m)),
+        (λ p. S .total .irrefl (subst (λ x. S .order .less x (S .key v)) p c)) (λ m. true≢false (sym f ∙ h k m)),
   )
-  lesser-is F v l true e (some j) h = go (S .order .view (S .key v) j)
+  lesser-is F v l true e (some j) h = go (S .total .view (S .key v) j)
     where
       go : {o : Ordering} → View (S .order .less) (S .key v) j o → Least F (v ∷ l) (some (lesserBy o (S .key v) j))
       go (is-less p) = (
         e,
         self-mem v l,
         λ k m f c. by-mem k v l ⊥ m
-            (λ q. S .order .irrefl (subst (λ x. S .order .less x (S .key v)) q c))
-            (λ m. h .2 k m f (S .order .trans c p)),
+            (λ q. S .total .irrefl (subst (λ x. S .order .less x (S .key v)) q c))
+            (λ m. h .2 k m f (S .total .trans c p)),
       )
       go (is-equal p) = (
         e,
         self-mem v l,
         λ k m f c. by-mem k v l ⊥ m
-            (λ q. S .order .irrefl (subst (λ x. S .order .less x (S .key v)) q c))
+            (λ q. S .total .irrefl (subst (λ x. S .order .less x (S .key v)) q c))
             (λ m. h .2 k m f (subst (S .order .less k) p c)),
       )
       go (is-greater p) = (
         h .0,
         tail-mem j v l (h .1),
         λ k m f c. by-mem k v l ⊥ m
-            (λ q. S .order .irrefl (S .order .trans p (subst (λ x. S .order .less x j) q c))) (λ m. h .2 k m f c),
+            (λ q. S .total .irrefl (S .total .trans p (subst (λ x. S .order .less x j) q c))) (λ m. h .2 k m f c),
       )
 
   least-is : (F : K → Bool) (l : List Val) → Least F l (least F l)
@@ -215,7 +215,7 @@ module _ {K Val : Type 0} (S : Scalars K Val) (H : HalfPoints S) where
       go none none a b = refl
       go none (some j) a b = absurd (true≢false (sym (b .0) ∙ a j (e j ∙ b .1)))
       go (some i) none a b = absurd (true≢false (sym (a .0) ∙ b i (sym (e i) ∙ a .1)))
-      go (some i) (some j) a b = two i j (S .order .view i j) a b
+      go (some i) (some j) a b = two i j (S .total .view i j) a b
 
   any-least : (q : ColumnConstraints Val) (l : List Val) → anyFeasible S q l ≡ true →
       isFeasible S q (orElse (least (isFeasible S q) l) (H .nil)) ≡ true
@@ -360,7 +360,7 @@ module _ {K Val : Type 0} (S : Scalars K Val) (H : HalfPoints S) where
   low-key : (l u : Bound Val) (e : Val) → isOL (classifyAt S l u e) ≡ true → some (S .key e) ≡ boundKey l
   unfolding isOL
   low-key absent u e h = absurd (true≢false (sym h ∙ up-not-low u e))
-  low-key (at c w) u e h = go c (S .order .view (S .key e) (S .key w)) h
+  low-key (at c w) u e h = go c (S .total .view (S .key e) (S .key w)) h
     where
       go : (c : Bool) {o : Ordering} → View (S .order .less) (S .key e) (S .key w) o →
           isOL (classifyBy o c TightenLower (classifyUpper S u e)) ≡ true → some (S .key e) ≡ some (S .key w)
@@ -374,7 +374,7 @@ module _ {K Val : Type 0} (S : Scalars K Val) (H : HalfPoints S) where
     where
       sub-key : (u : Bound Val) → isOU (classifyUpper S u e) ≡ true → some (S .key e) ≡ boundKey u
       sub-key absent h = absurd (true≢false (sym h))
-      sub-key (at d w) h = go d (S .order .view (S .key w) (S .key e)) h
+      sub-key (at d w) h = go d (S .total .view (S .key w) (S .key e)) h
         where
           go : (d : Bool) {o : Ordering} → View (S .order .less) (S .key w) (S .key e) o →
               isOU (classifyBy o d TightenUpper Keep) ≡ true → some (S .key e) ≡ some (S .key w)
@@ -419,13 +419,13 @@ module _ {K Val : Type 0} (S : Scalars K Val) (H : HalfPoints S) where
       one false = step (classifyAt S (r .lower) (r .upper) e) refl
 
   -- ---- columns that have all that the other says take the same point
-  same-key : (P : Order K) (a b : Bound Val) →
-      SameBound (record { key = S .key; order = P; opened = S .opened; opened-key = S .opened-key }) a b →
+  same-key : (P : Order K) (L : Total P) (a b : Bound Val) →
+      SameBound (record { key = S .key; order = P; total = L; opened = S .opened; opened-key = S .opened-key }) a b →
       boundKey a ≡ boundKey b
-  same-key P absent absent s = refl
-  same-key P absent (at d w) s = absurd s
-  same-key P (at c v) absent s = absurd s
-  same-key P (at c v) (at d w) s = ap some (s .0)
+  same-key P L absent absent s = refl
+  same-key P L absent (at d w) s = absurd s
+  same-key P L (at c v) absent s = absurd s
+  same-key P L (at c v) (at d w) s = ap some (s .0)
 
   sub-same : (l m : List Val) → subset S l m ≡ true → subset S m l ≡ true → (k : K) → contains S k l ≡ contains S k m
   sub-same l m h g k = go (contains S k l) refl (contains S k m) refl
@@ -484,9 +484,9 @@ module _ {K Val : Type 0} (S : Scalars K Val) (H : HalfPoints S) where
           point (boundKey (resolveDeferred S r .lower)) (boundKey (resolveDeferred S r .upper))
       spots = let x = resolveExcluded-keys (q .excluded) (rangeOf q) in let y =
           resolveExcluded-keys (r .excluded) (rangeOf r) in ap (λ l. point l (boundKey (resolveDeferred S q .upper)))
-          (x .0 ∙ same-key (S .order) (q .lower) (r .lower) sl ∙ sym (y .0)) ∙
+          (x .0 ∙ same-key (S .order) (S .total) (q .lower) (r .lower) sl ∙ sym (y .0)) ∙
           ap (point (boundKey (resolveDeferred S r .lower)))
-          (x .1 ∙ same-key (opp (S .order)) (q .upper) (r .upper) su ∙ sym (y .1))
+          (x .1 ∙ same-key (opp (S .order)) (opp-total (S .total)) (q .upper) (r .upper) su ∙ sym (y .1))
 
       shows : (k : K) → admitsEmitted S q (some k) ≡ admitsEmitted S r (some k)
       shows k = rw (

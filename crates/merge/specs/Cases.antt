@@ -32,8 +32,8 @@ abbrev pub list : ℕ → ℕ → List ℕ
 list start count = fieldBytes (fields 9 0 1 start count 0)
 
 -- nulls_equal, value, list.
-abbrev pub isIn : ℕ → ℕ → ℕ → List ℕ
-isIn nullsEqual a values = fieldBytes (fields 10 nullsEqual 0 a values 0)
+abbrev pub membership : ℕ → ℕ → ℕ → List ℕ
+membership nullsEqual a values = fieldBytes (fields 10 nullsEqual 0 a values 0)
 
 -- Code, value, low, high.
 abbrev pub between : ℕ → ℕ → ℕ → ℕ → List ℕ
@@ -80,7 +80,7 @@ equalLines op v = column 0 ++ column 1 ++ binary eq 0 1 ++ literal v ++ binary o
 
 -- is_null(c0) and Not is_in(c0, [1]): 1 and 4 the conjuncts, 5 their And.
 abbrev pub nullNotIn : ℕ → List ℕ
-nullNotIn nullsEqual = column 0 ++ isNull 0 ++ list 0 1 ++ isIn nullsEqual 0 2 ++ negation 3 ++ binary and 1 4
+nullNotIn nullsEqual = column 0 ++ isNull 0 ++ list 0 1 ++ membership nullsEqual 0 2 ++ negation 3 ++ binary and 1 4
 
 -- is_null(c0), doubled six times: record 7 has 64 conjuncts.
 abbrev pub many : List ℕ
@@ -155,7 +155,7 @@ further =
     -- is_between(c0,1,5) alone: unchanged
     ∷ caseOf (column 0 ++ literal 1 ++ literal 5 ++ between 0 0 1 2) 4 3 1 Unchanged (unused 1)
     -- c0 in [1,2], c0>2: nothing passes
-    ∷ caseOf (column 0 ++ list 0 2 ++ isIn 0 0 1 ++ literal 2 ++ binary gt 0 3 ++ binary and 2 4) 6 5 1
+    ∷ caseOf (column 0 ++ list 0 2 ++ membership 0 0 1 ++ literal 2 ++ binary gt 0 3 ++ binary and 2 4) 6 5 1
     (NothingPasses 6 7)
     falseLiteral
     -- c0>3, c0>=3: c0>3, since an end is closed only if both are
@@ -165,7 +165,7 @@ further =
     (column 0 ++ literal 5 ++ binary notEq 7 8 ++ column 0 ++ literal 3 ++ binary notEq 10 11 ++ binary and 9 12)
     -- c0 in [1], c0>0, c0>0: the is_in stays
     ∷ caseOf
-    (column 0 ++ list 0 1 ++ isIn 0 0 1 ++ literal 0 ++ binary gt 0 3 ++ binary and 2 4 ++ binary and 5 4) 7 6 4
+    (column 0 ++ list 0 1 ++ membership 0 0 1 ++ literal 0 ++ binary gt 0 3 ++ binary and 2 4 ++ binary and 5 4) 7 6 4
     (Rewritten 10 11) (column 0 ++ literal 0 ++ binary gt 7 8 ++ binary and 2 9)
     -- c0==c1, c1==c2, c2>5: all three are over 5, which takes two passes
     ∷ caseOf

@@ -181,5 +181,5 @@ module _ {Val : Type 0} (R : ℕ → AExpr Val) where
   classify n = classifyRecord n (R n)
 
   -- What is read of the screen's conjuncts, in their order.
-  abbrev pub conjuncts : ℕ → List (Conjunct Val)
-  conjuncts root = map classify (minterms R root)
+  abbrev pub readConjuncts : ℕ → List (Conjunct Val)
+  readConjuncts root = map classify (minterms R root)

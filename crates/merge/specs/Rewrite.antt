@@ -14,7 +14,7 @@ use Rattle.constraints.specs.Payload.{payload}
 use Rattle.merge.specs.declared.answer.RewriteAnswer.{RewriteAnswer}
 use Rattle.merge.specs.declared.answer.RewriteAnswer.the-variants as answer
 use Rattle.merge.specs.Minterms.{minterms}
-use Rattle.merge.specs.Classify.{conjuncts}
+use Rattle.merge.specs.Classify.{readConjuncts}
 use Rattle.constraints.specs.Comparisons.{ColumnComparison}
 use Rattle.merge.specs.Emit.{Outcome, Unchanged, NothingPasses, Rebuilt}
 use Rattle.merge.specs.Emit.{mergeFilterConstraints}
@@ -23,7 +23,7 @@ use Rattle.merge.specs.Write.{outcomeBytes}
 
 -- The merging, of the used records' bytes.
 abbrev pub outcomeOf : List ℕ → List ℕ → ℕ → ℕ → Outcome ℕ
-outcomeOf rs p used root = mergeFilterConstraints payload (conjuncts (aexprAt rs p used) root)
+outcomeOf rs p used root = mergeFilterConstraints payload (readConjuncts (aexprAt rs p used) root)
 
 -- The conjuncts of the rebuilt chain, its root, and the used count behind it.
 abbrev pub chainNodes : ℕ → List ℕ → List (ℕ × ColumnComparison ℕ) → List ℕ
@@ -54,8 +54,8 @@ outcomeAnswer t rs used (Rebuilt ns cs) =
     cond (chainFits t rs used ns cs) (answer.Rewritten (chainRoot used ns cs) (chainUsed used ns cs)) (answer.Refused 11)
 
 -- 8, 9 and the rest, of a checked screen.
-abbrev pub checkedAnswer : List ℕ → List ℕ → List ℕ → ℕ → ℕ → RewriteAnswer
-checkedAnswer t rs p used root =
+abbrev pub rewriteChecked : List ℕ → List ℕ → List ℕ → ℕ → ℕ → RewriteAnswer
+rewriteChecked t rs p used root =
     cond (ltb 4096 (treeCount rs root)) (answer.Refused 8)
     (cond (ltb 128 (length (minterms (aexprAt rs p used) root))) (answer.Refused 9)
     (outcomeAnswer t rs used (outcomeOf rs p used root)))
@@ -66,7 +66,7 @@ rewriteIf check.Accepted a = a
 
 -- The answer of rewriting.
 unfoldable pub rewriteAnswer : List ℕ → List ℕ → List ℕ → ℕ → ℕ → RewriteAnswer
-rewriteAnswer t rs p used root = rewriteIf (checkAnswer t rs p used root) (checkedAnswer t rs p used root)
+rewriteAnswer t rs p used root = rewriteIf (checkAnswer t rs p used root) (rewriteChecked t rs p used root)
 
 abbrev pub writtenIf : RewriteAnswer → List ℕ → List ℕ → List ℕ
 writtenIf (answer.Refused k) rs written = rs

@@ -1,14 +1,14 @@
 -- The round trips of specs/RoundTrip.
 use Prim.Native.Nat.{ℕ, zero, suc, _+_, _*_, _/_, _%_, _≤_, _<_}
-use mathlib.Core.Bool.{Bool, true, false, cond, _&&_, _||_, true≢false}
+use mathlib.Core.Bool.{Bool, true, false, cond, _&&_, _||_, and-true, true≢false}
 use mathlib.Core.Path.{_≡_, refl, sym, _∙_, ap, subst}
 use native.Mathlib.Omega.{arith}
 use lib.Dec.{eqb, leb}
 use borrow.Author.Tests.{eqb-true, eqb-false, leb-true}
 use Rattle.records.specs.Operator.{operatorAt, codeOf}
 use Rattle.records.specs.Record.{node, columnNumber, closedAt, closedCode, flagCode, fields, decode, encode}
-use Rattle.records.specs.Shape.{knownType, inType, maxCode, isTyped, usesA, usesB, usesC, knownOk, zeroOr, unusedOk, literalOk, shapeOk}
-use Rattle.records.specs.RoundTrip.{DecodeOfEncode, EncodeOfDecode}
+use Rattle.records.specs.Shape.{Ty, A, B, C, knownType, inType, maxCode, uses, knownOk, zeroOr, unusedOk, literalOk, shapeOk}
+use Rattle.records.specs.RoundTrip.{DecodeOfEncode, EncodeOfDecode, ShapeOfEncode}
 use Rattle.records.specs.declared.operator.Operator.{Operator}
 use Rattle.records.specs.declared.operator.Operator.the-variants.{Eq, EqValidity, NotEq, NotEqValidity, Lt, LtEq, Gt, GtEq, Plus, Minus, Multiply, RustDivide, TrueDivide, FloorDivide, Modulus, And, Or, Xor, LogicalAnd, LogicalOr}
 use Rattle.records.specs.declared.record.Fields.{Fields}
@@ -91,23 +91,23 @@ record Shaped (kind code ty z a b c : ℕ) : Type 0 where
   least : 1 ≤ kind
   most : kind ≤ 10
   code-low : code ≤ maxCode kind
-  type-fits : cond (isTyped kind) (knownType ty) (eqb ty 0) ≡ true
+  type-fits : cond (uses Ty kind) (knownType ty) (eqb ty 0) ≡ true
   zero-zero : z ≡ 0
-  a-used : zeroOr (usesA kind) a ≡ true
-  b-used : zeroOr (usesB kind) b ≡ true
-  c-used : zeroOr (usesC kind) c ≡ true
+  a-used : zeroOr (uses A kind) a ≡ true
+  b-used : zeroOr (uses B kind) b ≡ true
+  c-used : zeroOr (uses C kind) c ≡ true
 
 shaped : (f : Fields) → shapeOk f ≡ true → Shaped (f .kind) (f .code) (f .ty) (f .zero) (f .a) (f .b) (f .c)
 unfolding shapeOk knownOk unusedOk
 shaped f e =
     let known = and-left (knownOk f) (unusedOk f && literalOk f) e in
     let unused = and-left (unusedOk f) (literalOk f) (and-right (knownOk f) (unusedOk f && literalOk f) e) in
-    let typed = cond (isTyped (f .kind)) (knownType (f .ty)) (eqb (f .ty) 0) in
+    let typed = cond (uses Ty (f .kind)) (knownType (f .ty)) (eqb (f .ty) 0) in
     let k1 = and-right (leb 1 (f .kind)) (leb (f .kind) 10 && (leb (f .code) (maxCode (f .kind)) && typed)) known in
     let k2 = and-right (leb (f .kind) 10) (leb (f .code) (maxCode (f .kind)) && typed) k1 in
-    let ua = zeroOr (usesA (f .kind)) (f .a) in
-    let ub = zeroOr (usesB (f .kind)) (f .b) in
-    let uc = zeroOr (usesC (f .kind)) (f .c) in
+    let ua = zeroOr (uses A (f .kind)) (f .a) in
+    let ub = zeroOr (uses B (f .kind)) (f .b) in
+    let uc = zeroOr (uses C (f .kind)) (f .c) in
     let u1 = and-right (eqb (f .zero) 0) (ua && (ub && uc)) unused in
     let u2 = and-right ua (ub && uc) u1 in
     record {
@@ -130,7 +130,7 @@ same-fields kind code ty z a b c code′ ty′ a′ b′ c′ ec et ez ea eb ed 
 
 back : (kind code ty z a b c : ℕ) → b < 4294967296 → Shaped kind code ty z a b c
     → encode (decode (raw kind code ty z a b c)) ≡ raw kind code ty z a b c
-unfolding encode decode maxCode isTyped zeroOr usesA usesB usesC
+unfolding encode decode maxCode zeroOr uses
 back zero code ty z a b c h s = let l = s .least in absurd (omega (arith, l))
 back (suc zero) code ty z a b c h s =
     same-fields 1 code ty z a b c _ _ _ _ _ (let l = s .code-low in omega (arith, l)) (sym (eqb-true ty 0 (s .type-fits))) (s .zero-zero)
@@ -167,3 +167,51 @@ back (suc (suc (suc (suc (suc (suc (suc (suc (suc (suc (suc k))))))))))) code ty
 -- fields without the fault 4 are those that encode their record
 pub encode-decode : EncodeOfDecode
 encode-decode f h e = back (f .kind) (f .code) (f .ty) (f .zero) (f .a) (f .b) (f .c) h (shaped f e)
+
+code-low : (o : Operator) → leb (codeOf o) 19 ≡ true
+code-low Eq = refl
+code-low EqValidity = refl
+code-low NotEq = refl
+code-low NotEqValidity = refl
+code-low Lt = refl
+code-low LtEq = refl
+code-low Gt = refl
+code-low GtEq = refl
+code-low Plus = refl
+code-low Minus = refl
+code-low Multiply = refl
+code-low RustDivide = refl
+code-low TrueDivide = refl
+code-low FloorDivide = refl
+code-low Modulus = refl
+code-low And = refl
+code-low Or = refl
+code-low Xor = refl
+code-low LogicalAnd = refl
+code-low LogicalOr = refl
+
+closed-code-low : (k : ClosedInterval) → leb (closedCode k) 3 ≡ true
+closed-code-low closed.Both = refl
+closed-code-low closed.Left = refl
+closed-code-low closed.Right = refl
+closed-code-low closed.None = refl
+
+flag-code-low : (b : Bool) → leb (flagCode b) 1 ≡ true
+flag-code-low true = refl
+flag-code-low false = refl
+
+-- what encodes a record is without the fault 4 exactly if the record is
+pub shape-encode : ShapeOfEncode
+unfolding encode shapeOk knownOk unusedOk literalOk maxCode zeroOr uses
+shape-encode kind.Invalid = refl
+shape-encode (kind.Column c) = refl
+shape-encode (kind.Literal ty v) =
+    let e : v % 4294967296 + 4294967296 * (v / 4294967296) ≡ v = omega arith in rw e
+shape-encode (kind.Null ty) = rw and-true
+shape-encode (kind.Binary o x y) = rw (code-low o)
+shape-encode (kind.Not x) = refl
+shape-encode (kind.IsNull x) = refl
+shape-encode (kind.IsNotNull x) = refl
+shape-encode (kind.IsBetween k x low high) = rw (closed-code-low k)
+shape-encode (kind.List ty marked start count) = rw (flag-code-low marked, and-true)
+shape-encode (kind.IsIn equal x list) = rw (flag-code-low equal)

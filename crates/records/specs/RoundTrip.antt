@@ -1,11 +1,13 @@
--- Decoding and encoding a record are each other's inverse, on every record and on all fields that checking accepts.
+-- Decoding and encoding a record are each other's inverse, on every record and on all fields without the fault 4; and what
+-- encoding gives is without it exactly if the record is of a kind and its types and its literal are known.
 use Prim.Native.Nat.{ℕ, _<_}
-use mathlib.Core.Bool.{true}
+use mathlib.Core.Bool.{Bool, true, false, _&&_}
 use mathlib.Core.Path.{_≡_}
 use Rattle.records.specs.Record.{decode, encode}
-use Rattle.records.specs.Shape.{shapeOk}
+use Rattle.records.specs.Shape.{knownType, inType, shapeOk}
 use Rattle.records.specs.declared.record.Fields.{Fields}
 use Rattle.records.specs.declared.record.Record.{Record}
+use Rattle.records.specs.declared.record.Record.the-variants as kind
 
 -- what encodes a record decodes to it
 abbrev pub DecodeOfEncode : Type 0
@@ -14,3 +16,21 @@ DecodeOfEncode = (r : Record) → decode (encode r) ≡ r
 -- fields without the fault 4 are those that encode their record; a field of four bytes is below 2^32
 abbrev pub EncodeOfDecode : Type 0
 EncodeOfDecode = (f : Fields) → f .b < 4294967296 → shapeOk f ≡ true → encode (decode f) ≡ f
+
+-- of a kind, its type known, a literal of its type
+abbrev pub recordOk : Record → Bool
+recordOk kind.Invalid = false
+recordOk (kind.Column c) = true
+recordOk (kind.Literal ty v) = knownType ty && inType ty v
+recordOk (kind.Null ty) = knownType ty
+recordOk (kind.Binary o x y) = true
+recordOk (kind.Not x) = true
+recordOk (kind.IsNull x) = true
+recordOk (kind.IsNotNull x) = true
+recordOk (kind.IsBetween k x low high) = true
+recordOk (kind.List ty marked start count) = knownType ty
+recordOk (kind.IsIn equal x list) = true
+
+-- what encodes a record is without the fault 4 exactly if the record is
+abbrev pub ShapeOfEncode : Type 0
+ShapeOfEncode = (r : Record) → shapeOk (encode r) ≡ recordOk r

@@ -1,7 +1,9 @@
 -- Number 4 of 01: an unknown kind, code or type, a nonzero unused field, a literal outside its type. A fault of the bytes of
 -- one record alone.
 use Prim.Native.Nat.{ℕ, _+_, _*_}
-use mathlib.Core.Bool.{Bool, true, cond, _&&_, _||_}
+use mathlib.Core.Bool.{Bool, true, false, cond, _&&_, _||_}
+use mathlib.Core.List.{List, [], _∷_}
+use lib.ListN.{getD}
 use lib.Dec.{ltb, leb, eqb}
 use Rattle.records.specs.declared.record.Fields.{Fields}
 
@@ -14,29 +16,59 @@ unfoldable pub inType : ℕ → ℕ → Bool
 inType ty v =
     cond (eqb ty 1) true (cond (eqb ty 2) (ltb v 2147483648 || leb 18446744071562067968 v) (leb v 1))
 
+-- the fields that 01's list of kinds names, the code (`maxCode`) apart; a literal's value in bytes 8-15 is B and C
+pub data Field : Type 0 where
+  Ty A B C : Field
+
+-- 01's list of kinds, in its order, with what it names for each; no kind has the number 0
+abbrev pub usedFields : List (List Field)
+usedFields =
+    []
+    -- 1 column
+    ∷ (A ∷ [])
+    -- 2 literal
+    ∷ (Ty ∷ B ∷ C ∷ [])
+    -- 3 null
+    ∷ (Ty ∷ [])
+    -- 4 binary
+    ∷ (A ∷ B ∷ [])
+    -- 5 Not
+    ∷ (A ∷ [])
+    -- 6 is_null
+    ∷ (A ∷ [])
+    -- 7 is_not_null
+    ∷ (A ∷ [])
+    -- 8 is_between
+    ∷ (A ∷ B ∷ C ∷ [])
+    -- 9 list
+    ∷ (Ty ∷ A ∷ B ∷ [])
+    -- 10 is_in
+    ∷ (A ∷ B ∷ [])
+    ∷ []
+
+abbrev pub fieldNumber : Field → ℕ
+fieldNumber Ty = 0
+fieldNumber A = 1
+fieldNumber B = 2
+fieldNumber C = 3
+
+abbrev pub isNamed : Field → List Field → Bool
+isNamed x [] = false
+isNamed x (y ∷ l) = eqb (fieldNumber x) (fieldNumber y) || isNamed x l
+
+-- whether a kind uses a field
+unfoldable pub uses : Field → ℕ → Bool
+uses x k = isNamed x (getD usedFields k [])
+
 -- the highest code of a kind: operators to 19, the four ends of is_between, a mark for lists and is_in, else only 0
 unfoldable pub maxCode : ℕ → ℕ
-maxCode k = cond (eqb k 4) 19 (cond (eqb k 8) 3 (cond (leb 9 k) 1 0))
-
--- literal, null and list have a type in byte 2
-unfoldable pub isTyped : ℕ → Bool
-isTyped k = eqb k 2 || (eqb k 3 || eqb k 9)
-
--- which of A, B, C a kind uses; a literal's value is B and C
-unfoldable pub usesA : ℕ → Bool
-usesA k = eqb k 1 || leb 4 k
-
-unfoldable pub usesB : ℕ → Bool
-usesB k = eqb k 2 || (eqb k 4 || leb 8 k)
-
-unfoldable pub usesC : ℕ → Bool
-usesC k = eqb k 2 || eqb k 8
+maxCode k = cond (eqb k 4) 19 (cond (eqb k 8) 3 (cond (eqb k 9 || eqb k 10) 1 0))
 
 -- the kind, its code and its type are known; a kind without a type has 0 there
 unfoldable pub knownOk : Fields → Bool
 knownOk f =
     leb 1 (f .kind) && (leb (f .kind) 10
-    && (leb (f .code) (maxCode (f .kind)) && cond (isTyped (f .kind)) (knownType (f .ty)) (eqb (f .ty) 0)))
+    && (leb (f .code) (maxCode (f .kind)) && cond (uses Ty (f .kind)) (knownType (f .ty)) (eqb (f .ty) 0)))
 
 -- a field that is not used is zero
 unfoldable pub zeroOr : Bool → ℕ → Bool
@@ -45,7 +77,7 @@ zeroOr used x = used || eqb x 0
 unfoldable pub unusedOk : Fields → Bool
 unusedOk f =
     eqb (f .zero) 0
-    && (zeroOr (usesA (f .kind)) (f .a) && (zeroOr (usesB (f .kind)) (f .b) && zeroOr (usesC (f .kind)) (f .c)))
+    && (zeroOr (uses A (f .kind)) (f .a) && (zeroOr (uses B (f .kind)) (f .b) && zeroOr (uses C (f .kind)) (f .c)))
 
 -- a literal is of its type
 unfoldable pub literalOk : Fields → Bool

@@ -16,7 +16,7 @@ use Rattle.truth.specs.declared.logic.Truth.{Truth}
 use Rattle.truth.specs.declared.logic.Truth.the-variants.{False, Unknown, True}
 use Rattle.truth.specs.declared.test.RowAnswer.{RowAnswer}
 use Rattle.truth.specs.declared.test.RowAnswer.the-variants as row
-use Rattle.truth.specs.FromBytes.{aexprAt, rowOf, truthIn}
+use Rattle.truth.specs.FromBytes.{aexprAt, rowKeys, truthIn}
 use Rattle.truth.specs.RowTest.{marksOk, columnsOk, rowFault, checkedAnswer, answerIf, testRowAnswer}
 use Rattle.merge.specs.declared.answer.RewriteAnswer.{RewriteAnswer}
 use Rattle.merge.specs.declared.answer.RewriteAnswer.the-variants as answer
@@ -80,11 +80,11 @@ module _ (t rs p : List ℕ) (used root : ℕ) where
       Ok a = rowListed (rowNumber a) ≡ true
 
       x : RowAnswer
-      x = row.Tested (truthIn (aexprAt rs p used) (rowOf values nulls) root)
+      x = row.Tested (truthIn (aexprAt rs p used) (rowKeys values nulls) root)
 
       tested : (b c : Bool)
           → Ok (cond (eqb (cond b (cond c 0 13) 12) 0) x (row.Refused (cond b (cond c 0 13) 12)))
-      tested true true = truth-listed (truthIn (aexprAt rs p used) (rowOf values nulls) root)
+      tested true true = truth-listed (truthIn (aexprAt rs p used) (rowKeys values nulls) root)
       tested true false = refl
       tested false c = refl
 

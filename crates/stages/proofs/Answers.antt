@@ -18,7 +18,7 @@ use Rattle.merge.specs.declared.answer.RewriteAnswer.the-variants as answer
 use Rattle.merge.specs.Minterms.{minterms}
 use Rattle.merge.specs.Emit.{Outcome, mergeFilterConstraints}
 use Rattle.merge.specs.Write.{outcomeBytes}
-use Rattle.merge.specs.Rewrite.{outcomeOf, outcomeAnswer, checkedAnswer, rewriteIf, rewriteAnswer, writtenIf}
+use Rattle.merge.specs.Rewrite.{outcomeOf, outcomeAnswer, rewriteChecked, rewriteIf, rewriteAnswer, writtenIf}
 use Rattle.merge.specs.Rewrite.{rewriteBytes}
 use Rattle.rewrite.specs.Walk.{walked}
 use Rattle.stages.specs.Reckon.{reckonedUsed, reckonedRoot, reckonedTree, roomFor, reckoned, reckonedAnswer}
@@ -36,7 +36,7 @@ pub rewrite-refused : (t rs p : List ℕ) (used root k : ℕ) → checkAnswer t 
 unfolding rewriteAnswer rewriteBytes
 rewrite-refused t rs p used root k e =
     let a : rewriteAnswer t rs p used root ≡ answer.Refused k =
-    ap (λ c. rewriteIf c (checkedAnswer t rs p used root)) e in
+    ap (λ c. rewriteIf c (rewriteChecked t rs p used root)) e in
     (a, ap (λ x. writtenIf x rs (outcomeBytes t rs used (outcomeOf rs p used root))) a)
 
 module _ (t rs p : List ℕ) (used root : ℕ) (ok : checkAnswer t rs p used root ≡ check.Accepted) where
@@ -54,7 +54,7 @@ module _ (t rs p : List ℕ) (used root : ℕ) (ok : checkAnswer t rs p used roo
       → rewriteAnswer t rs p used root ≡ cond b (answer.Refused 8) (cond c (answer.Refused 9) x)
   unfolding rewriteAnswer
   answers b c x e f g =
-      ap (λ a. rewriteIf a (checkedAnswer t rs p used root)) ok
+      ap (λ a. rewriteIf a (rewriteChecked t rs p used root)) ok
       ∙ ap (λ b. cond b (answer.Refused 8)
       (cond (ltb 128 (length (minterms (aexprAt rs p used) root))) (answer.Refused 9)
       (outcomeAnswer t rs used (outcomeOf rs p used root)))) e

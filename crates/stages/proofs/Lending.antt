@@ -15,9 +15,10 @@ use Rattle.constraints.specs.Column.{common, mergeFrom, mergeEmitted, mergeAny}
 use Rattle.constraints.specs.Column as q
 use Rattle.constraints.specs.Payload.{payload}
 use Rattle.constraints.specs.Values.{extend}
-use Rattle.columns.specs.Abstraction.{Conjuncts, numbered, columnOf, gather, ofKind, listOf, marked, Fine}
+use Rattle.columns.specs.Abstraction.{Conjuncts, numbered, columnOf, ofKind, listOf, Fine}
 use Rattle.columns.specs.Abstraction.{excludedBy, allowedBy, disallowedBy}
 use Rattle.columns.specs.declared.column.ColumnConstraints.{ColumnConstraints}
+use Rattle.columns.proofs.Numbers.{gather-same, marked-same}
 use Rattle.stages.specs.Rows.{stride, rowOf, RowsKept}
 
 -- The elements from a on, k of them, replaced by ys.
@@ -180,12 +181,6 @@ pub fine-wider : (k m : ℕ) (a : List ℕ) (n : ℕ) → k ≤ m → Fine k a n
 fine-wider k m a n h f i l = let g = f i l .0 in (omega (arith, g, h), f i l .1)
 
 -- ---- a copy of a row, as far as it is looked at
-gather-same : {A : Type 0} (p : ℕ → Bool) (f : A → ℕ → A) (z : A) (a b : List ℕ) (n : ℕ)
-    → ((i : ℕ) → i < n → getD a i 0 ≡ getD b i 0) → gather p f z a n ≡ gather p f z b n
-unfolding gather
-gather-same p f z a b zero h = refl
-gather-same p f z a b (suc n) h = rw (gather-same p f z a b n (λ i l. h i (omega (arith, l))), h n (omega arith))
-
 pub column-copied : (t : Conjuncts) (a b : List ℕ) (c : ColumnConstraints)
     → ((i : ℕ) → i < c .len → getD a i 0 ≡ getD b i 0) → columnOf t (numbered a c) ≡ columnOf t (numbered b c)
 unfolding excludedBy allowedBy disallowedBy
@@ -197,14 +192,9 @@ column-copied t a b c h = rw (
       h,
 )
 
-marks-same : (a b : List ℕ) (n j : ℕ) → ((i : ℕ) → i < n → getD a i 0 ≡ getD b i 0) → marked a n j ≡ marked b n j
-unfolding marked
-marks-same a b zero j h = refl
-marks-same a b (suc n) j h = rw (marks-same a b n j (λ i l. h i (omega (arith, l))), h n (omega arith))
-
 pub fine-copied : (k : ℕ) (a b : List ℕ) (n : ℕ) → ((i : ℕ) → i < n → getD a i 0 ≡ getD b i 0) → Fine k b n → Fine k a n
 fine-copied k a b n h f i l =
-    rw (h i l, marks-same a b i (getD b i 0) (λ m q. h m (omega (arith, l, q)))) (f i l)
+    rw (h i l, marked-same a b i (getD b i 0) (λ m q. h m (omega (arith, l, q)))) (f i l)
 
 -- What a merge gives, of columns that are equal to those it was given.
 pub merged-as : (r c c′ d d′ : q.ColumnConstraints ℕ) (em an : Bool) → c ≡ c′ → d ≡ d′

@@ -15,13 +15,14 @@ use Rattle.checking.specs.Checked.{Checked}
 use Rattle.records.specs.declared.record.Record.the-variants as kind
 use Rattle.records.proofs.Laws.{by-test, and-left, and-right}
 use Rattle.truth.specs.Halves.{ordZ, key}
+use Rattle.truth.proofs.Orders.{total-z}
 use Rattle.truth.specs.FromBytes.{aexprAt, truthKeys}
 use Rattle.constraints.specs.Scalars.{Scalars}
 use Rattle.constraints.specs.Payload as values
 use Rattle.constraints.specs.Comparisons.{ColumnComparison, IsEq, IsLower, IsUpper, IsNotEq}
 use Rattle.constraints.specs.Values.{isEmpty}
 use Rattle.merge.specs.declared.answer.RewriteAnswer.the-variants as answer
-use Rattle.merge.specs.Classify.{conjuncts}
+use Rattle.merge.specs.Classify.{readConjuncts}
 use Rattle.merge.specs.Emit.{Outcome, Unchanged, NothingPasses, Rebuilt, mergeFilterConstraints}
 use Rattle.merge.specs.Rebuild.{comparisonOf, valueOf, comparisonNodes, comparisonsEnd, andRoot, foldRoot, foldUsed}
 use Rattle.merge.specs.Write.{literalType}
@@ -307,7 +308,14 @@ module _ (t rs trees : List ℕ) (used bound : ℕ) (low : bound ≤ used)
 
 -- ---- The screen's own outcome.
 abbrev payload : Scalars ℤ ℕ
-payload = record { key = key; order = ordZ; opened = λ held excluded. excluded; opened-key = λ held excluded. refl }
+payload =
+    record {
+      key = key;
+      order = ordZ;
+      total = total-z;
+      opened = λ held excluded. excluded;
+      opened-key = λ held excluded. refl;
+    }
 
 payload-is : values.payload ≡ payload
 unfolding values.payload
@@ -331,7 +339,7 @@ module _ (t rs p : List ℕ) (used root : ℕ) (ok : Checked t rs p used root) w
       → Below (suc root) ns
   kept-below ns cs e =
       subst (AnswerLt payload (suc root))
-      (sym (ap (λ S. mergeFilterConstraints S (conjuncts (aexprAt rs p used) root)) payload-is) ∙ e)
+      (sym (ap (λ S. mergeFilterConstraints S (readConjuncts (aexprAt rs p used) root)) payload-is) ∙ e)
       (answer-lt payload (suc root) halves truthKeys (aexprAt rs p used) (inputs-fall t rs p used root ok) root
       (omega arith))
 

@@ -6,7 +6,7 @@ use Prim.Native.Nat.{ℕ, zero, suc, _+_, _≤_, _<_}
 use native.Mathlib.Omega.{arith}
 use lib.ListN.{length, getD}
 use lib.Dec.{leb, ltb}
-use borrow.Author.Tests.{ltb-true, ltb-false, lt-ltb, leb-true}
+use borrow.Author.Tests.{ltb-true, ltb-false, leb-true}
 use Rattle.records.specs.Record.{node, recordAt}
 use Rattle.checking.specs.Fit.{reachOk}
 use Rattle.checking.specs.Check.{tableOk, typesKnown}
@@ -19,10 +19,11 @@ use Rattle.records.proofs.Laws.{and-left}
 use Rattle.truth.specs.AExpr.{AExpr, Column, Literal, Null, BinaryExpr, Not, IsNull, IsNotNull, IsBetween}
 use Rattle.truth.specs.AExpr.{ListLiteral, IsIn, Missing, Inputs, WF}
 use Rattle.truth.specs.FromBytes.{binaryExpr, toAExpr, aexprOf, aexprAt}
+use Rattle.truth.proofs.Agree.{used-same}
 use Rattle.constraints.specs.Payload.{payload}
 use Rattle.merge.specs.Minterms.{minterms}
 use Rattle.merge.specs.Classify.{Operand, AColumn, ALiteral, AList, Other, operand}
-use Rattle.merge.specs.Classify.{classify, classifyRecord, classifyNegation, conjuncts}
+use Rattle.merge.specs.Classify.{classify, classifyRecord, classifyNegation, readConjuncts}
 use Rattle.merge.proofs.Chains.{Below, below-more, below-app, minterms-low}
 use Rattle.merge.proofs.Forms.{Forms, classify-ind}
 use Rattle.merge.proofs.Fitting.{AExprP}
@@ -30,11 +31,6 @@ use Rattle.merge.proofs.Accepted.{inputs-fall}
 use Rattle.rewrite.specs.Walk.{walked, firstOf}
 use Rattle.rewrite.proofs.Walks.{walked-minterms, first-length}
 use Rattle.stages.specs.Columns.{ColumnsBelow}
-
--- ---- A record below `used` is the same, used or lent.
-pub used-record : (rs p : List ℕ) (used n : ℕ) → n < used → aexprAt rs p used n ≡ aexprOf rs p n
-unfolding aexprAt
-used-record rs p used n h = rw (lt-ltb n used h)
 
 -- Inputs do not depend on the pool.
 no-pool : (p : List ℕ) (n : ℕ) (r : Record) → Inputs n (toAExpr p r) → Inputs n (toAExpr [] r)
@@ -211,7 +207,7 @@ module _ (t rs p : List ℕ) (used root : ℕ) (ok : Checked t rs p used root) w
   walked-inputs n h =
       let k : root < used = ok .root-used in
       no-pool p n (recordAt rs (node n))
-      (subst (Inputs n) (used-record rs p used n (omega arith)) (good n))
+      (subst (Inputs n) (used-same rs p used n (omega arith)) (good n))
 
   -- The walk finds the conjuncts of the used records.
   pub minterms-walked : minterms (aexprAt rs p used) root ≡ minterms (walked rs) root
@@ -220,9 +216,9 @@ module _ (t rs p : List ℕ) (used root : ℕ) (ok : Checked t rs p used root) w
   -- What is read of one conjunct.
   pub classify-used : (n : ℕ) → n < used → classify (aexprAt rs p used) n ≡ classify (aexprOf rs p) n
   classify-used n h =
-      record-agree (aexprAt rs p used) (aexprOf rs p) n (λ a k. used-record rs p used a (omega arith)) good
+      record-agree (aexprAt rs p used) (aexprOf rs p) n (λ a k. used-same rs p used a (omega arith)) good
       (aexprAt rs p used n) (good n)
-      ∙ ap (classifyRecord (aexprOf rs p) n) (used-record rs p used n h)
+      ∙ ap (classifyRecord (aexprOf rs p) n) (used-same rs p used n h)
 
   -- What is read of used records.
   pub classify-all-used : (ns : List ℕ) → Below used ns
@@ -242,7 +238,7 @@ module _ (t rs p : List ℕ) (used root : ℕ) (ok : Checked t rs p used root) w
       below-more (suc root) used (minterms (walked rs) root) (omega arith) minterms-below-root
 
   -- What is read of the conjuncts is what the code reads.
-  pub conjuncts-used : conjuncts (aexprAt rs p used) root ≡ map (classify (aexprOf rs p)) (minterms (walked rs) root)
+  pub conjuncts-used : readConjuncts (aexprAt rs p used) root ≡ map (classify (aexprOf rs p)) (minterms (walked rs) root)
   conjuncts-used =
       ap (map (classify (aexprAt rs p used))) minterms-walked
       ∙ classify-all-used (minterms (walked rs) root) minterms-below

@@ -16,7 +16,7 @@ use Rattle.truth.specs.AExpr.{ListLiteral, IsIn, Missing}
 use Rattle.truth.specs.Cell.{TruthKeys, Cell, noCell, step, cellAt}
 use Rattle.truth.specs.FromBytes.{aexprOf, aexprAt}
 
-module _ {K Val : Type 0} (key : Val → K) (O : Order K) (tk : TruthKeys K) where
+module _ {K Val : Type 0} (key : Val → K) (O : Order K) (tk : TruthKeys O) where
   -- Two tables with the same cells give every record the same cell.
   pub step-agree :
       (row : ℕ → Option K) (C D : ℕ → Cell K Val) → ((a : ℕ) → C a ≡ D a) →

@@ -15,17 +15,17 @@ use Rattle.truth.specs.declared.logic.Truth.{Truth}
 use Rattle.truth.specs.declared.test.RowAnswer.{RowAnswer}
 use Rattle.truth.specs.declared.test.RowAnswer.the-variants.{Refused, Tested}
 use Rattle.truth.specs.Halves.{ordZ, key}
-use Rattle.truth.specs.FromBytes.{aexprOf, aexprAt, rowOf, truthKeys, truthIn}
+use Rattle.truth.specs.FromBytes.{aexprOf, aexprAt, rowKeys, truthKeys, truthIn}
 use Rattle.truth.specs.RowTest.{marksOk, columnsOk, rowFault, checkedAnswer}
 use Rattle.truth.proofs.Agree.{cells-agree, used-same}
 
 -- A record that is used has the truth that its bytes have.
 pub used-truth :
     (rs p row : List ℕ) (nulls used n : ℕ) → n < used →
-    truthIn (aexprOf rs p) (rowOf row nulls) n ≡ truthIn (aexprAt rs p used) (rowOf row nulls) n
+    truthIn (aexprOf rs p) (rowKeys row nulls) n ≡ truthIn (aexprAt rs p used) (rowKeys row nulls) n
 used-truth rs p row nulls used n h =
     ap (λ c. c .truth)
-    (cells-agree key ordZ truthKeys (aexprOf rs p) (aexprAt rs p used) (rowOf row nulls) used
+    (cells-agree key ordZ truthKeys (aexprOf rs p) (aexprAt rs p used) (rowKeys row nulls) used
     (λ m k. sym (used-same rs p used m k)) n h)
 
 -- A row without a fault has eight bytes a column.
@@ -60,7 +60,7 @@ module _ (t rs p row : List ℕ) (nulls used root : ℕ) (ok : Checked t rs p us
           rw (le-ltb 4096 (treeCount rs root) (within (treeCount rs root) c counted small), ← fault, ne-eqb f 0 d)
 
       pub row-tested :
-          f ≡ 0 → (r : Truth) → r ≡ truthIn (aexprOf rs p) (rowOf row nulls) root →
+          f ≡ 0 → (r : Truth) → r ≡ truthIn (aexprOf rs p) (rowKeys row nulls) root →
           Tested r ≡ checkedAnswer t rs p used root row nulls
       unfolding checkedAnswer
       row-tested e r er =

@@ -8,7 +8,7 @@ use Rattle.records.specs.Bytes.{word, valueAt, all, first}
 use Rattle.records.specs.Course.{upTo, course}
 use Rattle.records.specs.Operator.{operatorAt}
 use Rattle.records.specs.Record.{fieldsAt, closedAt, decode, recordAt}
-use Rattle.records.specs.Shape.{knownType, inType, maxCode, isTyped, usesA, usesB, usesC, knownOk, zeroOr, unusedOk}
+use Rattle.records.specs.Shape.{knownType, inType, maxCode, uses, knownOk, zeroOr, unusedOk}
 use Rattle.records.specs.Shape.{literalOk}
 use Rattle.records.specs.Shape.{shapeOk}
 use Rattle.checking.specs.Fit.{allFit, listOk, reachOk, servedOk, typeOf, typeAt, sameType, binaryFits, betweenFits}
@@ -18,7 +18,7 @@ use Rattle.checking.specs.Check.{checkAnswer}
 use Rattle.truth.specs.declared.logic.Truth.the-variants.{False, Unknown, True}
 use Rattle.truth.specs.declared.test.RowAnswer.{RowAnswer}
 use Rattle.truth.specs.declared.test.RowAnswer.the-variants.{Refused, Tested}
-use Rattle.truth.specs.FromBytes.{valuesFrom, aexprOf, aexprAt, rowOf}
+use Rattle.truth.specs.FromBytes.{valuesFrom, aexprOf, aexprAt, rowKeys}
 use Rattle.truth.specs.RowTest.{columnOk, columnsOk, rowFault, checkedAnswer, testRowAnswer}
 
 -- a record of sixteen bytes, its fields below 256; a value of eight bytes
@@ -221,8 +221,8 @@ cases =
 
 all-hold : askedOf cases ≡ toldOf cases
 unfolding isBinary word valueAt all first upTo course operatorAt fieldsAt closedAt decode recordAt knownType
-    inType maxCode isTyped usesA usesB usesC knownOk zeroOr unusedOk literalOk shapeOk allFit listOk reachOk
+    inType maxCode uses knownOk zeroOr unusedOk literalOk shapeOk allFit listOk reachOk
     servedOk typeOf typeAt sameType binaryFits betweenFits memberFits typesOk typesKnown tableOk sizesOk
-    meaningFault recordFault firstFault recordsAnswer checkAnswer valuesFrom aexprOf aexprAt rowOf columnOk
+    meaningFault recordFault firstFault recordsAnswer checkAnswer valuesFrom aexprOf aexprAt rowKeys columnOk
     columnsOk rowFault checkedAnswer testRowAnswer
 all-hold = refl

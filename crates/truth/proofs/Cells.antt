@@ -25,7 +25,7 @@ and-is-true False True = refl
 and-is-true False Unknown = refl
 and-is-true False False = refl
 
-module _ {K Val : Type 0} (key : Val → K) (O : Order K) (tk : TruthKeys K) where
+module _ {K Val : Type 0} (key : Val → K) (O : Order K) (tk : TruthKeys O) where
   -- A record with inputs below n has the same cell over two tables that agree below n.
   pub step-same :
       (row : ℕ → Option K) (n : ℕ) (C D : ℕ → Cell K Val) → ((a : ℕ) → a < n → C a ≡ D a) →

@@ -25,7 +25,7 @@ use Rattle.truth.specs.Halves.{ordZ, key}
 use Rattle.truth.specs.Logic.{not3, ofBool}
 use Rattle.truth.specs.AExpr.{AExpr, BinaryExpr, Not, IsNull, IsNotNull, IsBetween, ListLiteral, IsIn, Inputs}
 use Rattle.truth.specs.Cell.{Cell, step, cellAt}
-use Rattle.truth.specs.FromBytes.{binaryExpr, closesLow, closesHigh, valuesFrom, toAExpr, aexprOf, rowOf}
+use Rattle.truth.specs.FromBytes.{binaryExpr, closesLow, closesHigh, valuesFrom, toAExpr, aexprOf, rowKeys}
 use Rattle.truth.specs.FromBytes.{truthKeys, truthIn, valueIn}
 use Rattle.truth.specs.Evaluate.{comparisonAt, comparedOf, connectedOf, lowCode, highCode, betweenOf}
 use Rattle.truth.specs.Evaluate.{memberOf, leafOf, nullTest, ofTruth, toTruth, Served, ColumnThere, Fit}
@@ -243,7 +243,7 @@ module _ (rs p row : List ℕ) (nulls : ℕ) (n : Node) (f : Fields) (ok : Evalu
   R = aexprOf rs p
 
   abbrev cells : ℕ → Cell ℤ ℕ
-  cells m = cellAt key ordZ truthKeys R (rowOf row nulls) m
+  cells m = cellAt key ordZ truthKeys R (rowKeys row nulls) m
 
   pub fit-of : Fit rs p row (n .0) f
   fit-of = subst (Fit rs p row (n .0)) (sym e) (ok .fit (n .0) (omega arith))
@@ -255,14 +255,14 @@ module _ (rs p row : List ℕ) (nulls : ℕ) (n : Node) (f : Fields) (ok : Evalu
   inputs-of : (r : AExpr ℕ) → toAExpr p (decode f) ≡ r → Inputs (n .0) r
   inputs-of r h = subst (Inputs (n .0)) (record-is ∙ h) (fit-of .inputs)
 
-  cell-of : (r : AExpr ℕ) → toAExpr p (decode f) ≡ r → cells (n .0) ≡ step key ordZ truthKeys (rowOf row nulls) cells r
+  cell-of : (r : AExpr ℕ) → toAExpr p (decode f) ≡ r → cells (n .0) ≡ step key ordZ truthKeys (rowKeys row nulls) cells r
   cell-of r h =
-      cell-law key ordZ truthKeys R (rowOf row nulls) (n .0) (fit-of .inputs)
-      ∙ ap (λ q. step key ordZ truthKeys (rowOf row nulls) cells q) (record-is ∙ h)
+      cell-law key ordZ truthKeys R (rowKeys row nulls) (n .0) (fit-of .inputs)
+      ∙ ap (λ q. step key ordZ truthKeys (rowKeys row nulls) cells q) (record-is ∙ h)
 
   truth-of-step :
       (r : AExpr ℕ) → toAExpr p (decode f) ≡ r →
-      truthIn R (rowOf row nulls) (n .0) ≡ step key ordZ truthKeys (rowOf row nulls) cells r .truth
+      truthIn R (rowKeys row nulls) (n .0) ≡ step key ordZ truthKeys (rowKeys row nulls) cells r .truth
   truth-of-step r h = ap (λ c. c .truth) (cell-of r h)
 
   pub binary-below : f .kind ≡ 4 → (f .a < n .0) × (f .b < n .0)
@@ -292,73 +292,73 @@ module _ (rs p row : List ℕ) (nulls : ℕ) (n : Node) (f : Fields) (ok : Evalu
 
   pub compared-truth :
       f .kind ≡ 4 → f .code < 8 → (x y : Option ℤ) (r : Truth) →
-      x ≡ valueIn R (rowOf row nulls) (f .a) → y ≡ valueIn R (rowOf row nulls) (f .b) → r ≡ comparedOf (f .code) x y →
-      r ≡ truthIn R (rowOf row nulls) (n .0)
+      x ≡ valueIn R (rowKeys row nulls) (f .a) → y ≡ valueIn R (rowKeys row nulls) (f .b) → r ≡ comparedOf (f .code) x y →
+      r ≡ truthIn R (rowKeys row nulls) (n .0)
   compared-truth k h x y r ex ey er =
       er ∙ rw (ex, ey)
-      (sym (truth-of-step _ (binary-is p f k) ∙ compared-step (rowOf row nulls) cells (f .a) (f .b) (f .code) h))
+      (sym (truth-of-step _ (binary-is p f k) ∙ compared-step (rowKeys row nulls) cells (f .a) (f .b) (f .code) h))
 
   pub connected-truth :
       f .kind ≡ 4 → 8 ≤ f .code → (x y r : Truth) →
-      x ≡ truthIn R (rowOf row nulls) (f .a) → y ≡ truthIn R (rowOf row nulls) (f .b) → r ≡ connectedOf (f .code) x y →
-      r ≡ truthIn R (rowOf row nulls) (n .0)
+      x ≡ truthIn R (rowKeys row nulls) (f .a) → y ≡ truthIn R (rowKeys row nulls) (f .b) → r ≡ connectedOf (f .code) x y →
+      r ≡ truthIn R (rowKeys row nulls) (n .0)
   connected-truth k h x y r ex ey er =
       let l = logic-code (f .code) (fit-of .operator k) h in
       er ∙ rw (ex, ey)
-      (sym (truth-of-step _ (binary-is p f k) ∙ connected-step (rowOf row nulls) cells (f .a) (f .b) (f .code) (l .0)
+      (sym (truth-of-step _ (binary-is p f k) ∙ connected-step (rowKeys row nulls) cells (f .a) (f .b) (f .code) (l .0)
       (l .1)))
 
   pub not-truth :
-      f .kind ≡ 5 → (t r : Truth) → t ≡ truthIn R (rowOf row nulls) (f .a) → r ≡ not3 t → r ≡ truthIn R
-      (rowOf row nulls) (n .0)
+      f .kind ≡ 5 → (t r : Truth) → t ≡ truthIn R (rowKeys row nulls) (f .a) → r ≡ not3 t → r ≡ truthIn R
+      (rowKeys row nulls) (n .0)
   not-truth k t r et er = er ∙ rw et (sym (truth-of-step (Not (f .a)) (not-is p f k)))
 
   pub null-truth :
       f .kind ≡ 6 → (x : Option ℤ) (b : Bool) (r : Truth) →
-      x ≡ valueIn R (rowOf row nulls) (f .a) → b ≡ nullTest x → r ≡ ofBool b → r ≡ truthIn R (rowOf row nulls) (n .0)
+      x ≡ valueIn R (rowKeys row nulls) (f .a) → b ≡ nullTest x → r ≡ ofBool b → r ≡ truthIn R (rowKeys row nulls) (n .0)
   null-truth k x b r ex eb er = er ∙ rw (eb, ex) (sym (truth-of-step (IsNull (f .a)) (null-is p f k)))
 
   pub not-null-truth :
       f .kind ≡ 7 → (x : Option ℤ) (b : Bool) (r : Truth) →
-      x ≡ valueIn R (rowOf row nulls) (f .a) → b ≡ nullTest x → r ≡ ofBool (not b) → r ≡ truthIn R (rowOf row nulls)
+      x ≡ valueIn R (rowKeys row nulls) (f .a) → b ≡ nullTest x → r ≡ ofBool (not b) → r ≡ truthIn R (rowKeys row nulls)
       (n .0)
   not-null-truth k x b r ex eb er = er ∙ rw (eb, ex) (sym (truth-of-step (IsNotNull (f .a)) (not-null-is p f k)))
 
   pub between-truth :
       f .kind ≡ 8 → (x low high : Option ℤ) (r : Truth) →
-      x ≡ valueIn R (rowOf row nulls) (f .a) → low ≡ valueIn R (rowOf row nulls) (f .b) →
-      high ≡ valueIn R (rowOf row nulls) (f .c) → r ≡ betweenOf (f .code) x low high → r ≡ truthIn R (rowOf row nulls)
+      x ≡ valueIn R (rowKeys row nulls) (f .a) → low ≡ valueIn R (rowKeys row nulls) (f .b) →
+      high ≡ valueIn R (rowKeys row nulls) (f .c) → r ≡ betweenOf (f .code) x low high → r ≡ truthIn R (rowKeys row nulls)
       (n .0)
   between-truth k x low high r ex el eh er =
       er ∙ rw (ex, el, eh)
-      (sym (truth-of-step _ (between-is p f k) ∙ between-step (rowOf row nulls) cells (f .code) (f .a) (f .b) (f .c)))
+      (sym (truth-of-step _ (between-is p f k) ∙ between-step (rowKeys row nulls) cells (f .code) (f .a) (f .b) (f .c)))
 
   pub leaf-truth :
       (f .kind ≡ 4 → ⊥) → (f .kind ≡ 5 → ⊥) → (f .kind ≡ 6 → ⊥) → (f .kind ≡ 7 → ⊥) → (f .kind ≡ 8 → ⊥) →
       (f .kind ≡ 10 → ⊥) →
-      (x : Option ℤ) (r : Truth) → x ≡ leafOf (rowOf row nulls) f → r ≡ toTruth x → r ≡ truthIn R (rowOf row nulls)
+      (x : Option ℤ) (r : Truth) → x ≡ leafOf (rowKeys row nulls) f → r ≡ toTruth x → r ≡ truthIn R (rowKeys row nulls)
       (n .0)
   leaf-truth n4 n5 n6 n7 n8 n10 x r ex er =
-      er ∙ rw ex (sym (truth-of-step _ refl ∙ leaf-truth-step p (rowOf row nulls) cells f n4 n5 n6 n7 n8 n10))
+      er ∙ rw ex (sym (truth-of-step _ refl ∙ leaf-truth-step p (rowKeys row nulls) cells f n4 n5 n6 n7 n8 n10))
 
-  pub leaf-is-value : f .kind ≤ 3 → (x : Option ℤ) → x ≡ leafOf (rowOf row nulls) f → x ≡ valueIn R (rowOf row nulls)
+  pub leaf-is-value : f .kind ≤ 3 → (x : Option ℤ) → x ≡ leafOf (rowKeys row nulls) f → x ≡ valueIn R (rowKeys row nulls)
       (n .0)
-  leaf-is-value h x ex = ex ∙ sym (ap (λ c. c .value) (cell-of _ refl) ∙ leaf-value-step p (rowOf row nulls) cells f h)
+  leaf-is-value h x ex = ex ∙ sym (ap (λ c. c .value) (cell-of _ refl) ∙ leaf-value-step p (rowKeys row nulls) cells f h)
 
   pub truth-is-value :
-      3 < f .kind → (t : Truth) (x : Option ℤ) → t ≡ truthIn R (rowOf row nulls) (n .0) → x ≡ ofTruth t →
-      x ≡ valueIn R (rowOf row nulls) (n .0)
+      3 < f .kind → (t : Truth) (x : Option ℤ) → t ≡ truthIn R (rowKeys row nulls) (n .0) → x ≡ ofTruth t →
+      x ≡ valueIn R (rowKeys row nulls) (n .0)
   truth-is-value h t x et ex =
       ex ∙ ap ofTruth et
       ∙ subst (λ c. ofTruth (c .truth) ≡ c .value) (sym (cell-of _ refl))
-      (sym (truth-value-step p (rowOf row nulls) cells f h))
+      (sym (truth-value-step p (rowKeys row nulls) cells f h))
 
 -- is_in: the cell of the list is its values.
 pub member-truth :
     (rs p row : List ℕ) (nulls : ℕ) (n : Node) (f : Fields) (ok : Evaluable rs p row (n .0)) (e : f ≡ fieldsAt rs n) →
     f .kind ≡ 10 → (g : Fields) → g ≡ fieldsAt rs (node (f .b)) → (x : Option ℤ) (r : Truth) →
-    x ≡ valueIn (aexprOf rs p) (rowOf row nulls) (f .a) → r ≡ memberOf p g (eqb (f .code) 1) x →
-    r ≡ truthIn (aexprOf rs p) (rowOf row nulls) (n .0)
+    x ≡ valueIn (aexprOf rs p) (rowKeys row nulls) (f .a) → r ≡ memberOf p g (eqb (f .code) 1) x →
+    r ≡ truthIn (aexprOf rs p) (rowKeys row nulls) (n .0)
 unfolding memberOf
 member-truth rs p row nulls n f ok e k g eg x r ex er =
     let b : f .b < n .0 = in-below rs p row nulls n f ok e k .1 in

@@ -12,7 +12,7 @@ use Rattle.truth.specs.declared.scalar.Ordering.{Ordering}
 use Rattle.truth.specs.declared.scalar.Ordering.the-variants.{Less, Equal, Greater}
 use Rattle.truth.specs.Order.{Order}
 use Rattle.truth.specs.Halves.{ordZ, lessZ, key, biasOf}
-use Rattle.truth.proofs.Orders.{cmp-lt, cmp-gt, cmp-eq}
+use Rattle.truth.proofs.Orders.{cmp-lt, cmp-gt, cmp-eq, total-z}
 
 abbrev half : ℕ
 half = 9223372036854775808
@@ -73,12 +73,12 @@ bias-same a b ha hb h =
 -- What three tests of two biased values say.
 module _ (x y a b : ℕ) (ha : a < 2 ^ 64) (hb : b < 2 ^ 64) (p : x ≡ biasOf a) (q : y ≡ biasOf b) where
   pub says-less : x < y → Less ≡ ordZ .cmp (key a) (key b)
-  says-less h = sym (cmp-lt ordZ {a = key a} {b = key b} (key-less a b ha hb (rw (p, q) at h)))
+  says-less h = sym (cmp-lt total-z {a = key a} {b = key b} (key-less a b ha hb (rw (p, q) at h)))
 
   pub says-equal : x ≡ y → Equal ≡ ordZ .cmp (key a) (key b)
-  says-equal h = sym (cmp-eq ordZ {a = key a} {b = key b} (ap key (bias-same a b ha hb (sym p ∙ h ∙ q))))
+  says-equal h = sym (cmp-eq total-z {a = key a} {b = key b} (ap key (bias-same a b ha hb (sym p ∙ h ∙ q))))
 
   pub says-greater : y ≤ x → (x ≡ y → ⊥) → Greater ≡ ordZ .cmp (key a) (key b)
   says-greater h d =
       let l : y < x = omega (arith, d) in sym
-      (cmp-gt ordZ {a = key a} {b = key b} (key-less b a hb ha (rw (p, q) at l)))
+      (cmp-gt total-z {a = key a} {b = key b} (key-less b a hb ha (rw (p, q) at l)))

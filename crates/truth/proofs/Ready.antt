@@ -11,7 +11,7 @@ use lib.ListN.{length}
 use borrow.Author.Tests.{ltb-true, leb-true, eqb-true, lt-ltb}
 use Rattle.records.specs.Operator.{operatorAt, codeOf, isLeftOut}
 use Rattle.records.specs.Record.{fieldsAt, decode, recordAt, node, columnNumber, closedAt, inputs}
-use Rattle.records.specs.Shape.{shapeOk, knownOk, unusedOk, literalOk, maxCode, isTyped, knownType}
+use Rattle.records.specs.Shape.{shapeOk, knownOk, unusedOk, literalOk, maxCode, Ty, uses, knownType}
 use Rattle.checking.specs.Fit.{reachOk, servedOk, typesOk, typeAt, listOk, allFit, memberFits}
 use Rattle.checking.specs.Check.{tableOk, typesKnown}
 use Rattle.checking.specs.Checked.{CheckedRecord, Checked}
@@ -169,7 +169,7 @@ module _ (f : Fields) where
   unfolding shapeOk knownOk
   code-known e =
       third (leb 1 (f .kind)) (leb (f .kind) 10) (leb (f .code) (maxCode (f .kind)))
-      (cond (isTyped (f .kind)) (knownType (f .ty)) (eqb (f .ty) 0))
+      (cond (uses Ty (f .kind)) (knownType (f .ty)) (eqb (f .ty) 0))
       (and-left (knownOk f) (unusedOk f && literalOk f) e)
 
   binary-code : f .kind ≡ 4 → shapeOk f ≡ true → f .code < 20

@@ -16,7 +16,7 @@ use Rattle.records.specs.Shape.{inType}
 use Rattle.records.proofs.Loops.{all-holds}
 use Rattle.truth.specs.Halves.{key}
 use Rattle.truth.specs.Cell.{TruthKeys}
-use Rattle.truth.specs.FromBytes.{nullMarked, rowOf, truthKeys}
+use Rattle.truth.specs.FromBytes.{nullMarked, rowKeys, truthKeys}
 use Rattle.truth.specs.RowTest.{columnOk, columnsOk, marksOk, rowFault}
 use Rattle.truth.proofs.Keys.{lt-or-le}
 
@@ -37,8 +37,8 @@ IsTruth x = (x ≡ none) ⊎ ((x ≡ some (truthKeys .falseKey)) ⊎ (x ≡ some
 -- A column of type Truth holds a truth.
 pub truth-columns :
     (t row : List ℕ) (nulls : ℕ) → rowFault t row nulls ≡ 0 → (c : ℕ) → c < length t → getD t c 0 ≡ 3 →
-    IsTruth (rowOf row nulls c)
-unfolding rowOf columnsOk columnOk inType
+    IsTruth (rowKeys row nulls c)
+unfolding rowKeys columnsOk columnOk inType
 truth-columns t row nulls e c h ty =
     go (nullMarked nulls c) (valueAt row c)
     (subst (λ y. cond (nullMarked nulls c) (eqb (valueAt row c) 0) (inType y (valueAt row c)) ≡ true) ty

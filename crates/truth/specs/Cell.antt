@@ -16,10 +16,12 @@ use Rattle.truth.specs.AExpr.{ListLiteral, IsIn, Missing}
 use Rattle.truth.specs.AExpr.{BinaryOp, Compare, EqValidity, NotEqValidity, And, Or, Xor, LogicalAnd, LogicalOr}
 use Rattle.truth.specs.Membership.{in3}
 
--- The keys of the two values of type Truth; false is below true.
-pub record TruthKeys (K : Type 0) : Type 0 where
+-- The keys of the two values of type Truth.
+pub record TruthKeys {K : Type 0} (O : Order K) : Type 0 where
   pub falseKey : K
   pub trueKey : K
+  -- false is below true
+  pub below : O .less falseKey trueKey
 
 -- What a record offers to those above it: its truth, its value, and, of a list, whether it holds a null and its values.
 pub record Cell (K Val : Type 0) : Type 0 where
@@ -45,7 +47,7 @@ abbrev pub highComparison : Bool → Comparison
 highComparison true = LtEq
 highComparison false = Lt
 
-module _ {K Val : Type 0} (key : Val → K) (O : Order K) (tk : TruthKeys K) where
+module _ {K Val : Type 0} (key : Val → K) (O : Order K) (tk : TruthKeys O) where
   abbrev pub valueOfTruth : Truth → Option K
   valueOfTruth False = some (tk .falseKey)
   valueOfTruth Unknown = none
@@ -111,6 +113,3 @@ module _ {K Val : Type 0} (key : Val → K) (O : Order K) (tk : TruthKeys K) whe
 
   abbrev pub truthAt : (ℕ → AExpr Val) → (ℕ → Option K) → ℕ → Truth
   truthAt R row n = cellAt R row n .truth
-
-  abbrev pub valueAt : (ℕ → AExpr Val) → (ℕ → Option K) → ℕ → Option K
-  valueAt R row n = cellAt R row n .value

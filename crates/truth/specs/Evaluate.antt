@@ -22,7 +22,7 @@ use Rattle.truth.specs.Logic.{and3, or3, xor3, ofBool}
 use Rattle.truth.specs.AExpr.{Inputs}
 use Rattle.truth.specs.Membership.{mem, in3}
 use Rattle.truth.specs.Cell.{isNull, valueOfTruth, truthOfValue, compare3, sameValue}
-use Rattle.truth.specs.FromBytes.{aexprOf, rowOf, truthKeys, truthIn, valueIn, valuesFrom}
+use Rattle.truth.specs.FromBytes.{aexprOf, rowKeys, truthKeys, truthIn, valueIn, valuesFrom}
 
 -- A value of the code as null or a key.
 abbrev pub keyed : Value → Option ℤ
@@ -91,10 +91,10 @@ memberOf p f nullsEqual x = memberTruth nullsEqual (eqb (f .code) 1) (valuesFrom
 
 -- What the row of these bytes makes of record n of those bytes.
 abbrev pub rowTruth : List ℕ → List ℕ → List ℕ → ℕ → ℕ → Truth
-rowTruth rs p row nulls n = truthIn (aexprOf rs p) (rowOf row nulls) n
+rowTruth rs p row nulls n = truthIn (aexprOf rs p) (rowKeys row nulls) n
 
 abbrev pub rowValue : List ℕ → List ℕ → List ℕ → ℕ → ℕ → Option ℤ
-rowValue rs p row nulls n = valueIn (aexprOf rs p) (rowOf row nulls) n
+rowValue rs p row nulls n = valueIn (aexprOf rs p) (rowKeys row nulls) n
 
 -- Column c has its eight bytes in the row.
 abbrev pub ColumnThere : List ℕ → ℕ → Type 0

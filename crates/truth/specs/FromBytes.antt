@@ -4,6 +4,7 @@ use mathlib.Core.Bool.{Bool, true, false, cond}
 use mathlib.Core.List.{List, [], _∷_}
 use mathlib.Core.Option.{Option, none, some}
 use Prim.Native.Nat.{ℕ, zero, suc, _/_, _%_, _^_}
+use native.Mathlib.Omega.{arith}
 use lib.Dec.{ltb, eqb}
 use lib.IntN.{ℤ}
 use Rattle.records.specs.Bytes as bytes
@@ -20,7 +21,7 @@ use Rattle.truth.specs.Comparison.{Comparison, Eq, NotEq, Lt, LtEq, Gt, 
 use Rattle.truth.specs.AExpr.{AExpr, Column, Literal, Null, BinaryExpr, Not, IsNull, IsNotNull, IsBetween}
 use Rattle.truth.specs.AExpr.{ListLiteral, IsIn, Missing}
 use Rattle.truth.specs.AExpr.{BinaryOp, Compare, EqValidity, NotEqValidity, And, Or, Xor, LogicalAnd, LogicalOr}
-use Rattle.truth.specs.Cell.{TruthKeys, truthAt, valueAt}
+use Rattle.truth.specs.Cell.{TruthKeys, cellAt, truthAt}
 
 -- Arithmetic, which checking refuses, is no expression here.
 abbrev pub binaryExpr : Operator → ℕ → ℕ → AExpr ℕ
@@ -89,17 +90,17 @@ aexprAt rs p used n = cond (ltb n used) (aexprOf rs p n) Missing
 abbrev pub nullMarked : ℕ → ℕ → Bool
 nullMarked nulls c = eqb (nulls / 2 ^ c % 2) 1
 
--- The row of eight bytes a column, and its null marks.
-unfoldable pub rowOf : List ℕ → ℕ → ℕ → Option ℤ
-rowOf row nulls c = cond (nullMarked nulls c) none (some (key (bytes.valueAt row c)))
+-- The keys of a row of eight bytes a column, and its null marks.
+unfoldable pub rowKeys : List ℕ → ℕ → ℕ → Option ℤ
+rowKeys row nulls c = cond (nullMarked nulls c) none (some (key (bytes.valueAt row c)))
 
 -- A Truth is 0 or 1.
-abbrev pub truthKeys : TruthKeys ℤ
-truthKeys = record { falseKey = key 0; trueKey = key 1 }
+abbrev pub truthKeys : TruthKeys ordZ
+truthKeys = record { falseKey = key 0; trueKey = key 1; below = omega arith }
 
 -- What a row of keys makes of record n, of expressions whose values are 64 bits.
 abbrev pub truthIn : (ℕ → AExpr ℕ) → (ℕ → Option ℤ) → ℕ → Truth
 truthIn R row n = truthAt key ordZ truthKeys R row n
 
 abbrev pub valueIn : (ℕ → AExpr ℕ) → (ℕ → Option ℤ) → ℕ → Option ℤ
-valueIn R row n = valueAt key ordZ truthKeys R row n
+valueIn R row n = cellAt key ordZ truthKeys R row n .value

@@ -1,5 +1,5 @@
 -- A totally ordered type, by its three-way comparison.
-use mathlib.Core.Path.{_≡_, sym}
+use mathlib.Core.Path.{_≡_}
 use mathlib.Core.Bool.{Bool, true, false}
 use Rattle.truth.specs.declared.scalar.Ordering.{Ordering}
 use Rattle.truth.specs.declared.scalar.Ordering.the-variants.{Less, Equal, Greater}
@@ -10,30 +10,20 @@ pub data View {K : Type 0} (less : K → K → Type 0) (a b : K) : Ordering → 
   is-equal : a ≡ b → View less a b Equal
   is-greater : less b a → View less a b Greater
 
+-- A type with its comparison.
 pub record Order (K : Type 0) : Type 1 where
   pub less : K → K → Type 0
   pub cmp : K → K → Ordering
-  pub view : (a b : K) → View less a b (cmp a b)
-  pub irrefl : {a : K} → less a a → ⊥
-  pub trans : {a b c : K} → less a b → less b c → less a c
 
-pub opp-view :
-    {K : Type 0} {less : K → K → Type 0} {a b : K} {o : Ordering} →
-    View less b a o → View (λ x y. less y x) a b o
-opp-view (is-less h) = is-less h
-opp-view (is-equal e) = is-equal (sym e)
-opp-view (is-greater h) = is-greater h
+-- The comparison tells a total order.
+pub record Total {K : Type 0} (O : Order K) : Type 0 where
+  pub view : (a b : K) → View (O .less) a b (O .cmp a b)
+  pub irrefl : {a : K} → O .less a a → ⊥
+  pub trans : {a b c : K} → O .less a b → O .less b c → O .less a c
 
 -- The order read backwards: an upper bound is a lower bound there.
 abbrev pub opp : {K : Type 0} → Order K → Order K
-opp O =
-    record {
-      less = λ a b. O .less b a;
-      cmp = λ a b. O .cmp b a;
-      view = λ a b. opp-view (O .view b a);
-      irrefl = O .irrefl;
-      trans = λ h k. O .trans k h;
-    }
+opp O = record { less = λ a b. O .less b a; cmp = λ a b. O .cmp b a }
 
 -- Of `cmp bound key`: `above true` is bound ≤ key, `above false` is bound < key.
 abbrev pub above : Bool → Ordering → Bool

@@ -13,7 +13,7 @@ use Rattle.checking.specs.declared.check.CheckAnswer.{CheckAnswer}
 use Rattle.checking.specs.declared.check.CheckAnswer.the-variants as check
 use Rattle.truth.specs.declared.test.RowAnswer.{RowAnswer}
 use Rattle.truth.specs.declared.test.RowAnswer.the-variants.{Refused, Tested}
-use Rattle.truth.specs.FromBytes.{aexprAt, nullMarked, rowOf, truthIn}
+use Rattle.truth.specs.FromBytes.{aexprAt, nullMarked, rowKeys, truthIn}
 
 -- A null column's value is zero; any other is a value of the column's type.
 unfoldable pub columnOk : ℕ → Bool → ℕ → Bool
@@ -37,7 +37,7 @@ unfoldable pub checkedAnswer : List ℕ → List ℕ → List ℕ → ℕ → �
 checkedAnswer t rs p used root row nulls =
     cond (ltb 4096 (treeCount rs root)) (Refused 8)
     (cond (eqb (rowFault t row nulls) 0)
-    (Tested (truthIn (aexprAt rs p used) (rowOf row nulls) root))
+    (Tested (truthIn (aexprAt rs p used) (rowKeys row nulls) root))
     (Refused (rowFault t row nulls)))
 
 abbrev pub answerIf : CheckAnswer → RowAnswer → RowAnswer

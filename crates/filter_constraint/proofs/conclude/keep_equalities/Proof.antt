@@ -17,13 +17,13 @@ use Rattle.columns.specs.Abstraction.{Conjuncts, numbered, columnOf}
 use Rattle.merge.specs.Emit.{isFixed}
 use Rattle.stages.specs.Rows.{rowOf}
 use Rattle.filter_constraint.specs.Words.{columnsOf}
-use Rattle.filter_constraint.specs.State.{Table, Shows, Keeps, Kept, edgesOf}
+use Rattle.filter_constraint.specs.State.{ColumnTable, Shows, Keeps, Kept, edgesOf}
 use Rattle.filter_constraint.proofs.Keeping.{kept-none, kept-more}
 use borrow.Author.Needs.{needs}
 
 abbrev Inv-loop : tie.InvT-loop
 Inv-loop cells lefts equals edges kept₀ keeps next₀ dropped₀ e₀ kept next dropped e =
-    (e ≤ edges) × (next ≤ keeps + e) × ((t : Conjuncts) (marks : List ℕ) (T : Table) (l rights : List ℕ) → Shows
+    (e ≤ edges) × (next ≤ keeps + e) × ((t : Conjuncts) (marks : List ℕ) (T : ColumnTable) (l rights : List ℕ) → Shows
     t (columnsOf cells) marks T → Keeps kept₀ keeps l → Kept T (edgesOf lefts rights equals e) kept next dropped
     l) × (length kept ≡ length kept₀)
 

@@ -17,14 +17,14 @@ use Rattle.columns.specs.Abstraction.{conjuncts, numbered}
 use Rattle.rewrite.specs.Walk.{firstOf}
 use Rattle.stages.specs.Rows.{rowOf}
 use Rattle.filter_constraint.specs.Words.{columnsOf}
-use Rattle.filter_constraint.specs.State.{Table, Shows, Fits, Resolved}
+use Rattle.filter_constraint.specs.State.{ColumnTable, Shows, Fits, Resolved}
 use Rattle.filter_constraint.proofs.Arrays.{fits-set}
 use Rattle.filter_constraint.proofs.Resolving.{resolved-none, resolved-stored, column-few}
 use borrow.Author.Needs.{needs}
 
 abbrev Inv-loop : tie.InvT-loop
 Inv-loop kinds values starts counts pool cells₀ marks₀ order columns unsat₀ total₀ o₀ cells marks unsat total o =
-    (o ≤ columns) × (total ≤ o * 130) × ((T : Table) → Shows (conjuncts kinds values starts counts pool)
+    (o ≤ columns) × (total ≤ o * 130) × ((T : ColumnTable) → Shows (conjuncts kinds values starts counts pool)
     (columnsOf cells₀) marks₀ T → Resolved (conjuncts kinds values starts counts pool) (columnsOf cells) marks
     (firstOf order o) false unsat total T) × Fits cells marks × (length marks ≡ length marks₀) × (length cells ≡
     length cells₀)

@@ -14,13 +14,13 @@ use lib.ListN.{length}
 use Rattle.records.proofs.Laws.{and-left, and-right}
 use Rattle.columns.specs.Abstraction.{conjuncts}
 use Rattle.filter_constraint.specs.Words.{columnsOf}
-use Rattle.filter_constraint.specs.State.{Table, Shows, Fits, Passed, edgesOf}
+use Rattle.filter_constraint.specs.State.{ColumnTable, Shows, Fits, Passed, edgesOf}
 use Rattle.filter_constraint.proofs.Propagating.{passed-none, passed-more, passed-end}
 use borrow.Author.Needs.{needs}
 
 abbrev Inv-loop : tie.InvT-loop
 Inv-loop kinds values starts counts pool cells₀ marks₀ lefts rights edges columns emitted₀ going₀ passes₀ cells marks emitted going passes =
-    (passes ≤ columns) × ((T : Table) (equals : List ℕ) → Shows (conjuncts kinds values starts counts pool)
+    (passes ≤ columns) × ((T : ColumnTable) (equals : List ℕ) → Shows (conjuncts kinds values starts counts pool)
     (columnsOf cells₀) marks₀ T → Passed (conjuncts kinds values starts counts pool) (columnsOf cells) marks
     (edgesOf lefts rights equals edges) columns passes emitted going T) × Fits cells marks × (length marks ≡
     length marks₀) × (length cells ≡ length cells₀)

@@ -10,14 +10,14 @@ use native.Mathlib.Omega.{arith}
 use lib.ListN.{length}
 use Rattle.columns.specs.Abstraction.{conjuncts}
 use Rattle.filter_constraint.specs.Words.{columnsOf}
-use Rattle.filter_constraint.specs.State.{Table, Shows, Fits, Merged, edgesOf}
+use Rattle.filter_constraint.specs.State.{ColumnTable, Shows, Fits, EdgesMerged, edgesOf}
 use Rattle.filter_constraint.proofs.Propagating.{merged-none, merged-more}
 use borrow.Author.Needs.{needs}
 
 abbrev Inv-loop : tie.InvT-loop
 Inv-loop kinds values starts counts pool cells₀ marks₀ lefts rights edges emitted₀ any₀ e₀ cells marks emitted any e =
-    (e ≤ edges) × ((T : Table) (equals : List ℕ) → Shows (conjuncts kinds values starts counts pool) (columnsOf
-    cells₀) marks₀ T → Merged (conjuncts kinds values starts counts pool) (columnsOf cells) marks (edgesOf lefts
+    (e ≤ edges) × ((T : ColumnTable) (equals : List ℕ) → Shows (conjuncts kinds values starts counts pool) (columnsOf
+    cells₀) marks₀ T → EdgesMerged (conjuncts kinds values starts counts pool) (columnsOf cells) marks (edgesOf lefts
     rights equals e) emitted any T) × Fits cells marks × (length marks ≡ length marks₀) × (length cells ≡ length
     cells₀)
 

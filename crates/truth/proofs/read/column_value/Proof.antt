@@ -1,4 +1,4 @@
-use Rattle.truth.specs.FromBytes.{rowOf}
+use Rattle.truth.specs.FromBytes.{rowKeys}
 use borrow.Author.Needs.{needs}
 use Rattle.truth.proofs.read.column_value.Statement.{statement}
 use Rattle.truth.proofs.read.column_value.Tie as tie
@@ -13,7 +13,7 @@ null-marked-requires c κs = search needs
 
 -- src/read.rt:84:9
 returns : tie.Need-returns
-unfolding rowOf
+unfolding rowKeys
 returns c = rw (← c .before .null-marked .ensures, c .if1 .taken)
 
 -- src/read.rt:86:39
@@ -26,7 +26,7 @@ value-in-requires c κs = search needs
 
 -- src/read.rt:79:1
 returns-2 : tie.Need-returns-2
-unfolding rowOf
+unfolding rowKeys
 returns-2 c = rw (← c .before .before .before .null-marked .ensures, c .before .before .if1 .left, c .value-in .ensures)
 
 pub column-value-spec : {M : Type 1} → statement M
