@@ -267,6 +267,9 @@ enum screen_rewrite_answer {
  * Without room the answer is SCREEN_REFUSED_ROOM, and the same call with more records lent may succeed; lending 4,096
  * records is all the room there is, since no more can be used. SCREEN_UNCHANGED needs none.
  *
+ * Rewriting the screen returned once more answers SCREEN_UNCHANGED; or SCREEN_REFUSED_CONJUNCTS, if it has over 128
+ * conjuncts, as equalities that carry bounds to many columns can make it.
+ *
  * What holds of the screen returned: a row passes it exactly if it passes the screen sent, whatever the row holds; so
  * with SCREEN_NOTHING_PASSES no row passes. That answer is not given of every screen that no row passes: "c0 > 3" and
  * "c0 < 4" are left as they are, though no whole number passes both. Of a plain screen that is not refused it is given

@@ -1,7 +1,7 @@
 -- A plain screen that is not answered by `nothing` lets a row pass.
 use Rattle.merge.specs.Passes.{passTimes}
 use mathlib.Core.Path.{_≡_, refl, sym, _∙_, ap, subst}
-use mathlib.Core.Bool.{Bool, true, false, not, _&&_, _||_, cond, true≢false, and-eq-true-iff, or-true}
+use mathlib.Core.Bool.{Bool, true, false, _&&_, _||_, cond, true≢false, and-eq-true-iff, or-true}
 use mathlib.Core.List.{List, [], _∷_, _++_}
 use mathlib.Core.Option.{Option, none, some, Option·none-ne-some, Option·some-injective}
 use mathlib.Core.Logic.{inl, inr, _↔_}
@@ -18,7 +18,7 @@ use Rattle.constraints.specs.Scalars.{Scalars}
 use Rattle.constraints.specs.declared.column.Nullability.{Nullability}
 use Rattle.constraints.specs.declared.column.Nullability.the-variants.{NonNull, Null, Unconstrained}
 use Rattle.merge.proofs.Passes.{EdgesIn, In, edge-ind, eqb-self}
-use Rattle.merge.proofs.Sound.{FairAll, Grows, Holds, HoldsAll, Sound, addTo-tighter, and-both, collect-going}
+use Rattle.merge.proofs.Sound.{FairAll, Grows, Holds, HoldsAll, Some, Sound, addTo-tighter, and-both, collect-going}
 use Rattle.merge.proofs.Sound.{collect-grows, collect-in, ends, enter-in, in-enter, live-of, merge-is-sound}
 use Rattle.merge.proofs.Sound.{unsat-none, upd-ind, upd-self}
 use Rattle.merge.proofs.Spread.{AllEndsAgree, EndsAgree, Linked, pass-emitted, pass-fix, pass-live}
@@ -31,22 +31,27 @@ use Rattle.merge.specs.Emit.{NothingPasses, Outcome, Rebuilt, Unchanged,
 use Rattle.merge.specs.Emit.{keptEqualities, mergeFilterConstraints, propagated, resolved}
 use Rattle.merge.specs.Propagate.{mergeEdge, mergedRight, pass, propagateEmitted}
 
+-- a property of every equality
+abbrev pub AllE : ((ℕ × ℕ × ℕ) → Type 0) → List (ℕ × ℕ × ℕ) → Type 0
+AllE P [] = Unit {0}
+AllE P (e ∷ es) = P e × AllE P es
+
 module _ {K Val : Type 0} (S : Scalars K Val) (H : HalfPoints S) where
   -- ---- the bounds of a column that is not impossible do not cross
-  abbrev AllConsistent : Table Val → Type 0
+  abbrev pub AllConsistent : Table Val → Type 0
   AllConsistent t = (c : ℕ) → Consistent S (t c)
 
-  merge-consistent : (q r : ColumnConstraints Val) → Consistent S q → Consistent S (mergeFrom S q r)
+  pub merge-consistent : (q r : ColumnConstraints Val) → Consistent S q → Consistent S (mergeFrom S q r)
   merge-consistent q r h = addAll-consistent S (recorded r) (addAll S (emitted r) q)
       (addAll-consistent S (emitted r) q h)
 
-  pass-consistent : (es : List (ℕ × ℕ × ℕ)) (t : Table Val) → AllConsistent t → AllConsistent (pass S es t)
+  pub pass-consistent : (es : List (ℕ × ℕ × ℕ)) (t : Table Val) → AllConsistent t → AllConsistent (pass S es t)
   pass-consistent [] t h = h
   pass-consistent (e ∷ es) t h = pass-consistent es (mergeEdge S (e .0) (e .1) t)
       (edge-ind S (λ c q. Consistent S q) (e .0) (e .1) t h (merge-consistent (t (e .1)) (t (e .0)) (h (e .1)))
       (merge-consistent (t (e .0)) (mergedRight S (e .0) (e .1) t) (h (e .0))) (eqb (e .0) (e .1)))
 
-  passTimes-consistent : (n : ℕ) (es : List (ℕ × ℕ × ℕ)) (t : Table Val) → AllConsistent t →
+  pub passTimes-consistent : (n : ℕ) (es : List (ℕ × ℕ × ℕ)) (t : Table Val) → AllConsistent t →
       AllConsistent (passTimes S n es t)
   passTimes-consistent zero es t h = h
   passTimes-consistent (suc n) es t h = passTimes-consistent n es (pass S es t) (pass-consistent es t h)
@@ -66,7 +71,7 @@ module _ {K Val : Type 0} (S : Scalars K Val) (H : HalfPoints S) where
       (requireNonNull S a (s .constraints)) (addTo-consistent a (Require NonNull ∷ []) (s .constraints) h)
   collectOne-consistent (Opaque n) s h = h
 
-  collect-consistent : (l : List (Conjunct Val)) (s : Collected Val) → AllConsistent (s .constraints) →
+  pub collect-consistent : (l : List (Conjunct Val)) (s : Collected Val) → AllConsistent (s .constraints) →
       AllConsistent (collect S l s .constraints)
   collect-consistent [] s h = h
   collect-consistent (x ∷ l) s h = collect-consistent l (cond (s .unsat) s (collectOne S x s)) (go (s .unsat))
@@ -76,11 +81,7 @@ module _ {K Val : Type 0} (S : Scalars K Val) (H : HalfPoints S) where
       go false = collectOne-consistent x s h
 
   -- ---- a property of every equality
-  abbrev AllE : ((ℕ × ℕ × ℕ) → Type 0) → List (ℕ × ℕ × ℕ) → Type 0
-  AllE P [] = Unit {0}
-  AllE P (e ∷ es) = P e × AllE P es
-
-  alle-app : (P : (ℕ × ℕ × ℕ) → Type 0) (es fs : List (ℕ × ℕ × ℕ)) → AllE P (es ++ fs) → AllE P es × AllE P fs
+  pub alle-app : (P : (ℕ × ℕ × ℕ) → Type 0) (es fs : List (ℕ × ℕ × ℕ)) → AllE P (es ++ fs) → AllE P es × AllE P fs
   alle-app P [] fs h = (tt, h)
   alle-app P (e ∷ es) fs h = let r = alle-app P es fs (h .1) in ((h .0, r .0), r .1)
 
@@ -114,10 +115,10 @@ module _ {K Val : Type 0} (S : Scalars K Val) (H : HalfPoints S) where
     ExactAll [] = Unit {0}
     ExactAll (x ∷ l) = Exact x × ExactAll l
 
-    abbrev Meets : (ℕ × ℕ × ℕ) → Type 0
+    abbrev pub Meets : (ℕ × ℕ × ℕ) → Type 0
     Meets e = (k j : K) → ρ (e .0) ≡ some k → ρ (e .1) ≡ some j → k ≡ j
 
-    abbrev Full : Collected Val → Type 0
+    abbrev pub Full : Collected Val → Type 0
     Full f = AllE Meets (f .edges) × ((c : ℕ) → In S c (f .order) →
         (f .constraints c .unsat ≡ false) × (admitsEmitted S (f .constraints c) (ρ c) ≡ true) ×
         (admitsRecorded S (f .constraints c) (ρ c) ≡ true))
@@ -148,41 +149,77 @@ module _ {K Val : Type 0} (S : Scalars K Val) (H : HalfPoints S) where
     full-at s f g k c i = let r = k .1 c (g .ord c i) in
         (g .alive c (r .0), g .sho c (r .0) (r .1), g .min c (r .0) (r .2))
 
-    collectOne-full : (x : Conjunct Val) (s f : Collected Val) → Exact x → Grows S ρ N (collectOne S x s) f →
-        AllE Meets (collectOne S x s .edges) → Full f → Holds S ρ N x
-    collectOne-full (Bounds c l) s f e g m k = let r = full-at (collectOne S (Bounds c l) s) f g k c
-        (enter-in S c (s .order)) in addTo-back c l (s .constraints) (r .0) (r .1) (r .2)
-    collectOne-full (Recorded z n c l) s f e g m k = let r = full-at (collectOne S (Recorded z n c l) s) f g k c
-        (enter-in S c (s .order)) in e (addTo-back c l (s .constraints) (r .0) (r .1) (r .2))
-    collectOne-full (NonNullPair n a b) s f e g m k = absurd e
-    collectOne-full (Opaque n) s f e g m k = absurd e
-    collectOne-full (Equality a b n) s f e g m k =
-        let ra = full-at (collectOne S (Equality a b n) s) f g k a
-        (in-enter S a b (enter a (s .order)) (enter-in S a (s .order))) in
-        let rb = full-at (collectOne S (Equality a b n) s) f g k b (enter-in S b (enter a (s .order))) in
-        let t = addTo-tighter S ρ N b (Require NonNull ∷ []) (requireNonNull S a (s .constraints)) a in
-        let pa = required-some (ρ a) (addTo-back a (Require NonNull ∷ []) (s .constraints) (t .0 (ra .0))
-        (t .1 (ra .0) (ra .1)) (t .2 (ra .0) (ra .2))) in
-        let pb = required-some (ρ b) (addTo-back b (Require NonNull ∷ []) (requireNonNull S a (s .constraints))
-        (rb .0)
-        (rb .1) (rb .2)) in
-        let q = alle-app Meets (s .edges) ((a, b, n) ∷ []) m .1 .0 (pa .0) (pb .0) (pa .1) (pb .1) in
-        e (pa .0, pa .1, pb .1 ∙ ap some (sym q))
+    -- what a conjunct says of the row
+    abbrev pub Fits : Conjunct Val → Type 0
+    Fits (Bounds c l) = obeysAll S l (ρ c) ≡ true
+    Fits (Equality a b n) = Linked S ρ a b
+    Fits (Recorded z n c l) = obeysAll S l (ρ c) ≡ true
+    Fits (NonNullPair n a b) = Some S ρ N a × Some S ρ N b
+    Fits (Opaque n) = Unit {0}
 
-    collect-full : (l : List (Conjunct Val)) (s : Collected Val) → ExactAll l → collect S l s .unsat ≡ false →
-        Full (collect S l s) → HoldsAll S ρ N l
-    collect-full [] s e h k = tt
-    collect-full (x ∷ l) s e h k = go (s .unsat) (collect-going S ρ N (x ∷ l) s h) k
-        (collect-full l (cond (s .unsat) s (collectOne S x s)) (e .1) h k)
+    abbrev pub FitsAll : List (Conjunct Val) → Type 0
+    FitsAll [] = Unit {0}
+    FitsAll (x ∷ l) = Fits x × FitsAll l
+
+    required-fits : (a b : ℕ) (s f u : Collected Val) → u .constraints ≡
+        requireNonNull S b (requireNonNull S a (s .constraints)) → u .order ≡ enter b (enter a (s .order)) →
+        Grows S ρ N u f → Full f → Some S ρ N a × Some S ρ N b
+    required-fits a b s f u p q g k =
+        let at : (c : ℕ) → In S c (enter b (enter a (s .order))) →
+        (requireNonNull S b (requireNonNull S a (s .constraints)) c .unsat ≡ false) ×
+        (admitsEmitted S (requireNonNull S b (requireNonNull S a (s .constraints)) c) (ρ c) ≡ true) ×
+        (admitsRecorded S (requireNonNull S b (requireNonNull S a (s .constraints)) c) (ρ c) ≡ true) =
+        λ c i. subst (λ t. (t c .unsat ≡ false) × (admitsEmitted S (t c) (ρ c) ≡ true) ×
+        (admitsRecorded S (t c) (ρ c) ≡ true)) p (full-at u f g k c (subst (In S c) (sym q) i)) in
+        let ra = at a (in-enter S a b (enter a (s .order)) (enter-in S a (s .order))) in
+        let rb = at b (enter-in S b (enter a (s .order))) in
+        let t = addTo-tighter S ρ N b (Require NonNull ∷ []) (requireNonNull S a (s .constraints)) a in (
+          required-some (ρ a) (addTo-back a (Require NonNull ∷ []) (s .constraints) (t .0 (ra .0))
+              (t .1 (ra .0) (ra .1)) (t .2 (ra .0) (ra .2))),
+          required-some (ρ b) (addTo-back b (Require NonNull ∷ []) (requireNonNull S a (s .constraints)) (rb .0)
+              (rb .1) (rb .2)),
+        )
+
+    collectOne-fits : (x : Conjunct Val) (s f : Collected Val) → Grows S ρ N (collectOne S x s) f →
+        AllE Meets (collectOne S x s .edges) → Full f → Fits x
+    collectOne-fits (Bounds c l) s f g m k = let r = full-at (collectOne S (Bounds c l) s) f g k c
+        (enter-in S c (s .order)) in addTo-back c l (s .constraints) (r .0) (r .1) (r .2)
+    collectOne-fits (Recorded z n c l) s f g m k = let r = full-at (collectOne S (Recorded z n c l) s) f g k c
+        (enter-in S c (s .order)) in addTo-back c l (s .constraints) (r .0) (r .1) (r .2)
+    collectOne-fits (NonNullPair n a b) s f g m k =
+        required-fits a b s f (collectOne S (NonNullPair n a b) s) refl refl g k
+    collectOne-fits (Opaque n) s f g m k = tt
+    collectOne-fits (Equality a b n) s f g m k =
+        let p = required-fits a b s f (collectOne S (Equality a b n) s) refl refl g k in
+        let q = alle-app Meets (s .edges) ((a, b, n) ∷ []) m .1 .0 (p .0 .0) (p .1 .0) (p .0 .1) (p .1 .1) in
+        (p .0 .0, p .0 .1, p .1 .1 ∙ ap some (sym q))
+
+    -- the row that is left at the end fits every conjunct
+    pub collect-fits : (l : List (Conjunct Val)) (s : Collected Val) → collect S l s .unsat ≡ false →
+        Full (collect S l s) → FitsAll l
+    collect-fits [] s h k = tt
+    collect-fits (x ∷ l) s h k = go (s .unsat) (collect-going S ρ N (x ∷ l) s h) k
+        (collect-fits l (cond (s .unsat) s (collectOne S x s)) h k)
       where
-        go : (b : Bool) → b ≡ false → Full (collect S l (cond b s (collectOne S x s))) → HoldsAll S ρ N l →
-            Holds S ρ N x × HoldsAll S ρ N l
+        go : (b : Bool) → b ≡ false → Full (collect S l (cond b s (collectOne S x s))) → FitsAll l →
+            Fits x × FitsAll l
         go true p k r = absurd (true≢false p)
         go false p k r = (
-          collectOne-full x s (collect S l (collectOne S x s)) (e .0)
-              (collect-grows S ρ N l (collectOne S x s)) (collect-alle Meets l (collectOne S x s) (k .0)) k,
+          collectOne-fits x s (collect S l (collectOne S x s)) (collect-grows S ρ N l (collectOne S x s))
+              (collect-alle Meets l (collectOne S x s) (k .0)) k,
           r,
         )
+
+    fits-holds : (x : Conjunct Val) → Exact x → Fits x → Holds S ρ N x
+    fits-holds (Bounds c l) e f = f
+    fits-holds (Equality a b n) e f = e f
+    fits-holds (Recorded z n c l) e f = e f
+    fits-holds (NonNullPair n a b) e f = absurd e
+    fits-holds (Opaque n) e f = absurd e
+
+    all-fit-hold : (l : List (Conjunct Val)) → ExactAll l → FitsAll l → HoldsAll S ρ N l
+    all-fit-hold [] e f = tt
+    all-fit-hold (x ∷ l) e f = (fits-holds x (e .0) (f .0), all-fit-hold l (e .1) (f .1))
 
   -- ---- the row
   rowValue-witness : (q : ColumnConstraints Val) (k : K) → rowValue S H q ≡ some k → witness S H q ≡ k
@@ -197,7 +234,7 @@ module _ {K Val : Type 0} (S : Scalars K Val) (H : HalfPoints S) where
   abbrev pub witnessRow : Collected Val → ℕ → Option K
   witnessRow s c = cond (isIn c (s .order)) (rowValue S H (resolved S s c)) none
 
-  in-isIn : (c : ℕ) (l : List ℕ) → In S c l → isIn c l ≡ true
+  pub in-isIn : (c : ℕ) (l : List ℕ) → In S c l → isIn c l ≡ true
   in-isIn c [] i = absurd i
   in-isIn c (d ∷ l) (inl e) = ap (λ x. eqb c x || isIn c l) (sym e) ∙ ap (λ b. b || isIn c l) (eqb-self c)
   in-isIn c (d ∷ l) (inr i) = ap (λ b. eqb c d || b) (in-isIn c l i) ∙ or-true (eqb c d)
@@ -217,7 +254,7 @@ module _ {K Val : Type 0} (S : Scalars K Val) (H : HalfPoints S) where
           witness-same S H (propagated S s (e .0)) (propagated S s (e .1)) (p .0) (p .1) (f (e .0) (i .0 .0))
           (f (e .1) (i .0 .1)) ∙ rowValue-witness (resolved S s (e .1)) j (sym (row-in s (e .1) (i .0 .1)) ∙ y)
 
-  conclude-full : (s : Collected Val) (N : ℕ → Bool) → EdgesIn S (s .order) (s .edges) →
+  pub conclude-full : (s : Collected Val) (N : ℕ → Bool) → EdgesIn S (s .order) (s .edges) →
       AllConsistent (s .constraints) → anyUnsat (s .order) (resolved S s) ≡ false → Full (witnessRow s) N s
   conclude-full s N i ch d =
       let r = ends S (s .order) (s .edges) (s .constraints) i in
@@ -274,10 +311,11 @@ module _ {K Val : Type 0} (S : Scalars K Val) (H : HalfPoints S) where
       there : (s .unsat || anyUnsat (s .order) (resolved S s)) ≡ false → (ρ : ℕ → Option K) × HoldsAll S ρ (N ρ) l
       there h = let d = or-no (s .unsat) (anyUnsat (s .order) (resolved S s)) h in (
         witnessRow s,
-        collect-full (witnessRow s) (N (witnessRow s)) l (begin) (e (witnessRow s)) (d .0)
+        all-fit-hold (witnessRow s) (N (witnessRow s)) l (e (witnessRow s))
+            (collect-fits (witnessRow s) (N (witnessRow s)) l (begin) (d .0)
             (conclude-full s (N (witnessRow s)) (collect-in S l (begin) tt)
             (collect-consistent l (begin) (λ c h. refl))
-            (d .1)),
+            (d .1))),
       )
 
       go : (b : Bool) → (s .unsat || anyUnsat (s .order) (resolved S s)) ≡ b → (d : Bool) →

@@ -172,17 +172,17 @@ fit-of (x ∷ l) h = (h .0, fit-of l (h .1))
 
 -- ---- An accepted screen.
 module _ (t rs p : List ℕ) (used root : ℕ) (bytes : demand.AreBytes rs) (ok : Checked t rs p used root) where
-  abbrev R : ℕ → AExpr ℕ
+  abbrev pub R : ℕ → AExpr ℕ
   R n = aexprAt rs p used n
 
-  abbrev good : WF R
+  abbrev pub good : WF R
   good n = inputs-fall t rs p used root ok n
 
-  abbrev back : Outcome ℕ → Built ℕ
+  abbrev pub back : Outcome ℕ → Built ℕ
   back o = returned payload halves truthKeys 0 refl R good used root o
 
   -- Refusal 11 was not given; nothing is written for an unchanged screen.
-  abbrev Roomy : Outcome ℕ → Type 0
+  abbrev pub Roomy : Outcome ℕ → Type 0
   Roomy Unchanged = Unit {0}
   Roomy NothingPasses = (suc used ≤ 4096) × (16 * suc used ≤ length rs)
   Roomy (Rebuilt ns cs) = (chainUsed used ns cs ≤ 4096) × (16 * chainUsed used ns cs ≤ length rs)
@@ -193,13 +193,13 @@ module _ (t rs p : List ℕ) (used root : ℕ) (bytes : demand.AreBytes rs) (ok 
   Fitting (Rebuilt ns cs) = Fit cs
 
   -- What the answer says of the outcome, where nothing is refused.
-  record Told (o : Outcome ℕ) (a : RewriteAnswer) : Type 0 where
-    written : writtenIf a rs (outcomeBytes t rs used o) ≡ outcomeBytes t rs used o
-    newRoot : rootAfter a root ≡ back o .root
-    newUsed : usedAfter a used ≡ back o .used
-    roomy : Roomy o
-    full : NotEmpty payload halves truthKeys 0 refl R good used o
-    nothing : demand.isNothing a ≡ isNothingPasses payload halves o
+  pub record Told (o : Outcome ℕ) (a : RewriteAnswer) : Type 0 where
+    pub written : writtenIf a rs (outcomeBytes t rs used o) ≡ outcomeBytes t rs used o
+    pub newRoot : rootAfter a root ≡ back o .root
+    pub newUsed : usedAfter a used ≡ back o .used
+    pub roomy : Roomy o
+    pub full : NotEmpty payload halves truthKeys 0 refl R good used o
+    pub nothing : demand.isNothing a ≡ isNothingPasses payload halves o
 
   pub room-of : (u : ℕ) → hasRoom rs u ≡ true → (u ≤ 4096) × (16 * u ≤ length rs)
   room-of u h =
@@ -273,10 +273,10 @@ module _ (t rs p : List ℕ) (used root : ℕ) (bytes : demand.AreBytes rs) (ok 
   fitting NothingPasses h = tt
   fitting (Rebuilt ns cs) h = fit-of cs h
 
-  abbrev o : Outcome ℕ
+  abbrev pub o : Outcome ℕ
   o = merged rs p used root
 
-  abbrev a : RewriteAnswer
+  abbrev pub a : RewriteAnswer
   a = outcomeAnswer t rs used o
 
   -- A rebuilt chain has a conjunct.
@@ -302,10 +302,10 @@ module _ (t rs p : List ℕ) (used root : ℕ) (bytes : demand.AreBytes rs) (ok 
       )
 
   module _ (kept : demand.isRefused a ≡ false) where
-    is : Told o a
+    pub is : Told o a
     is = told o (never-empty o refl) kept
 
-    holds : Holds (outcomeBytes t rs used o) p (back o .used) (back o .records)
+    pub holds : Holds (outcomeBytes t rs used o) p (back o .used) (back o .records)
     holds =
         out-holds o (answer-lt payload used halves truthKeys R good root (ok .root-used)) (is .roomy)
         (fitting o (outcome-p payload Long opens Word R (record-fits rs p used bytes) root))
@@ -392,7 +392,7 @@ module _ (t rs p : List ℕ) (used root : ℕ) (bytes : demand.AreBytes rs) (ok 
         )
 
 -- ---- From the answer to the screen.
-settled :
+pub settled :
     (t rs p : List ℕ) (used root : ℕ) → demand.AcceptedScreen t rs p used root →
     (checkAnswer t rs p used root ≡ check.Accepted)
     × (rewriteAnswer t rs p used root ≡ outcomeAnswer t rs used (merged rs p used root))

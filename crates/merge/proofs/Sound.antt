@@ -111,7 +111,7 @@ module _ {K Val : Type 0} (S : Scalars K Val) where
   in-last c [] = inl refl
   in-last c (d ∷ l) = inr (in-last c l)
 
-  isIn-in : (c : ℕ) (l : List ℕ) → isIn c l ≡ true → In S c l
+  pub isIn-in : (c : ℕ) (l : List ℕ) → isIn c l ≡ true → In S c l
   isIn-in c [] h = absurd (true≢false (sym h))
   isIn-in c (d ∷ l) h = go (eqb c d) refl h (isIn-in c l)
     where
@@ -635,6 +635,32 @@ module _ {K Val : Type 0} (S : Scalars K Val) where
         go none = refl
         go (some k) = refl
 
+    -- where a row holds, no column is impossible, neither while reading nor at the end
+    pub held-admits : (l : List (Conjunct Val)) → FairAll S ρ N l → HoldsAll S ρ N l →
+        AdmitsAll S ρ (collect S l begin .constraints)
+    held-admits l f h = collect-admits l begin f h begin-admits
+
+    held-resolved : (l : List (Conjunct Val)) → FairAll S ρ N l → HoldsAll S ρ N l →
+        AdmitsAll S ρ (resolved S (collect S l begin))
+    held-resolved l f h =
+        let s = collect S l begin in
+        resolved-admits s (propagated-admits s (collect-in l begin tt)
+        (links-of (s .edges) (collect-fair l begin f tt) (collect-kept l begin h (tt, tt) .1)) (held-admits l f h))
+
+    pub held-alive : (l : List (Conjunct Val)) → FairAll S ρ N l → HoldsAll S ρ N l →
+        (collect S l begin .unsat || anyUnsat (collect S l begin .order) (resolved S (collect S l begin))) ≡ false
+    held-alive l f h = going (s .unsat) refl
+      where
+        s : Collected Val
+        s = collect S l begin
+
+        going : (b : Bool) → s .unsat ≡ b → (b || anyUnsat (s .order) (resolved S s)) ≡ false
+        going true e = let r = collect-halts l begin (λ x. absurd (true≢false (sym x))) e in
+            absurd (true≢false (sym (r .1) ∙ live-of (s .constraints (r .0) .unsat)
+            (admitsEmitted S (s .constraints (r .0)) (ρ (r .0)) && admitsRecorded S (s .constraints (r .0))
+            (ρ (r .0))) (held-admits l f h (r .0)) .0))
+        going false e = not-unsat (s .order) (resolved S s) (held-resolved l f h)
+
     pub merge-is-sound : (l : List (Conjunct Val)) → FairAll S ρ N l → Sound S ρ N l (mergeFilterConstraints S l)
     merge-is-sound l f = go (s .unsat || anyUnsat (s .order) (resolved S s)) refl
         (ltb (length (comparisons S (s .order) (resolved S s))) (s .boundConjuncts) ||
@@ -650,21 +676,6 @@ module _ {K Val : Type 0} (S : Scalars K Val) where
         ef : EdgesFair (s .edges)
         ef = collect-fair l (begin) f tt
 
-        fin : HoldsAll S ρ N l → AdmitsAll S ρ (resolved S s)
-        fin h = resolved-admits s (propagated-admits s i
-            (links-of (s .edges) ef (collect-kept l (begin) h (tt, tt) .1))
-            (collect-admits l (begin) f h begin-admits))
-
-        alive : HoldsAll S ρ N l → (s .unsat || anyUnsat (s .order) (resolved S s)) ≡ false
-        alive h = going (s .unsat) refl
-          where
-            going : (b : Bool) → s .unsat ≡ b → (b || anyUnsat (s .order) (resolved S s)) ≡ false
-            going true e = let r = collect-halts l (begin) (λ x. absurd (true≢false (sym x))) e in
-                absurd (true≢false (sym (r .1) ∙ live-of (s .constraints (r .0) .unsat)
-                (admitsEmitted S (s .constraints (r .0)) (ρ (r .0)) && admitsRecorded S (s .constraints (r .0))
-                (ρ (r .0))) (collect-admits l (begin) f h begin-admits (r .0)) .0))
-            going false e = not-unsat (s .order) (resolved S s) (fin h)
-
         ns : List ℕ
         ns = s .opaque ++ keptEqualities S (propagated S s) (s .edges)
 
@@ -679,7 +690,7 @@ module _ {K Val : Type 0} (S : Scalars K Val) where
               (λ c j. comparisons-resolved s c ∙ and-left (admitsEmitted S (resolved S s c) (ρ c))
               (admitsRecorded S (resolved S s c) (ρ c))
               (live-of (resolved S s c .unsat)
-              (admitsEmitted S (resolved S s c) (ρ c) && admitsRecorded S (resolved S s c) (ρ c)) (fin h c) .1)),
+              (admitsEmitted S (resolved S s c) (ρ c) && admitsRecorded S (resolved S s c) (ρ c)) (held-resolved l f h c) .1)),
         )
 
         back : (s .unsat || anyUnsat (s .order) (resolved S s)) ≡ false → NodesTrue S ρ N ns × WrittenTrue S ρ N ws →
@@ -689,6 +700,6 @@ module _ {K Val : Type 0} (S : Scalars K Val) where
 
         go : (b : Bool) → (s .unsat || anyUnsat (s .order) (resolved S s)) ≡ b → (d : Bool) →
             Sound S ρ N l (cond b NothingPasses (cond d (Rebuilt ns ws) Unchanged))
-        go true e d = λ h. true≢false (sym e ∙ alive h)
+        go true e d = λ h. true≢false (sym e ∙ held-alive l f h)
         go false e true = (to, back e)
         go false e false = tt

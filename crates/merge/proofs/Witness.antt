@@ -5,25 +5,23 @@ use mathlib.Core.List.{List, [], _∷_}
 use mathlib.Core.Option.{Option, none, some}
 use mathlib.Core.Logic.{_⊎_, inl, inr}
 use Rattle.truth.proofs.Orders.{cmp-eq, cmp-lt, cmp-refl, opp-total}
-use Rattle.truth.specs.Order.{Order, Total, View, above, is-equal, is-greater, is-less, isEqual, opp}
+use Rattle.truth.specs.Order.{View, above, is-equal, is-greater, is-less, isEqual, opp}
 use Rattle.truth.specs.declared.scalar.Ordering.{Ordering}
 use Rattle.truth.specs.declared.scalar.Ordering.the-variants.{Equal, Greater, Less}
 use Rattle.constraints.proofs.Bounds.{SameBound, same-clears, same-of-still}
 use Rattle.constraints.proofs.Columns.{admits, admitsEmitted, admitsRecorded, nullFits, valueFits}
 use Rattle.constraints.proofs.Merges.{Implies, Quiet, not-no, or-no}
 use Rattle.constraints.proofs.Resolved.{Consistent, fixed-excludes-nothing, resolve-consistent, resolve-emitted}
-use Rattle.constraints.proofs.Resolves.{admits-feasible, resolveIf, rangeOf}
-use Rattle.constraints.proofs.Sets.{subset-contains}
+use Rattle.constraints.proofs.Resolves.{admits-feasible, rangeOf}
 use Rattle.constraints.specs.Bound.{Bound, absent, at, clears, crosses, crossesBy}
 use Rattle.constraints.specs.Column.{ColumnConstraints, allowedChanges, allowedOf, isNone, isNullRequired}
-use Rattle.constraints.specs.Resolve.{Range, allowedFeasible, anyFeasible, classifyAt, classifyBy, classifyUpper}
+use Rattle.constraints.specs.Resolve.{allowedFeasible, anyFeasible}
 use Rattle.constraints.specs.Resolve.{fixedAt, fixedDisallowed, isAllowed, isFeasible}
-use Rattle.constraints.specs.Resolve.{nullConflict, openAt, resolveBy, resolveDeferred, resolveExcluded}
+use Rattle.constraints.specs.Resolve.{nullConflict, resolveDeferred, resolveExcluded}
 use Rattle.constraints.specs.Resolve.{withExcluded, withLists}
 use Rattle.constraints.specs.Scalars.{Scalars, opposite}
+use Rattle.merge.proofs.BoundKeys.{boundKey, resolveExcluded-keys, same-key, sub-same}
 use Rattle.constraints.specs.Values.{contains, subset}
-use Rattle.constraints.specs.declared.column.ExcludedResolution.{ExcludedResolution}
-use Rattle.constraints.specs.declared.column.ExcludedResolution.the-variants.{Drop, Keep, TightenLower, TightenUpper}
 use Rattle.constraints.specs.declared.column.Nullability.{Nullability}
 use Rattle.constraints.specs.declared.column.Nullability.the-variants.{NonNull, Null, Unconstrained}
 
@@ -40,10 +38,6 @@ pub record HalfPoints {K Val : Type 0} (S : Scalars K Val) : Type 0 where
   pub nil-off : (w : Val) → nil ≡ S .key w → ⊥
 
 module _ {K Val : Type 0} (S : Scalars K Val) (H : HalfPoints S) where
-  abbrev pub boundKey : Bound Val → Option K
-  boundKey absent = none
-  boundKey (at c v) = some (S .key v)
-
   abbrev pub pointBy : Ordering → K → K
   pointBy Less k = H .hi k
   pointBy Equal k = k
@@ -75,7 +69,7 @@ module _ {K Val : Type 0} (S : Scalars K Val) (H : HalfPoints S) where
   orElse (some j) k = j
 
   abbrev pub witnessBy : Option (List Val) → ColumnConstraints Val → K
-  witnessBy none q = point (boundKey (q .lower)) (boundKey (q .upper))
+  witnessBy none q = point (boundKey S (q .lower)) (boundKey S (q .upper))
   witnessBy (some l) q = orElse (least (isFeasible S q) l) (H .nil)
 
   abbrev pub witness : ColumnConstraints Val → K
@@ -92,7 +86,7 @@ module _ {K Val : Type 0} (S : Scalars K Val) (H : HalfPoints S) where
       go (is-greater p) ih = ih
 
   point-fits : (l u : Bound Val) → crosses S l u ≡ false →
-      (clears S l (point (boundKey l) (boundKey u)) && clears (opposite S) u (point (boundKey l) (boundKey u))) ≡ true
+      (clears S l (point (boundKey S l) (boundKey S u)) && clears (opposite S) u (point (boundKey S l) (boundKey S u))) ≡ true
   point-fits absent absent h = refl
   point-fits absent (at d w) h = rw (cmp-lt (S .total) (H .lo-below w))
   point-fits (at c v) absent h = rw (cmp-lt (S .total) (H .hi-above v))
@@ -112,8 +106,8 @@ module _ {K Val : Type 0} (S : Scalars K Val) (H : HalfPoints S) where
 
   -- the point is the pinned value, or no value of a screen
   point-off : (l u : Bound Val) → crosses S l u ≡ false →
-      ((v : Val) × (fixedAt S l u ≡ some v) × (point (boundKey l) (boundKey u) ≡ S .key v)) ⊎
-      ((w : Val) → point (boundKey l) (boundKey u) ≡ S .key w → ⊥)
+      ((v : Val) × (fixedAt S l u ≡ some v) × (point (boundKey S l) (boundKey S u) ≡ S .key v)) ⊎
+      ((w : Val) → point (boundKey S l) (boundKey S u) ≡ S .key w → ⊥)
   point-off absent absent h = inr (H .nil-off)
   point-off absent (at d w) h = inr (H .lo-off w)
   point-off (at c v) absent h = inr (H .hi-off v)
@@ -240,11 +234,11 @@ module _ {K Val : Type 0} (S : Scalars K Val) (H : HalfPoints S) where
   point-feasible : (q : ColumnConstraints Val) → q .allowed ≡ none → crosses S (q .lower) (q .upper) ≡ false →
       ((v : Val) → fixedAt S (q .lower) (q .upper) ≡ some v → q .excluded ≡ []) →
       fixedDisallowed S q (fixedAt S (q .lower) (q .upper)) ≡ false →
-      isFeasible S q (point (boundKey (q .lower)) (boundKey (q .upper))) ≡ true
+      isFeasible S q (point (boundKey S (q .lower)) (boundKey S (q .upper))) ≡ true
   point-feasible q a c p b = go (point-off (q .lower) (q .upper) c)
     where
       k : K
-      k = point (boundKey (q .lower)) (boundKey (q .upper))
+      k = point (boundKey S (q .lower)) (boundKey S (q .upper))
 
       fits : contains S k (q .excluded) ≡ false → contains S k (q .disallowed) ≡ false → isFeasible S q k ≡ true
       fits e d = ap (λ s. s && (isAllowed S (q .allowed) k && not (contains S k (q .disallowed))))
@@ -333,109 +327,7 @@ module _ {K Val : Type 0} (S : Scalars K Val) (H : HalfPoints S) where
       go NonNull e = some-case (ap valueFits e)
       go Null e = null-case e
 
-  -- ---- resolving keeps the keys of the bounds
-  isOL : ExcludedResolution → Bool
-  isOL Drop = false
-  isOL Keep = false
-  isOL TightenLower = true
-  isOL TightenUpper = false
-
-  isOU : ExcludedResolution → Bool
-  isOU Drop = false
-  isOU Keep = false
-  isOU TightenLower = false
-  isOU TightenUpper = true
-
-  up-not-low : (u : Bound Val) (e : Val) → isOL (classifyUpper S u e) ≡ false
-  unfolding isOL
-  up-not-low absent e = refl
-  up-not-low (at d w) e = go (S .order .cmp (S .key w) (S .key e)) d
-    where
-      go : (o : Ordering) (d : Bool) → isOL (classifyBy o d TightenUpper Keep) ≡ false
-      go Less d = refl
-      go Equal true = refl
-      go Equal false = refl
-      go Greater d = refl
-
-  low-key : (l u : Bound Val) (e : Val) → isOL (classifyAt S l u e) ≡ true → some (S .key e) ≡ boundKey l
-  unfolding isOL
-  low-key absent u e h = absurd (true≢false (sym h ∙ up-not-low u e))
-  low-key (at c w) u e h = go c (S .total .view (S .key e) (S .key w)) h
-    where
-      go : (c : Bool) {o : Ordering} → View (S .order .less) (S .key e) (S .key w) o →
-          isOL (classifyBy o c TightenLower (classifyUpper S u e)) ≡ true → some (S .key e) ≡ some (S .key w)
-      go c (is-less p) h = absurd (true≢false (sym h))
-      go c (is-equal p) h = ap some p
-      go c (is-greater p) h = absurd (true≢false (sym h ∙ up-not-low u e))
-
-  up-key : (l u : Bound Val) (e : Val) → isOU (classifyAt S l u e) ≡ true → some (S .key e) ≡ boundKey u
-  unfolding isOU
-  up-key l u e h = top l h
-    where
-      sub-key : (u : Bound Val) → isOU (classifyUpper S u e) ≡ true → some (S .key e) ≡ boundKey u
-      sub-key absent h = absurd (true≢false (sym h))
-      sub-key (at d w) h = go d (S .total .view (S .key w) (S .key e)) h
-        where
-          go : (d : Bool) {o : Ordering} → View (S .order .less) (S .key w) (S .key e) o →
-              isOU (classifyBy o d TightenUpper Keep) ≡ true → some (S .key e) ≡ some (S .key w)
-          go d (is-less p) h = absurd (true≢false (sym h))
-          go d (is-equal p) h = ap some (sym p)
-          go d (is-greater p) h = absurd (true≢false (sym h))
-
-      top : (l : Bound Val) → isOU (classifyAt S l u e) ≡ true → some (S .key e) ≡ boundKey u
-      top absent h = sub-key u h
-      top (at c w) h = go c (S .order .cmp (S .key e) (S .key w)) h
-        where
-          go : (c : Bool) (o : Ordering) → isOU (classifyBy o c TightenLower (classifyUpper S u e)) ≡ true →
-              some (S .key e) ≡ boundKey u
-          go c Less h = absurd (true≢false (sym h))
-          go true Equal h = absurd (true≢false (sym h))
-          go false Equal h = absurd (true≢false (sym h))
-          go c Greater h = sub-key u h
-
-  open-key : (b : Bound Val) (e : Val) → boundKey (openAt S b e) ≡ some (S .key e)
-  open-key absent e = refl
-  open-key (at c w) e = ap some (S .opened-key w e)
-
-  resolveExcluded-keys : (l : List Val) (r : Range Val) →
-      (boundKey (resolveExcluded S l r .lower) ≡ boundKey (r .lower)) × (boundKey (resolveExcluded S l r .upper) ≡
-      boundKey (r .upper))
-  unfolding isOL isOU
-  resolveExcluded-keys [] r = (refl, refl)
-  resolveExcluded-keys (e ∷ l) r = let h = resolveExcluded-keys l (resolveIf S (r .crossed) e r) in let k =
-      one (r .crossed) in (h .0 ∙ k .0, h .1 ∙ k .1)
-    where
-      step : (f : ExcludedResolution) → classifyAt S (r .lower) (r .upper) e ≡ f →
-          (boundKey (resolveBy S f e r .lower) ≡ boundKey (r .lower)) × (boundKey (resolveBy S f e r .upper) ≡
-          boundKey (r .upper))
-      step Drop p = (refl, refl)
-      step Keep p = (refl, refl)
-      step TightenLower p = (open-key (r .lower) e ∙ low-key (r .lower) (r .upper) e (ap isOL p), refl)
-      step TightenUpper p = (refl, open-key (r .upper) e ∙ up-key (r .lower) (r .upper) e (ap isOU p))
-
-      one : (b : Bool) → (boundKey (resolveIf S b e r .lower) ≡ boundKey (r .lower)) ×
-          (boundKey (resolveIf S b e r .upper) ≡ boundKey (r .upper))
-      one true = (refl, refl)
-      one false = step (classifyAt S (r .lower) (r .upper) e) refl
-
   -- ---- columns that have all that the other says take the same point
-  same-key : (P : Order K) (L : Total P) (a b : Bound Val) →
-      SameBound (record { key = S .key; order = P; total = L; opened = S .opened; opened-key = S .opened-key }) a b →
-      boundKey a ≡ boundKey b
-  same-key P L absent absent s = refl
-  same-key P L absent (at d w) s = absurd s
-  same-key P L (at c v) absent s = absurd s
-  same-key P L (at c v) (at d w) s = ap some (s .0)
-
-  sub-same : (l m : List Val) → subset S l m ≡ true → subset S m l ≡ true → (k : K) → contains S k l ≡ contains S k m
-  sub-same l m h g k = go (contains S k l) refl (contains S k m) refl
-    where
-      go : (x : Bool) → contains S k l ≡ x → (y : Bool) → contains S k m ≡ y → x ≡ y
-      go true e true d = refl
-      go true e false d = sym (subset-contains S k l m h e) ∙ d
-      go false e true d = sym e ∙ subset-contains S k m l g d
-      go false e false d = refl
-
   abbrev Alike : Option (List Val) → Option (List Val) → Type 0
   Alike none none = Unit {0}
   Alike none (some m) = ⊥
@@ -448,7 +340,7 @@ module _ {K Val : Type 0} (S : Scalars K Val) (H : HalfPoints S) where
   alike q r none (some m) a b h g = true≢false (sym (ap (λ o. allowedChanges S o m) a) ∙ h .0)
   alike q r (some l) none a b h g = true≢false (sym (ap (λ o. allowedChanges S o l) b) ∙ g .0)
   alike q r (some l) (some m) a b h g =
-      sub-same l m (not-no (subset S l m) (sym (ap (λ o. allowedChanges S o m) a) ∙ h .0))
+      sub-same S l m (not-no (subset S l m) (sym (ap (λ o. allowedChanges S o m) a) ∙ h .0))
       (not-no (subset S m l) (sym (ap (λ o. allowedChanges S o l) b) ∙ g .0))
 
   alike-in : (o p : Option (List Val)) → Alike o p → (k : K) → isAllowed S o k ≡ isAllowed S p k
@@ -458,7 +350,7 @@ module _ {K Val : Type 0} (S : Scalars K Val) (H : HalfPoints S) where
   alike-in (some l) (some m) h k = h k
 
   alike-witness : (o p : Option (List Val)) → Alike o p → (q r : ColumnConstraints Val) →
-      point (boundKey (q .lower)) (boundKey (q .upper)) ≡ point (boundKey (r .lower)) (boundKey (r .upper)) →
+      point (boundKey S (q .lower)) (boundKey S (q .upper)) ≡ point (boundKey S (r .lower)) (boundKey S (r .upper)) →
       isFeasible S q ≡ isFeasible S r → witnessBy o q ≡ witnessBy p r
   alike-witness none none h q r e f = e
   alike-witness none (some m) h q r e f = absurd h
@@ -480,19 +372,19 @@ module _ {K Val : Type 0} (S : Scalars K Val) (H : HalfPoints S) where
       su : SameBound (opposite S) (q .upper) (r .upper)
       su = same-of-still (opposite S) (q .upper) (r .upper) (h .hi) (g .hi)
 
-      spots : point (boundKey (resolveDeferred S q .lower)) (boundKey (resolveDeferred S q .upper)) ≡
-          point (boundKey (resolveDeferred S r .lower)) (boundKey (resolveDeferred S r .upper))
-      spots = let x = resolveExcluded-keys (q .excluded) (rangeOf q) in let y =
-          resolveExcluded-keys (r .excluded) (rangeOf r) in ap (λ l. point l (boundKey (resolveDeferred S q .upper)))
-          (x .0 ∙ same-key (S .order) (S .total) (q .lower) (r .lower) sl ∙ sym (y .0)) ∙
-          ap (point (boundKey (resolveDeferred S r .lower)))
-          (x .1 ∙ same-key (opp (S .order)) (opp-total (S .total)) (q .upper) (r .upper) su ∙ sym (y .1))
+      spots : point (boundKey S (resolveDeferred S q .lower)) (boundKey S (resolveDeferred S q .upper)) ≡
+          point (boundKey S (resolveDeferred S r .lower)) (boundKey S (resolveDeferred S r .upper))
+      spots = let x = resolveExcluded-keys S (q .excluded) (rangeOf q) in let y =
+          resolveExcluded-keys S (r .excluded) (rangeOf r) in ap (λ l. point l (boundKey S (resolveDeferred S q .upper)))
+          (x .0 ∙ same-key S (S .order) (S .total) (q .lower) (r .lower) sl ∙ sym (y .0)) ∙
+          ap (point (boundKey S (resolveDeferred S r .lower)))
+          (x .1 ∙ same-key S (opp (S .order)) (opp-total (S .total)) (q .upper) (r .upper) su ∙ sym (y .1))
 
       shows : (k : K) → admitsEmitted S q (some k) ≡ admitsEmitted S r (some k)
       shows k = rw (
         same-clears S (q .lower) (r .lower) sl k,
         same-clears (opposite S) (q .upper) (r .upper) su k,
-        sub-same (q .excluded) (r .excluded) (g .ex) (h .ex) k,
+        sub-same S (q .excluded) (r .excluded) (g .ex) (h .ex) k,
       )
 
       feas : (k : K) → isFeasible S (resolveDeferred S q) k ≡ isFeasible S (resolveDeferred S r) k
@@ -501,4 +393,4 @@ module _ {K Val : Type 0} (S : Scalars K Val) (H : HalfPoints S) where
           ap (λ i. admitsEmitted S (resolveDeferred S r) (some k) && (i && not (contains S k (q .disallowed))))
           (alike-in (q .allowed) (r .allowed) al k) ∙
           ap (λ m. admitsEmitted S (resolveDeferred S r) (some k) && (isAllowed S (r .allowed) k && not m))
-          (sub-same (q .disallowed) (r .disallowed) (g .di) (h .di) k)
+          (sub-same S (q .disallowed) (r .disallowed) (g .di) (h .di) k)

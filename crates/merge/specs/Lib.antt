@@ -10,5 +10,6 @@ pub mod Rewrite
 pub mod Demand
 pub mod Usable
 pub mod Compared
+pub mod Twice
 pub mod Passes
 pub mod Cases

@@ -25,6 +25,7 @@ use Rattle.merge.specs.Rewrite.{outcomeOf, chainRoot, chainUsed, hasRoom, chain
 use Rattle.merge.specs.Rewrite.{rewriteIf, rewriteAnswer, rewriteBytes}
 use Rattle.merge.proofs.Compared.{rewritten-root-is-new}
 use Rattle.merge.proofs.Demand.{demand-3}
+use Rattle.merge.proofs.TwiceBytes.{twice-unchanged}
 use Rattle.merge.proofs.Usable.{returned-usable, returned-tests-same}
 use Rattle.screen.specs.Answers.{rewriteNumber, newRootOut, newUsedOut}
 use Rattle.screen.specs.Promises.{returned, BytesKept, RewritePromise}
@@ -164,6 +165,14 @@ module _ (t rs p : List ℕ) (used root : ℕ) (a : RewriteAnswer) (is : rewrite
           tests =
               λ n. moved (SameTests t rs p used root) (returned-tests-same t rs p used root bytes (kept n));
           root-is-new = λ e. new-root a is low e;
+          again =
+              λ n. moved (λ o u s. 256 ≤ rewriteNumber (rewriteAnswer t o p u s)
+              → rewriteNumber (rewriteAnswer t o p u s) ≡ 256) (λ m. ap rewriteNumber
+              (twice-unchanged t rs p used root bytes (kept n)
+              (accepted (rewriteAnswer t (rewriteBytes t rs p used root) p
+              (usedAfter (rewriteAnswer t rs p used root) used) (rootAfter (rewriteAnswer t rs p used root) root))
+              (small t (rewriteBytes t rs p used root) p (usedAfter (rewriteAnswer t rs p used root) used)
+              (rootAfter (rewriteAnswer t rs p used root) root)) m)));
         }
 
     -- All that the call ensures.

@@ -12,6 +12,8 @@ use Rattle.truth.specs.FromBytes.{aexprAt}
 use Rattle.merge.specs.Plain.{plainScreen}
 use Rattle.merge.specs.Demand.{Row, IsRow, IsChain, passes, rowsPassing}
 use Rattle.merge.specs.Usable.{Usable, SameTests}
+use Rattle.merge.specs.Rewrite.{rewriteAnswer}
+use Rattle.screen.specs.Answers.{rewriteNumber}
 
 -- columns read answered 256: bit c of the word is set exactly if the root reaches column c, and the count is the number of
 -- ones in the word
@@ -36,6 +38,7 @@ pub record BytesKept (rs out : List ℕ) (first end : ℕ) : Type 0 where
 -- accepted by checking, with a tree of at most 4,096 records; so testing a row, whatever its bytes and null marks,
 -- refuses it under both screens with the same number or under neither, and it passes under both or under neither. The
 -- root of a rewritten screen is one of the records added, so the screen sent still stands under its old root.
+-- Rewriting the screen returned, unless that is refused, answers unchanged.
 pub record RewritePromise (t rs p : List ℕ) (used root answer : ℕ) (out : List ℕ) (newRoot newUsed : ℕ) : Type 0 where
   pub rows : 256 ≤ answer → (row : Row) → IsRow t row
       → passes out p (returned answer used newUsed) (returned answer root newRoot) row ≡ passes rs p used root row
@@ -49,3 +52,6 @@ pub record RewritePromise (t rs p : List ℕ) (used root answer : ℕ) (out : Li
   pub tests : 256 ≤ answer
       → SameTests t rs p used root out (returned answer used newUsed) (returned answer root newRoot)
   pub root-is-new : answer ≡ 258 → (root < used) × (used ≤ newRoot) × (newRoot < newUsed)
+  pub again : 256 ≤ answer
+      → 256 ≤ rewriteNumber (rewriteAnswer t out p (returned answer used newUsed) (returned answer root newRoot))
+      → rewriteNumber (rewriteAnswer t out p (returned answer used newUsed) (returned answer root newRoot)) ≡ 256
