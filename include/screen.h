@@ -96,7 +96,7 @@ enum screen_kind {
     SCREEN_KIND_LITERAL = 2,
     SCREEN_KIND_NULL = 3,
     SCREEN_KIND_BINARY = 4,
-    SCREEN_KIND_NOT = 5, /* not above a binary record */
+    SCREEN_KIND_NOT = 5, /* above any truth; of an unknown one it is unknown, so the row does not pass */
     SCREEN_KIND_IS_NULL = 6,
     SCREEN_KIND_IS_NOT_NULL = 7,
     SCREEN_KIND_IS_BETWEEN = 8,
@@ -148,7 +148,7 @@ enum screen_refusal {
      * is past the pool (also with count 0) or that has a value outside its type. Pool values in no list do not matter.
      */
     SCREEN_REFUSED_REFERENCE = 5,
-    /* A binary record with an arithmetic operator, or a Not whose input is a binary record. */
+    /* A binary record with an arithmetic operator. */
     SCREEN_REFUSED_OPERATOR = 6,
     /*
      * Types that do not fit. Comparisons and is_between take values of one type, Truth too; logic and Not take Truth; a
@@ -195,7 +195,7 @@ static inline const char *screen_refusal_text(uint32_t answer)
         return "A record names an input that is not before it, a column that does not exist, or a list that is not in "
                "the pool or has a value outside its type.";
     case SCREEN_REFUSED_OPERATOR:
-        return "A record uses an arithmetic operator, or a Not stands directly above a binary record.";
+        return "A record uses an arithmetic operator.";
     case SCREEN_REFUSED_TYPES:
         return "The types of a record's inputs do not fit it, or the root is not a truth.";
     case SCREEN_REFUSED_TREE:
@@ -276,7 +276,8 @@ enum screen_rewrite_answer {
  * exactly if no row passes even where values half way between two whole numbers are allowed. A screen is plain if it
  * reads no Truth column and each of its conjuncts is one of these:
  *
- *   a column against a literal, either way round, by Eq, NotEq, Lt, LtEq, Gt or GtEq; a column against a column by Eq
+ *   a column against a literal, either way round, by Eq, NotEq, Lt, LtEq, Gt or GtEq; Not of that
+ *   a column against a column by Eq
  *   is_between of a column and two literals
  *   is_in of a column over a list of at most 100 values that holds no null; Not of that
  *   is_null or is_not_null of a column; Not of that

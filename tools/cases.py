@@ -65,6 +65,44 @@ def null_and_negated_member(nulls_equal):
     return chain(b, b.put(m.IS_NULL, a=b.column(0)), b.put(m.NOT, a=in_))
 
 
+def negated(code, v, *more, swap=False):
+    """Not of a comparison of column 0, then further lines."""
+    b = table()
+    sides = b.column(0), b.literal(m.INT, v)
+    inner = b.put(m.BINARY, code, 0, *(sides[::-1] if swap else sides))
+    return chain(b, b.put(m.NOT, a=inner), *(line(b, *part) for part in more))
+
+
+def negated_columns(code, *more):
+    b = table()
+    inner = b.put(m.BINARY, code, 0, b.column(0), b.column(1))
+    return chain(b, b.put(m.NOT, a=inner), *(line(b, *part) for part in more))
+
+
+def negated_and_null():
+    b = table()
+    inner = b.put(m.BINARY, m.LT, 0, b.column(0), b.column(1))
+    return chain(b, b.put(m.NOT, a=inner), b.put(m.IS_NULL, a=b.column(0)))
+
+
+def negated_logic(code):
+    """Not of (c0 < 3 code c0 > 5)."""
+    b = table()
+    return chain(b, b.put(m.NOT, a=b.put(m.BINARY, code, 0, line(b, m.LT, 0, 3), line(b, m.GT, 0, 5))))
+
+
+def negated_twice():
+    b = table()
+    return chain(b, b.put(m.NOT, a=b.put(m.NOT, a=line(b, m.LT, 0, 3))))
+
+
+def negated_shared():
+    """c0 < 3 as a line and below Not, one record."""
+    b = table()
+    x = line(b, m.LT, 0, 3)
+    return chain(b, x, b.put(m.NOT, a=x))
+
+
 def conjuncts(n):
     """n times one line, by sharing; merging them leaves one."""
     b = table()
@@ -102,6 +140,21 @@ def cases():
         (member_and_bound([1, 2] * 50 + [1]), UNCHANGED, None),
         (null_and_negated_member(0), NOTHING_PASSES, 1),
         (null_and_negated_member(1), UNCHANGED, None),
+        # negated lines: every comparison, alone and so rebuilt, either way round
+        *((negated(code, 3, swap=swap), REWRITTEN, 3) for code in m.PLAIN for swap in (False, True)),
+        (negated(eq, 3, (ge, 0, 3)), REWRITTEN, 3),
+        (negated(ge, 3, (ge, 0, 3)), NOTHING_PASSES, 1),
+        (negated(m.EQ_VALIDITY, 3), UNCHANGED, None),
+        (negated(m.NOT_EQ_VALIDITY, 3), UNCHANGED, None),
+        (negated_columns(ne), UNCHANGED, None),
+        (negated_columns(ne, (gt, 0, 5)), REWRITTEN, 8),
+        (negated_columns(ne, (eq, 0, 7)), REWRITTEN, 7),
+        (negated_columns(lt), UNCHANGED, None),
+        (negated_columns(eq, (gt, 0, 5)), UNCHANGED, None),
+        (negated_and_null(), NOTHING_PASSES, 1),
+        *((negated_logic(code), UNCHANGED, None) for code in (m.AND, m.OR, m.XOR, m.LOGICAL_AND, m.LOGICAL_OR)),
+        (negated_twice(), UNCHANGED, None),
+        (negated_shared(), NOTHING_PASSES, 1),
         (conjuncts(128), REWRITTEN, 3),
         (conjuncts(129), 9, None),
         (lines((gt, 0, 3)).but(root=3), 3, None),

@@ -1,7 +1,7 @@
 """Random screens and rows of all kinds. Everything follows from the random generator handed in, so a seed names a list.
 
 `screen` draws one of the kinds below; each can be asked for by name, too:
-  plain    conjunctions of plain lines: comparisons either way round, ranges, lists, null tests, negations, equalities
+  plain    conjunctions of plain lines: comparisons either way round, ranges, lists, null tests, Not of these, equalities
   merging  plain lines that some row passes, so that there is more to merge than a contradiction
   mixed    plain lines among all others: every record kind, operator and type, nested, with shared records
   limits   127 to 129 conjuncts, trees of 4,095 to 4,097, full tables, pools and records, long lists
@@ -85,6 +85,9 @@ class Builder:
         code = self.rng.choice(PLAIN_COMPARISONS)
         return self.put(m.BINARY, code, 0, *((x, v) if self.rng.random() < 0.7 else (v, x)))
 
+    def negated_comparison(self, number):
+        return self.put(m.NOT, a=self.comparison(number))
+
     def range(self, number):
         type_ = self.table[number]
         return self.put(m.IS_BETWEEN, self.rng.randrange(4), 0, self.column(number), self.literal(type_),
@@ -110,8 +113,8 @@ class Builder:
     def plain_line(self, mix=None):
         number = self.rng.choice(self.columns((m.INT, m.DAY)))
         make = (self.comparison, self.range, self.member, self.negated_member, self.null_test, self.negated_null_test,
-                self.equality)
-        return self.rng.choices(make, mix or (8, 2, 2, 2, 1, 1, 3))[0](number)
+                self.equality, self.negated_comparison)
+        return self.rng.choices(make, mix or (8, 2, 2, 2, 1, 1, 3, 3))[0](number)
 
     # Anything
 
@@ -136,8 +139,7 @@ class Builder:
             sides = [self.value(type_, depth - 1) for _ in range(2)]
             return self.put(kind, rng.choice(COMPARISONS), 0, *sides)
         if kind == m.NOT:
-            inner = self.truth(depth - 1)
-            return inner if self.records[16 * inner] == m.BINARY else self.put(kind, a=inner)
+            return self.put(kind, a=self.truth(depth - 1))
         if kind == m.IS_BETWEEN:
             values = [self.value(type_, depth - 1) for _ in range(3)]
             return self.put(kind, rng.randrange(4), 0, *values)
@@ -152,7 +154,10 @@ class Builder:
         number = rng.randrange(len(self.table))
         type_ = self.table[number]
         x = self.column(number)
-        kind = rng.randrange(8)
+        kind = rng.randrange(11)
+        if kind >= 8:
+            line = self.near_negated(type_, x)
+            return self.put(m.NOT, a=line) if rng.random() < 0.9 else self.put(m.NOT, a=self.put(m.NOT, a=line))
         if kind == 0:
             return self.put(m.BINARY, rng.choice(COMPARISONS), 0, x, self.put(m.NULL, type_=type_))
         if kind == 1:
@@ -174,6 +179,19 @@ class Builder:
             return self.put(m.NOT, a=self.put(m.NOT, a=line))
         a, b = self.literal(type_), self.literal(type_)
         return self.put(m.BINARY, rng.choice(COMPARISONS), 0, a, b)
+
+    def near_negated(self, type_, x):
+        """What may stand below Not: any operator, x beside a literal, a column, a null, either way round; logic."""
+        rng = self.rng
+        other = rng.choice((self.literal(type_), self.column(rng.choice(self.columns((type_,)))),
+                            self.literal(type_), self.put(m.NULL, type_=type_)))
+        if type_ == m.TRUTH and rng.random() < 0.5:
+            code = rng.choice(LOGIC)
+        elif rng.random() < 0.1:
+            return self.put(m.BINARY, rng.choice(LOGIC), 0, self.truth(2), self.truth(2))
+        else:
+            code = rng.choice(COMPARISONS)
+        return self.put(m.BINARY, code, 0, *((x, other) if rng.random() < 0.6 else (other, x)))
 
     # Conjunctions
 
@@ -205,7 +223,8 @@ def room(rng):
 def plain(rng, most=12):
     b = Builder(rng, table_of(rng), rng.choice((3, 5, 7, 20)), rng.choice((0, 0.3, 0.9)))
     # Some screens have many equalities, some only lists and null tests, so that each meets each.
-    mix = rng.choice((None, None, (4, 1, 1, 1, 1, 1, 8), (1, 1, 4, 4, 2, 2, 1), (8, 1, 0, 0, 0, 0, 0)))
+    mix = rng.choice((None, None, (4, 1, 1, 1, 1, 1, 8, 1), (1, 1, 4, 4, 2, 2, 1, 1), (8, 1, 0, 0, 0, 0, 0, 0),
+                      (2, 0, 0, 0, 0, 0, 1, 8)))
     lines = [b.plain_line(mix) for _ in range(rng.randint(1, rng.choice((2, 4, most))))]
     return b.screen(b.conjunction(b.repeat(lines)), room(rng))
 
@@ -261,7 +280,7 @@ def tree(b, size):
     top = ladder[-1]
     left = size - (2**len(ladder) - 1)
     while left > 0:
-        # One more binary record adds itself and a tree of the ladder; Not adds one where it may stand.
+        # One more binary record adds itself and a tree of the ladder; is_null adds one.
         fit = [i for i in range(len(ladder)) if 2**(i + 1) <= left]
         if fit:
             top = b.put(m.BINARY, rng.choice(LOGIC), 0, top, ladder[fit[-1]])
@@ -373,15 +392,11 @@ def damaged(rng):
 
 
 def left_out(rng, records):
-    """Arithmetic, or Not above a binary record, where there is one."""
+    """Arithmetic, where there is a binary record."""
     binary = [n for n in range(len(records) // 16) if records[16 * n] == m.BINARY]
     changed = bytearray(records)
     if binary:
-        n = rng.choice(binary)
-        if rng.random() < 0.5:
-            changed[16 * n + 1] = rng.randrange(m.PLUS, m.MODULUS + 1)
-        elif n + 1 < len(records) // 16:
-            changed[16 * n + 16:16 * n + 32] = bytes((m.NOT, 0, 0, 0)) + n.to_bytes(4, "little") + bytes(8)
+        changed[16 * rng.choice(binary) + 1] = rng.randrange(m.PLUS, m.MODULUS + 1)
     return bytes(changed)
 
 

@@ -111,11 +111,9 @@ def fault_5(s, pool, n, r):
     return False
 
 
-def fault_6(records, r):
-    """A left-out operator, or Not above a binary record."""
-    if r.kind == BINARY:
-        return PLUS <= r.code <= MODULUS
-    return r.kind == NOT and records[r.a].kind == BINARY
+def fault_6(r):
+    """A left-out operator."""
+    return r.kind == BINARY and PLUS <= r.code <= MODULUS
 
 
 def type_of(s, r):
@@ -156,7 +154,7 @@ def check(s):
             return 4
         if fault_5(s, pool, n, r):
             return 5
-        if fault_6(records, r):
+        if fault_6(r):
             return 6
         if fault_7(types, r):
             return 7
@@ -221,16 +219,18 @@ def is_plain(s):
     def short_list(r):
         return r.code == 0 and r.b <= 100
 
+    def with_literal(r):
+        return {kind(r.a), kind(r.b)} == {COLUMN, LITERAL} and r.code in PLAIN and (reads(r.a) or reads(r.b))
+
     def line(r):
         if r.kind == BINARY:
-            sides = {kind(r.a), kind(r.b)}
-            if sides == {COLUMN}:
-                return r.code == EQ and reads(r.a)
-            return sides == {COLUMN, LITERAL} and r.code in PLAIN and (reads(r.a) or reads(r.b))
+            return with_literal(r) or kind(r.a) == kind(r.b) == COLUMN and r.code == EQ and reads(r.a)
         if r.kind == IS_BETWEEN:
             return reads(r.a) and kind(r.b) == kind(r.c) == LITERAL
         if r.kind == NOT:
             r = records[r.a]
+        if r.kind == BINARY:
+            return with_literal(r)
         if r.kind == IS_IN:
             return reads(r.a) and short_list(records[r.b])
         return r.kind in (IS_NULL, IS_NOT_NULL) and reads(r.a)

@@ -428,13 +428,16 @@ static void test_operators(void)
     }
     begin_mixed();
     not_of(line(SCREEN_OP_GT, 0, INT, 3));
-    refuse("Not above a comparison", SCREEN_REFUSED_OPERATOR);
+    accept("Not above a comparison", 1 << 0, 1);
     begin_mixed();
     uint32_t truth = column(2);
     not_of(binary(SCREEN_OP_OR, truth, truth));
-    refuse("Not above logic", SCREEN_REFUSED_OPERATOR);
+    accept("Not above logic", 1 << 2, 1);
+    begin_mixed();
+    not_of(binary(10, column(0), column(3)));
+    refuse("Not above arithmetic", SCREEN_REFUSED_OPERATOR);
     literal(TRUTH, 1);
-    refuse("Not above logic, not reached", SCREEN_REFUSED_OPERATOR);
+    refuse("Not above arithmetic, not reached", SCREEN_REFUSED_OPERATOR);
     begin_mixed();
     not_of(not_of(is_null(column(0))));
     accept("Not of Not", 1 << 0, 1);

@@ -363,6 +363,81 @@ static void member_above_2(unsigned holds_null, uint32_t count)
     room(5, 0);
 }
 
+/* Not of one comparison of c0 with 3, alone: its complement, whatever else the screen has. */
+static void negated_alone(const char *name, unsigned code, unsigned complement)
+{
+    begin_ints(1);
+    join(not_of(line(code, 0, INT, 3)));
+    room(3, 5);
+    run();
+    line(complement, 0, INT, 3);
+    rewritten(name, 3);
+}
+
+static void test_negated(void)
+{
+    negated_alone("not c0==3", EQ, NE);
+    negated_alone("not c0!=3", NE, EQ);
+    negated_alone("not c0<3", LT, GE);
+    negated_alone("not c0<=3", LE, GT);
+    negated_alone("not c0>3", GT, LE);
+    negated_alone("not c0>=3", GE, LT);
+
+    begin_ints(1);
+    uint32_t three = literal(INT, 3);
+    join(not_of(binary(LT, three, column(0))));
+    room(3, 0);
+    run();
+    line(LE, 0, INT, 3);
+    rewritten("not 3<c0", 3);
+
+    begin_ints(1);
+    compare(GT, 0, 3);
+    join(not_of(line(EQ, 0, INT, 1)));
+    room(9, 0);
+    run();
+    line(GT, 0, INT, 3);
+    rewritten("c0>3, not c0==1", 3);
+
+    begin_ints(1);
+    uint32_t shared = line(LT, 0, INT, 3);
+    join(shared);
+    join(not_of(shared));
+    room(1, 0);
+    nothing_passes("a line and its Not");
+
+    begin_ints(2);
+    uint32_t left = column(0);
+    uint32_t equality = not_of(binary(NE, left, column(1)));
+    join(equality);
+    room(9, 0);
+    unchanged("not c0!=c1 alone");
+    compare(GT, 0, 5);
+    room(9, 0);
+    run();
+    uint32_t over = line(GT, 0, INT, 5);
+    uint32_t also = line(GT, 1, INT, 5);
+    binary(AND, binary(AND, equality, over), also);
+    rewritten("not c0!=c1, c0>5", 8);
+
+    begin_ints(2);
+    left = column(0);
+    join(not_of(binary(LT, left, column(1))));
+    null_test(0);
+    room(1, 0);
+    nothing_passes("not c0<c1, c0 null");
+
+    begin_ints(1);
+    join(not_of(line(SCREEN_OP_EQ_VALIDITY, 0, INT, 3)));
+    room(3, 0);
+    unchanged("not of a comparison that takes null as a value");
+    begin_ints(1);
+    uint32_t low = line(LT, 0, INT, 3);
+    join(not_of(binary(AND, low, line(GT, 0, INT, 5))));
+    room(9, 0);
+    unchanged("not of an And");
+}
+
 static void test_members(void)
 {
     begin_ints(2);
@@ -608,12 +683,6 @@ static void test_check_refusals(void)
     run();
     line(GT, 0, INT, 5);
     rewritten("the same screen undamaged", 3);
-
-    begin_ints(1);
-    compare(GT, 0, 3);
-    join(not_of(line(EQ, 0, INT, 1)));
-    room(9, 0);
-    refused("Not above a comparison", SCREEN_REFUSED_OPERATOR);
 }
 
 static void test_empty_slices(void)
@@ -831,6 +900,7 @@ int main(void)
 {
     test_bounds();
     test_equalities();
+    test_negated();
     test_members();
     test_long_lists();
     test_order();

@@ -86,8 +86,8 @@ static void test_check_refusals(void)
     binary(10, column(0), column(3));
     expect("arithmetic", SCREEN_REFUSED_OPERATOR);
     begin_mixed();
-    not_of(line(SCREEN_OP_EQ, 0, INT, 1));
-    expect("Not above a comparison", SCREEN_REFUSED_OPERATOR);
+    not_of(binary(10, column(0), column(3)));
+    expect("Not above arithmetic", SCREEN_REFUSED_OPERATOR);
     begin_mixed();
     binary(SCREEN_OP_EQ, column(0), column(1));
     expect("two types", SCREEN_REFUSED_TYPES);

@@ -42,11 +42,11 @@ no-fault f n (suc u) e h = go (eqb (first f u) 0) refl e (λ q k. no-fault f n u
     go false p e ih = absurd (eqb-false (first f u) 0 p e)
 
 meaning-of : (t rs p : List ℕ) (r : Record) (n : ℕ) → meaningFault t rs p r (node n) ≡ 0
-    → (reachOk t p r (node n) ≡ true) × (servedOk rs r ≡ true) × (typesOk t rs r ≡ true)
+    → (reachOk t p r (node n) ≡ true) × (servedOk r ≡ true) × (typesOk t rs r ≡ true)
 unfolding meaningFault
 meaning-of t rs p r n e =
-    let a = only (reachOk t p r (node n)) (cond (servedOk rs r) (cond (typesOk t rs r) 0 7) 6) 4 e in
-    let b = only (servedOk rs r) (cond (typesOk t rs r) 0 7) 5 (a .1) in
+    let a = only (reachOk t p r (node n)) (cond (servedOk r) (cond (typesOk t rs r) 0 7) 6) 4 e in
+    let b = only (servedOk r) (cond (typesOk t rs r) 0 7) 5 (a .1) in
     let d = only (typesOk t rs r) 0 6 (b .1) in
     (a .0, b .0, d .0)
 

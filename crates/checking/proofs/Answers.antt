@@ -29,7 +29,7 @@ meaning-small : (t rs p : List ℕ) (r : Record) (n : Node) → meaningFault t r
 unfolding meaningFault
 meaning-small t rs p r n =
     pick (reachOk t p r n) _ _
-    (pick (servedOk rs r) _ _ (pick (typesOk t rs r) _ _ (omega arith) (omega arith)) (omega arith)) (omega arith)
+    (pick (servedOk r) _ _ (pick (typesOk t rs r) _ _ (omega arith) (omega arith)) (omega arith)) (omega arith)
 
 fault-small : (t rs p : List ℕ) (n : Node) → recordFault t rs p n ≤ 7
 unfolding recordFault

@@ -9,7 +9,7 @@ use Rattle.records.specs.Course.{upTo, course}
 use Rattle.records.specs.Operator.{operatorAt}
 use Rattle.records.specs.Record.{fieldsAt, closedAt, decode, recordAt}
 use Rattle.records.specs.Shape.{knownType, inType, maxCode, uses, knownOk, zeroOr, unusedOk, literalOk, shapeOk}
-use Rattle.checking.specs.Fit.{allFit, listOk, reachOk, isBinary, servedOk, typeOf, typeAt, sameType, binaryFits, betweenFits, memberFits, typesOk}
+use Rattle.checking.specs.Fit.{allFit, listOk, reachOk, servedOk, typeOf, typeAt, sameType, binaryFits, betweenFits, memberFits, typesOk}
 use Rattle.checking.specs.Check.{typesKnown, tableOk, sizesOk, meaningFault, recordFault, firstFault, recordsAnswer, checkAnswer}
 use Rattle.checking.specs.Tree.{treeCount}
 use Rattle.checking.specs.Columns.{columnsWord}
@@ -78,8 +78,8 @@ cases =
     ∷ row int (line 20) [] 3 2 4 3 1
     ∷ row (2 ∷ []) (line 6) [] 3 2 7 3 1
     ∷ row int (line 15) [] 3 2 7 3 1
-    -- Not above a binary record; an input that is not below its record; a root that is no Truth
-    ∷ row int (line 6 ++ rec 5 0 0 2 0 0) [] 4 3 6 4 1
+    -- Not of a comparison; an input that is not below its record; a root that is no Truth
+    ∷ row int (line 6 ++ rec 5 0 0 2 0 0) [] 4 3 256 4 1
     ∷ row int (rec 5 0 0 0 0 0) [] 1 0 5 1 0
     ∷ row int (line 6) [] 3 1 7 1 0
     -- c0 in [1]; its list past the pool; the list as the root
@@ -99,5 +99,5 @@ holds (c ∷ cs) =
     && (eqb (columnsWord (c .records) (c .root)) (c .columns) && holds cs))
 
 all-hold : holds cases ≡ true
-unfolding holds cases row rec line two one int number word valueAt all first upTo course operatorAt fieldsAt closedAt decode recordAt knownType inType maxCode uses knownOk zeroOr unusedOk literalOk shapeOk allFit listOk reachOk isBinary servedOk typeOf typeAt sameType binaryFits betweenFits memberFits typesOk typesKnown tableOk sizesOk meaningFault recordFault firstFault recordsAnswer checkAnswer
+unfolding holds cases row rec line two one int number word valueAt all first upTo course operatorAt fieldsAt closedAt decode recordAt knownType inType maxCode uses knownOk zeroOr unusedOk literalOk shapeOk allFit listOk reachOk servedOk typeOf typeAt sameType binaryFits betweenFits memberFits typesOk typesKnown tableOk sizesOk meaningFault recordFault firstFault recordsAnswer checkAnswer
 all-hold = refl

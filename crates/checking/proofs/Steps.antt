@@ -17,7 +17,7 @@ use Rattle.records.specs.declared.record.Record.the-variants as kind
 use Rattle.records.proofs.Laws.{by-test, and-left, and-right, no-key}
 use Rattle.records.proofs.Loops.{all-holds}
 use Rattle.records.proofs.RoundTrips.{code-back}
-use Rattle.checking.specs.Fit.{listOk, reachOk, isBinary, servedOk, typeOf, typeAt, sameType, binaryFits, betweenFits, memberFits, typesOk}
+use Rattle.checking.specs.Fit.{listOk, reachOk, servedOk, typeOf, typeAt, sameType, binaryFits, betweenFits, memberFits, typesOk}
 use Rattle.checking.specs.Check.{typesKnown, meaningFault, recordFault}
 use Rattle.checking.specs.Table.{below}
 use Rattle.checking.specs.Tree.{treeStep, treeCount, Counted}
@@ -34,30 +34,19 @@ pub record Right (t rs p : List ℕ) (n : ℕ) (s : Step) : Type 0 where
 no-second : (a b : Bool) → b ≡ false → (a && b) ≡ false
 no-second a b e = rw e (and-false a)
 
--- the entry of a value that is no binary record's: its type
-value-entry : (t : List ℕ) (r : Record) (e : ℕ) → typeOf t r ≡ e → isBinary r ≡ false → ((x : ℕ) → memberFits x r ≡ false)
-    → e < 4 → Entry t r e
-value-entry t r e ty b m h =
-    record { value = ty ∙ omega arith; binary = b ∙ sym (ne-eqb e 7 (λ q. omega (arith, q))); member = other }
+-- the entry of a value: its type
+value-entry : (t : List ℕ) (r : Record) (e : ℕ) → typeOf t r ≡ e → ((x : ℕ) → memberFits x r ≡ false) → e < 4 → Entry t r e
+value-entry t r e ty m h = record { value = ty ∙ omega arith; member = other }
   where
     other : (x : ℕ) → memberFits x r ≡ (ltb 0 x && eqb e (4 * x))
     other zero = m 0
     other (suc x) = m (suc x) ∙ sym (no-second (ltb 0 (suc x)) _ (ne-eqb e (4 * suc x) (λ q. omega (arith, q))))
 
-binary-entry : (t : List ℕ) (o : _) (x y : _) → Entry t (kind.Binary o x y) 7
-unfolding typeOf isBinary memberFits
-binary-entry t o x y = record { value = refl; binary = refl; member = other }
-  where
-    other : (z : ℕ) → false ≡ (ltb 0 z && eqb 7 (4 * z))
-    other zero = refl
-    other (suc z) = sym (no-second (ltb 0 (suc z)) _ (ne-eqb 7 (4 * suc z) (λ q. omega (arith, q))))
-
 list-entry : (t : List ℕ) (ty : ℕ) (m : Bool) (start count : ℕ) → ty < 4 → Entry t (kind.List ty m start count) (4 * (ty % 4))
-unfolding typeOf isBinary memberFits sameType
+unfolding typeOf memberFits sameType
 list-entry t ty m start count h =
     record {
       value = omega arith;
-      binary = sym (ne-eqb (4 * (ty % 4)) 7 (λ q. omega (arith, q)));
       member = λ x. ap (λ b. ltb 0 x && b) (same x);
     }
   where
@@ -170,10 +159,6 @@ module _ (t rs p types trees : List ℕ) (n : ℕ) (known : typesKnown t ≡ tru
   unfolding Entered typeAt
   input-type x e = entered x (ltb-true x n e) .value
 
-  input-binary : (x : ℕ) → ltb x n ≡ true → isBinary (recordAt rs (node x)) ≡ eqb (getD types x 0) 7
-  unfolding Entered
-  input-binary x e = entered x (ltb-true x n e) .binary
-
   input-member : (x y : ℕ) → ltb x n ≡ true → memberFits y (recordAt rs (node x)) ≡ (ltb 0 y && eqb (getD types x 0) (4 * y))
   unfolding Entered
   input-member x y e = entered x (ltb-true x n e) .member y
@@ -185,7 +170,7 @@ module _ (t rs p types trees : List ℕ) (n : ℕ) (known : typesKnown t ≡ tru
 
   -- a step by tests that are those of the definitions
   judged-right : (r : Record) (shape reach served fits : Bool) (e tree : ℕ) → decode f ≡ r → shapeOk f ≡ shape
-      → reachOk t p r (node n) ≡ reach → (shape ≡ true → reach ≡ true → servedOk rs r ≡ served)
+      → reachOk t p r (node n) ≡ reach → (shape ≡ true → reach ≡ true → servedOk r ≡ served)
       → (shape ≡ true → reach ≡ true → typesOk t rs r ≡ fits) → (shape ≡ true → reach ≡ true → Entry t r e)
       → (reach ≡ true → tree ≡ treeStep (below trees n) r) → Right t rs p n (judged shape reach served fits e tree)
   unfolding recordFault meaningFault recordAt bad good
@@ -215,74 +200,74 @@ module _ (t rs p types trees : List ℕ) (n : ℕ) (known : typesKnown t ≡ tru
       }
 
   column-right : f .zero ≡ 0 → f .kind ≡ 1 → Right t rs p n (columnStep t f)
-  unfolding columnStep reachOk servedOk typesOk typeOf isBinary memberFits
+  unfolding columnStep reachOk servedOk typesOk typeOf memberFits
   column-right z k =
       judged-right (kind.Column (columnNumber (f .a))) (onlyA f) (ltb (f .a) (length t)) true true (getD t (f .a) 0) 1
       (decode-column f k) (shape-column f z k) refl (λ s r. refl) (λ s r. refl)
-      (λ s r. value-entry t (kind.Column (columnNumber (f .a))) (getD t (f .a) 0) refl refl (λ x. refl) (column-low (f .a) r))
+      (λ s r. value-entry t (kind.Column (columnNumber (f .a))) (getD t (f .a) 0) refl (λ x. refl) (column-low (f .a) r))
       (λ r. refl)
 
   literal-right : f .zero ≡ 0 → f .kind ≡ 2 → Right t rs p n (literalStep f)
-  unfolding literalStep reachOk servedOk typesOk typeOf isBinary memberFits
+  unfolding literalStep reachOk servedOk typesOk typeOf memberFits
   literal-right z k =
       judged-right (kind.Literal (f .ty) (f .b + 4294967296 * f .c)) (literalShape f) true true true (f .ty) 1
       (decode-literal f k) (shape-literal f z k) refl (λ s r. refl) (λ s r. refl)
-      (λ s r. value-entry t (kind.Literal (f .ty) (f .b + 4294967296 * f .c)) (f .ty) refl refl (λ x. refl)
+      (λ s r. value-entry t (kind.Literal (f .ty) (f .b + 4294967296 * f .c)) (f .ty) refl (λ x. refl)
       (known-low (f .ty) (and-right (eqb (f .code) 0) (knownType (f .ty)) (and-left _ _ s)))) (λ r. refl)
 
   null-right : f .zero ≡ 0 → f .kind ≡ 3 → Right t rs p n (nullStep f)
-  unfolding nullStep reachOk servedOk typesOk typeOf isBinary memberFits
+  unfolding nullStep reachOk servedOk typesOk typeOf memberFits
   null-right z k =
       judged-right (kind.Null (f .ty)) (nullShape f) true true true (f .ty) 1 (decode-null f k) (shape-null f z k) refl
       (λ s r. refl) (λ s r. refl)
-      (λ s r. value-entry t (kind.Null (f .ty)) (f .ty) refl refl (λ x. refl)
+      (λ s r. value-entry t (kind.Null (f .ty)) (f .ty) refl (λ x. refl)
       (known-low (f .ty) (and-right (eqb (f .code) 0) (knownType (f .ty)) (and-left _ _ s)))) (λ r. refl)
 
   binary-right : f .zero ≡ 0 → f .kind ≡ 4 → Right t rs p n (binaryStep types trees f n)
-  unfolding binaryStep reachOk servedOk typesOk pairFits binaryFits sameType
+  unfolding binaryStep reachOk servedOk typesOk typeOf memberFits pairFits binaryFits sameType
   binary-right z k =
       judged-right (kind.Binary (operatorAt (f .code)) (node (f .a)) (node (f .b))) (binaryShape f) (bothBelow f n)
       (not (leb 8 (f .code) && leb (f .code) 14))
-      (pairFits (f .code) (getD types (f .a) 0 % 4) (getD types (f .b) 0 % 4)) 7
+      (pairFits (f .code) (getD types (f .a) 0 % 4) (getD types (f .b) 0 % 4)) 3
       (1 + (getD trees (f .a) 0 + getD trees (f .b) 0)) (decode-binary f k) (shape-binary f z k)
       (ap (λ q. ltb (f .a) n && q) (and-true (ltb (f .b) n)))
       (λ s r. rw (code s))
       (λ s r. rw (code s, input-type (f .a) (and-left _ _ r), input-type (f .b) (and-right (ltb (f .a) n) _ r)))
-      (λ s r. binary-entry t (operatorAt (f .code)) (node (f .a)) (node (f .b)))
+      (λ s r. value-entry t (kind.Binary (operatorAt (f .code)) (node (f .a)) (node (f .b))) 3 refl (λ x. refl) (omega arith))
       (λ r. rw (and-left (ltb (f .a) n) (ltb (f .b) n) r, and-right (ltb (f .a) n) (ltb (f .b) n) r) (omega arith))
     where
       code : binaryShape f ≡ true → codeOf (operatorAt (f .code)) ≡ f .code
       code s = code-back (f .code) (leb-true (f .code) 19 (and-left (leb (f .code) 19) (eqb (f .ty) 0) (and-left _ _ s)))
 
   not-right : f .zero ≡ 0 → f .kind ≡ 5 → Right t rs p n (notStep types trees f n)
-  unfolding notStep reachOk servedOk typesOk typeOf isBinary memberFits
+  unfolding notStep reachOk servedOk typesOk typeOf memberFits
   not-right z k =
-      judged-right (kind.Not (node (f .a))) (onlyA f) (ltb (f .a) n) (not (eqb (getD types (f .a) 0) 7))
-      (eqb (getD types (f .a) 0 % 4) 3) 3 (1 + getD trees (f .a) 0) (decode-not f k) (shape-not f z k)
-      (and-true (ltb (f .a) n)) (λ s r. ap not (input-binary (f .a) r)) (λ s r. ap (λ q. eqb q 3) (input-type (f .a) r))
-      (λ s r. value-entry t (kind.Not (node (f .a))) 3 refl refl (λ x. refl) (omega arith))
+      judged-right (kind.Not (node (f .a))) (onlyA f) (ltb (f .a) n) true (eqb (getD types (f .a) 0 % 4) 3) 3
+      (1 + getD trees (f .a) 0) (decode-not f k) (shape-not f z k) (and-true (ltb (f .a) n)) (λ s r. refl)
+      (λ s r. ap (λ q. eqb q 3) (input-type (f .a) r))
+      (λ s r. value-entry t (kind.Not (node (f .a))) 3 refl (λ x. refl) (omega arith))
       (λ r. rw r (omega arith))
 
   is-null-right : f .zero ≡ 0 → f .kind ≡ 6 → Right t rs p n (nullTestStep types trees f n)
-  unfolding nullTestStep reachOk servedOk typesOk typeOf isBinary memberFits
+  unfolding nullTestStep reachOk servedOk typesOk typeOf memberFits
   is-null-right z k =
       judged-right (kind.IsNull (node (f .a))) (onlyA f) (ltb (f .a) n) true (ltb 0 (getD types (f .a) 0 % 4)) 3
       (1 + getD trees (f .a) 0) (decode-is-null f k) (shape-is-null f z k) (and-true (ltb (f .a) n)) (λ s r. refl)
       (λ s r. ap (λ q. ltb 0 q) (input-type (f .a) r))
-      (λ s r. value-entry t (kind.IsNull (node (f .a))) 3 refl refl (λ x. refl) (omega arith))
+      (λ s r. value-entry t (kind.IsNull (node (f .a))) 3 refl (λ x. refl) (omega arith))
       (λ r. rw r (omega arith))
 
   is-not-null-right : f .zero ≡ 0 → f .kind ≡ 7 → Right t rs p n (nullTestStep types trees f n)
-  unfolding nullTestStep reachOk servedOk typesOk typeOf isBinary memberFits
+  unfolding nullTestStep reachOk servedOk typesOk typeOf memberFits
   is-not-null-right z k =
       judged-right (kind.IsNotNull (node (f .a))) (onlyA f) (ltb (f .a) n) true (ltb 0 (getD types (f .a) 0 % 4)) 3
       (1 + getD trees (f .a) 0) (decode-is-not-null f k) (shape-is-not-null f z k) (and-true (ltb (f .a) n)) (λ s r. refl)
       (λ s r. ap (λ q. ltb 0 q) (input-type (f .a) r))
-      (λ s r. value-entry t (kind.IsNotNull (node (f .a))) 3 refl refl (λ x. refl) (omega arith))
+      (λ s r. value-entry t (kind.IsNotNull (node (f .a))) 3 refl (λ x. refl) (omega arith))
       (λ r. rw r (omega arith))
 
   between-right : f .zero ≡ 0 → f .kind ≡ 8 → Right t rs p n (betweenStep types trees f n)
-  unfolding betweenStep reachOk servedOk typesOk typeOf isBinary memberFits
+  unfolding betweenStep reachOk servedOk typesOk typeOf memberFits
   between-right z k =
       judged-right (kind.IsBetween (closedAt (f .code)) (node (f .a)) (node (f .b)) (node (f .c))) (betweenShape f)
       (ltb (f .a) n && (ltb (f .b) n && ltb (f .c) n)) true
@@ -290,7 +275,7 @@ module _ (t rs p types trees : List ℕ) (n : ℕ) (known : typesKnown t ≡ tru
       (1 + (getD trees (f .a) 0 + (getD trees (f .b) 0 + getD trees (f .c) 0))) (decode-between f k) (shape-between f z k)
       (ap (λ q. ltb (f .a) n && (ltb (f .b) n && q)) (and-true (ltb (f .c) n))) (λ s r. refl)
       (λ s r. rw (input-type (f .a) (fst r), input-type (f .b) (snd r), input-type (f .c) (thd r)))
-      (λ s r. value-entry t (kind.IsBetween (closedAt (f .code)) (node (f .a)) (node (f .b)) (node (f .c))) 3 refl refl
+      (λ s r. value-entry t (kind.IsBetween (closedAt (f .code)) (node (f .a)) (node (f .b)) (node (f .c))) 3 refl
       (λ x. refl) (omega arith))
       (λ r. rw (fst r, snd r, thd r) (omega arith))
     where
@@ -312,7 +297,7 @@ module _ (t rs p types trees : List ℕ) (n : ℕ) (known : typesKnown t ≡ tru
       (known-low (f .ty) (and-right (leb (f .code) 1) (knownType (f .ty)) (and-left _ _ s)))) (λ r. refl)
 
   member-right : f .zero ≡ 0 → f .kind ≡ 10 → Right t rs p n (memberStep types trees f n)
-  unfolding memberStep reachOk servedOk typesOk typeOf isBinary memberFits
+  unfolding memberStep reachOk servedOk typesOk typeOf memberFits
   member-right z k =
       judged-right (kind.IsIn (eqb (f .code) 1) (node (f .a)) (node (f .b))) (memberShape f) (bothBelow f n) true
       (ltb 0 (getD types (f .a) 0 % 4) && eqb (getD types (f .b) 0) (4 * (getD types (f .a) 0 % 4))) 3
@@ -320,7 +305,7 @@ module _ (t rs p types trees : List ℕ) (n : ℕ) (known : typesKnown t ≡ tru
       (ap (λ q. ltb (f .a) n && q) (and-true (ltb (f .b) n))) (λ s r. refl)
       (λ s r. ap (λ q. memberFits q (recordAt rs (node (f .b)))) (input-type (f .a) (and-left _ _ r))
       ∙ input-member (f .b) (getD types (f .a) 0 % 4) (and-right (ltb (f .a) n) (ltb (f .b) n) r))
-      (λ s r. value-entry t (kind.IsIn (eqb (f .code) 1) (node (f .a)) (node (f .b))) 3 refl refl (λ x. refl) (omega arith))
+      (λ s r. value-entry t (kind.IsIn (eqb (f .code) 1) (node (f .a)) (node (f .b))) 3 refl (λ x. refl) (omega arith))
       (λ r. rw (and-left (ltb (f .a) n) (ltb (f .b) n) r, and-right (ltb (f .a) n) (ltb (f .b) n) r) (omega arith))
 
   -- byte 3 is not zero, or the kind is none of the ten

@@ -29,7 +29,7 @@ sizesOk rs p used =
 -- 5, 6, 7 of record n, which decodes to r; 0 for no fault
 unfoldable pub meaningFault : List ℕ → List ℕ → List ℕ → Record → Node → ℕ
 meaningFault t rs p r n =
-    cond (reachOk t p r n) (cond (servedOk rs r) (cond (typesOk t rs r) 0 7) 6) 5
+    cond (reachOk t p r n) (cond (servedOk r) (cond (typesOk t rs r) 0 7) 6) 5
 
 -- the first of 4, 5, 6, 7 that record n has, or 0
 unfoldable pub recordFault : List ℕ → List ℕ → List ℕ → Node → ℕ

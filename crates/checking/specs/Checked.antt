@@ -13,7 +13,7 @@ use Rattle.checking.specs.Check.{tableOk, sizesOk}
 pub record CheckedRecord (t rs p : List ℕ) (n : ℕ) : Type 0 where
   pub shape : shapeOk (fieldsAt rs (node n)) ≡ true
   pub reach : reachOk t p (recordAt rs (node n)) (node n) ≡ true
-  pub served : servedOk rs (recordAt rs (node n)) ≡ true
+  pub served : servedOk (recordAt rs (node n)) ≡ true
   pub types : typesOk t rs (recordAt rs (node n)) ≡ true
 
 -- an accepted screen: within its limits, every used record without a fault, the root a used record and a Truth

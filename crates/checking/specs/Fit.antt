@@ -41,32 +41,19 @@ reachOk t p (kind.IsBetween k x low high) n = allBelow (n .0) (inputs (kind.IsBe
 reachOk t p (kind.List ty marked start count) n = listOk p ty start count
 reachOk t p (kind.IsIn equal x list) n = allBelow (n .0) (inputs (kind.IsIn equal x list))
 
-unfoldable pub isBinary : Record → Bool
-isBinary kind.Invalid = false
-isBinary (kind.Column c) = false
-isBinary (kind.Literal ty v) = false
-isBinary (kind.Null ty) = false
-isBinary (kind.Binary o x y) = true
-isBinary (kind.Not x) = false
-isBinary (kind.IsNull x) = false
-isBinary (kind.IsNotNull x) = false
-isBinary (kind.IsBetween k x low high) = false
-isBinary (kind.List ty marked start count) = false
-isBinary (kind.IsIn equal x list) = false
-
--- 6: a left-out operator, or Not above a binary record
-unfoldable pub servedOk : List ℕ → Record → Bool
-servedOk rs kind.Invalid = true
-servedOk rs (kind.Column c) = true
-servedOk rs (kind.Literal ty v) = true
-servedOk rs (kind.Null ty) = true
-servedOk rs (kind.Binary o x y) = not (isLeftOut o)
-servedOk rs (kind.Not x) = not (isBinary (recordAt rs x))
-servedOk rs (kind.IsNull x) = true
-servedOk rs (kind.IsNotNull x) = true
-servedOk rs (kind.IsBetween k x low high) = true
-servedOk rs (kind.List ty marked start count) = true
-servedOk rs (kind.IsIn equal x list) = true
+-- 6: a left-out operator
+unfoldable pub servedOk : Record → Bool
+servedOk kind.Invalid = true
+servedOk (kind.Column c) = true
+servedOk (kind.Literal ty v) = true
+servedOk (kind.Null ty) = true
+servedOk (kind.Binary o x y) = not (isLeftOut o)
+servedOk (kind.Not x) = true
+servedOk (kind.IsNull x) = true
+servedOk (kind.IsNotNull x) = true
+servedOk (kind.IsBetween k x low high) = true
+servedOk (kind.List ty marked start count) = true
+servedOk (kind.IsIn equal x list) = true
 
 -- the type of a record as an input: 1 Int, 2 Day, 3 Truth; 0 for a list, which is no value
 unfoldable pub typeOf : List ℕ → Record → ℕ

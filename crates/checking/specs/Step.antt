@@ -1,6 +1,6 @@
 -- One record's answer in one pass, kind by kind, from the entries and tree counts of the records below it.
--- An entry says what later records ask of a record: 1 Int, 2 Day, 3 Truth, 7 the Truth of a binary record, 4 ty a list of
--- ty. So an entry's remainder by 4 is `typeOf`, 0 for a list. (`Entry` ties it to the definitions of Fit.)
+-- An entry says what later records ask of a record: 1 Int, 2 Day, 3 Truth, 4 ty a list of ty. So an entry's remainder by
+-- 4 is `typeOf`, 0 for a list. (`Entry` ties it to the definitions of Fit.)
 use Prim.Native.Nat.{ℕ, _+_, _*_, _%_, _<_}
 use mathlib.Core.List.{List}
 use mathlib.Core.Bool.{Bool, true, false, cond, not, _&&_}
@@ -9,7 +9,7 @@ use lib.ListN.{length, getD}
 use lib.Dec.{ltb, leb, eqb}
 use Rattle.records.specs.Record.{node, recordAt}
 use Rattle.records.specs.Shape.{knownType, inType}
-use Rattle.checking.specs.Fit.{listOk, isBinary, typeOf, sameType, betweenFits, memberFits}
+use Rattle.checking.specs.Fit.{listOk, typeOf, sameType, betweenFits, memberFits}
 use Rattle.records.specs.declared.record.Fields.{Fields}
 use Rattle.records.specs.declared.record.Record.{Record}
 use Rattle.checking.specs.declared.step.Step.{Step}
@@ -17,7 +17,6 @@ use Rattle.checking.specs.declared.step.Step.{Step}
 -- what the table says of a record
 pub record Entry (t : List ℕ) (r : Record) (e : ℕ) : Type 0 where
   pub value : typeOf t r ≡ e % 4
-  pub binary : isBinary r ≡ eqb e 7
   pub member : (x : ℕ) → memberFits x r ≡ (ltb 0 x && eqb e (4 * x))
 
 -- a table with the entries of the records below n
@@ -79,13 +78,12 @@ unfoldable pub binaryStep : List ℕ → List ℕ → Fields → ℕ → Step
 binaryStep types trees f n =
     judged (binaryShape f) (bothBelow f n)
     (not (leb 8 (f .code) && leb (f .code) 14))
-    (pairFits (f .code) (getD types (f .a) 0 % 4) (getD types (f .b) 0 % 4)) 7
+    (pairFits (f .code) (getD types (f .a) 0 % 4) (getD types (f .b) 0 % 4)) 3
     (1 + (getD trees (f .a) 0 + getD trees (f .b) 0))
 
 unfoldable pub notStep : List ℕ → List ℕ → Fields → ℕ → Step
 notStep types trees f n =
-    judged (onlyA f) (ltb (f .a) n) (not (eqb (getD types (f .a) 0) 7)) (eqb (getD types (f .a) 0 % 4) 3) 3
-    (1 + getD trees (f .a) 0)
+    judged (onlyA f) (ltb (f .a) n) true (eqb (getD types (f .a) 0 % 4) 3) 3 (1 + getD trees (f .a) 0)
 
 unfoldable pub nullTestStep : List ℕ → List ℕ → Fields → ℕ → Step
 nullTestStep types trees f n =

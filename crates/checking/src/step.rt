@@ -115,7 +115,7 @@ fn binary_step(types: &[u8], trees: &[u16], f: Fields, n: Node) -> Step
     if !pair_fits(f.code, types[a] % 4, types[b] % 4) {
         return refused(7);
     }
-    passed(7, 1 + (wide(trees[a]) + wide(trees[b])))
+    passed(3, 1 + (wide(trees[a]) + wide(trees[b])))
 }
 
 fn not_step(types: &[u8], trees: &[u16], f: Fields, n: Node) -> Step
@@ -130,11 +130,7 @@ fn not_step(types: &[u8], trees: &[u16], f: Fields, n: Node) -> Step
         return refused(5);
     }
     let a = f.a as usize;
-    let e = types[a];
-    if e == 7 {
-        return refused(6);
-    }
-    if e % 4 != 3 {
+    if types[a] % 4 != 3 {
         return refused(7);
     }
     passed(3, 1 + wide(trees[a]))

@@ -15,7 +15,7 @@ use Rattle.constraints.specs.Payload.{payload}
 use Rattle.constraints.specs.declared.column.Nullability.the-variants.{NonNull}
 use Rattle.columns.specs.Abstraction.{Conjuncts, numbered, columnOf, Fine, excludedBy, allowedBy, disallowedBy, gather}
 use Rattle.columns.specs.declared.column.ColumnConstraints.{ColumnConstraints}
-use Rattle.merge.specs.Classify.{Conjunct, Bounds, Equality, Recorded, NonNullPair, Opaque, classify}
+use Rattle.merge.specs.Classify.{Conjunct, Bounds, Normalized, Equality, Recorded, NonNullPair, Opaque, classify}
 use Rattle.merge.specs.Collect.{Collected, begin, collect, collectOne, enter, addTo, requireNonNull}
 use Rattle.truth.specs.FromBytes.{aexprOf}
 use Rattle.rewrite.specs.Read.{conjunctIn}
@@ -92,7 +92,7 @@ collect-end R nodes i n b l e h = go b refl
 pub collect-none : (t : Conjuncts) (table : List ColumnConstraints) (ms : List ℕ) (R : ℕ → AExpr ℕ) (nodes : List ℕ)
     (order kept lefts rights equals : List ℕ) → table ≡ replicate 64 pastColumn → length order ≡ 260 → length kept ≡ 260
     → length lefts ≡ 130 → length rights ≡ 130 → length equals ≡ 130
-    → Collects t table ms (replicate 64 false) order 0 kept 0 lefts rights equals 0 0 false (collectTo R nodes 0)
+    → Collects t table ms (replicate 64 false) order 0 kept 0 lefts rights equals 0 0 false false (collectTo R nodes 0)
 unfolding collectTo firstOf edgesOf excludedBy allowedBy disallowedBy gather
 collect-none t table ms R nodes order kept lefts rights equals e lo lk ll lr le =
     record {
@@ -119,6 +119,7 @@ collect-none t table ms R nodes order kept lefts rights equals e lo lk ll lr le 
         low-right = λ o h. absurd (omega arith);
       };
       bounded = refl;
+      turned = refl;
       stops = refl;
     }
   where
@@ -172,18 +173,18 @@ entered-at order columns seen l a x o E la lc ex eo =
 
 -- ---- one conjunct, by its form
 module _ (t : Conjuncts) (table : List ColumnConstraints) (ms : List ℕ) (seen : List Bool) (order : List ℕ) (columns : ℕ)
-    (kept : List ℕ) (keeps : ℕ) (lefts rights equals : List ℕ) (edges bounds : ℕ) (unsat : Bool) (s : Collected ℕ)
-    (C : Collects t table ms seen order columns kept keeps lefts rights equals edges bounds unsat s) (s′ : Collected ℕ)
+    (kept : List ℕ) (keeps : ℕ) (lefts rights equals : List ℕ) (edges bounds : ℕ) (normalized unsat : Bool) (s : Collected ℕ)
+    (C : Collects t table ms seen order columns kept keeps lefts rights equals edges bounds normalized unsat s) (s′ : Collected ℕ)
     (k : Conjunct ℕ) (es : s′ ≡ collectOne payload k s)
   where
     pub bounds-turn : (table′ : List ColumnConstraints) (ms′ : List ℕ) (seen′ : List Bool) (order′ : List ℕ) (a o : ℕ)
         (l : List (Constraint ℕ)) (u : Bool) → k ≡ Bounds a l
         → ((m : List ℕ) → Entered order columns seen m → Entered order′ o seen′ (enter a m))
         → ((T : ColumnTable) → Shows t table ms T → Added t table′ ms′ a l u T)
-        → Collects t table′ ms′ seen′ order′ o kept keeps lefts rights equals edges (bounds + 1) u s′
+        → Collects t table′ ms′ seen′ order′ o kept keeps lefts rights equals edges (bounds + 1) normalized u s′
     bounds-turn table′ ms′ seen′ order′ a o l u ek en ad =
         let A : Added t table′ ms′ a l u (s .constraints) = ad (s .constraints) (C .shows) in
-        subst (Collects t table′ ms′ seen′ order′ o kept keeps lefts rights equals edges (bounds + 1) u)
+        subst (Collects t table′ ms′ seen′ order′ o kept keeps lefts rights equals edges (bounds + 1) normalized u)
         (sym (es ∙ ap (λ m. collectOne payload m s) ek))
         (record {
           shows = A .shows;
@@ -191,6 +192,26 @@ module _ (t : Conjuncts) (table : List ColumnConstraints) (ms : List ℕ) (seen 
           keeping = C .keeping;
           linked = C .linked;
           bounded = add-one bounds ∙ ap suc (C .bounded);
+          turned = C .turned;
+          stops = A .stops;
+        })
+
+    pub normalized-turn : (table′ : List ColumnConstraints) (ms′ : List ℕ) (seen′ : List Bool) (order′ : List ℕ) (a o : ℕ)
+        (l : List (Constraint ℕ)) (u : Bool) → k ≡ Normalized a l
+        → ((m : List ℕ) → Entered order columns seen m → Entered order′ o seen′ (enter a m))
+        → ((T : ColumnTable) → Shows t table ms T → Added t table′ ms′ a l u T)
+        → Collects t table′ ms′ seen′ order′ o kept keeps lefts rights equals edges (bounds + 1) true u s′
+    normalized-turn table′ ms′ seen′ order′ a o l u ek en ad =
+        let A : Added t table′ ms′ a l u (s .constraints) = ad (s .constraints) (C .shows) in
+        subst (Collects t table′ ms′ seen′ order′ o kept keeps lefts rights equals edges (bounds + 1) true u)
+        (sym (es ∙ ap (λ m. collectOne payload m s) ek))
+        (record {
+          shows = A .shows;
+          entered = en (s .order) (C .entered);
+          keeping = C .keeping;
+          linked = C .linked;
+          bounded = add-one bounds ∙ ap suc (C .bounded);
+          turned = refl;
           stops = A .stops;
         })
 
@@ -198,10 +219,10 @@ module _ (t : Conjuncts) (table : List ColumnConstraints) (ms : List ℕ) (seen 
         (l : List (Constraint ℕ)) (stops u : Bool) → k ≡ Recorded stops n a l → keeps < 260
         → ((m : List ℕ) → Entered order columns seen m → Entered order′ o seen′ (enter a m))
         → ((T : ColumnTable) → Shows t table ms T → Added t table′ ms′ a l u T)
-        → Collects t table′ ms′ seen′ order′ o (set kept keeps n) (keeps + 1) lefts rights equals edges bounds (stops && u) s′
+        → Collects t table′ ms′ seen′ order′ o (set kept keeps n) (keeps + 1) lefts rights equals edges bounds normalized (stops && u) s′
     recorded-turn table′ ms′ seen′ order′ a o n l stops u ek lk en ad =
         let A : Added t table′ ms′ a l u (s .constraints) = ad (s .constraints) (C .shows) in
-        subst (Collects t table′ ms′ seen′ order′ o (set kept keeps n) (keeps + 1) lefts rights equals edges bounds (stops && u))
+        subst (Collects t table′ ms′ seen′ order′ o (set kept keeps n) (keeps + 1) lefts rights equals edges bounds normalized (stops && u))
         (sym (es ∙ ap (λ m. collectOne payload m s) ek))
         (record {
           shows = A .shows;
@@ -209,13 +230,14 @@ module _ (t : Conjuncts) (table : List ColumnConstraints) (ms : List ℕ) (seen 
           keeping = keeps-more kept keeps n (s .opaque) lk (C .keeping);
           linked = C .linked;
           bounded = C .bounded;
+          turned = C .turned;
           stops = ap (λ b. stops && b) (A .stops);
         })
 
     pub opaque-turn : (n : ℕ) → k ≡ Opaque n → keeps < 260 → unsat ≡ false
-        → Collects t table ms seen order columns (set kept keeps n) (keeps + 1) lefts rights equals edges bounds unsat s′
+        → Collects t table ms seen order columns (set kept keeps n) (keeps + 1) lefts rights equals edges bounds normalized unsat s′
     opaque-turn n ek lk h =
-        subst (Collects t table ms seen order columns (set kept keeps n) (keeps + 1) lefts rights equals edges bounds unsat)
+        subst (Collects t table ms seen order columns (set kept keeps n) (keeps + 1) lefts rights equals edges bounds normalized unsat)
         (sym (es ∙ ap (λ m. collectOne payload m s) ek))
         (record {
           shows = C .shows;
@@ -223,6 +245,7 @@ module _ (t : Conjuncts) (table : List ColumnConstraints) (ms : List ℕ) (seen 
           keeping = keeps-more kept keeps n (s .opaque) lk (C .keeping);
           linked = C .linked;
           bounded = C .bounded;
+          turned = C .turned;
           stops = h;
         })
 
@@ -236,23 +259,24 @@ module _ (t : Conjuncts) (table : List ColumnConstraints) (ms : List ℕ) (seen 
       where
         pub equality-turn : k ≡ Equality a b n → edges < 130 → a < 64 → b < 64
             → Collects t table₂ ms seen₂ order₂ o′ kept keeps (set lefts edges a) (set rights edges b) (set equals edges n)
-            (edges + 1) bounds unsat s′
+            (edges + 1) bounds normalized unsat s′
         equality-turn ek le la lb =
             subst (Collects t table₂ ms seen₂ order₂ o′ kept keeps (set lefts edges a) (set rights edges b) (set equals edges n)
-            (edges + 1) bounds unsat) (sym (es ∙ ap (λ m. collectOne payload m s) ek))
+            (edges + 1) bounds normalized unsat) (sym (es ∙ ap (λ m. collectOne payload m s) ek))
             (record {
               shows = rb t ms (requireNonNull payload a (s .constraints)) (ra t ms (s .constraints) (C .shows));
               entered = fn (enter a (s .order)) (en (s .order) (C .entered));
               keeping = C .keeping;
               linked = edges-more lefts rights equals edges a b n (s .edges) (C .linked) le la lb;
               bounded = C .bounded;
+              turned = C .turned;
               stops = h;
             })
 
         pub pair-turn : k ≡ NonNullPair n a b → keeps < 260
-            → Collects t table₂ ms seen₂ order₂ o′ (set kept keeps n) (keeps + 1) lefts rights equals edges bounds unsat s′
+            → Collects t table₂ ms seen₂ order₂ o′ (set kept keeps n) (keeps + 1) lefts rights equals edges bounds normalized unsat s′
         pair-turn ek lk =
-            subst (Collects t table₂ ms seen₂ order₂ o′ (set kept keeps n) (keeps + 1) lefts rights equals edges bounds unsat)
+            subst (Collects t table₂ ms seen₂ order₂ o′ (set kept keeps n) (keeps + 1) lefts rights equals edges bounds normalized unsat)
             (sym (es ∙ ap (λ m. collectOne payload m s) ek))
             (record {
               shows = rb t ms (requireNonNull payload a (s .constraints)) (ra t ms (s .constraints) (C .shows));
@@ -260,16 +284,17 @@ module _ (t : Conjuncts) (table : List ColumnConstraints) (ms : List ℕ) (seen 
               keeping = keeps-more kept keeps n (s .opaque) lk (C .keeping);
               linked = C .linked;
               bounded = C .bounded;
+              turned = C .turned;
               stops = h;
             })
 
 -- Where reading ended, all is collected.
 pub collected-all : (t : Conjuncts) (table : List ColumnConstraints) (ms : List ℕ) (seen : List Bool) (order : List ℕ) (columns : ℕ)
-    (kept : List ℕ) (keeps : ℕ) (lefts rights equals : List ℕ) (edges bounds : ℕ) (unsat : Bool) (R : ℕ → AExpr ℕ)
+    (kept : List ℕ) (keeps : ℕ) (lefts rights equals : List ℕ) (edges bounds : ℕ) (normalized unsat : Bool) (R : ℕ → AExpr ℕ)
     (nodes : List ℕ) (i n : ℕ)
-    → Collects t table ms seen order columns kept keeps lefts rights equals edges bounds unsat (collectTo R nodes i)
+    → Collects t table ms seen order columns kept keeps lefts rights equals edges bounds normalized unsat (collectTo R nodes i)
     → i ≤ n → (ltb i n && not unsat) ≡ false
-    → Collects t table ms seen order columns kept keeps lefts rights equals edges bounds unsat (collectTo R nodes n)
-collected-all t table ms seen order columns kept keeps lefts rights equals edges bounds unsat R nodes i n C l h =
-    subst (Collects t table ms seen order columns kept keeps lefts rights equals edges bounds unsat)
+    → Collects t table ms seen order columns kept keeps lefts rights equals edges bounds normalized unsat (collectTo R nodes n)
+collected-all t table ms seen order columns kept keeps lefts rights equals edges bounds normalized unsat R nodes i n C l h =
+    subst (Collects t table ms seen order columns kept keeps lefts rights equals edges bounds normalized unsat)
     (collect-end R nodes i n unsat l (C .stops) h) C

@@ -76,8 +76,8 @@ outcome-is R nodes n = refl
 -- ---- The ends of the loops behind collecting.
 module _ (t : Conjuncts) (table₁ table₂ table₃ : List ColumnConstraints) (ms₁ ms₂ ms₃ : List ℕ) (seen : List Bool) (order : List ℕ)
     (columns : ℕ) (kept₁ : List ℕ) (keeps₁ : ℕ) (kept : List ℕ) (keeps : ℕ) (lefts rights equals : List ℕ)
-    (edges bounds : ℕ) (stop : Bool) (s : Collected ℕ)
-    (C : Collects t table₁ ms₁ seen order columns kept₁ keeps₁ lefts rights equals edges bounds stop s)
+    (edges bounds : ℕ) (normalized stop : Bool) (s : Collected ℕ)
+    (C : Collects t table₁ ms₁ seen order columns kept₁ keeps₁ lefts rights equals edges bounds normalized stop s)
     (live : stop ≡ false) (emitted : Bool) (passes : ℕ)
     (spread : (T : ColumnTable) (equals : List ℕ) → Shows t table₁ ms₁ T
     → Spread t table₂ ms₂ (edgesOf lefts rights equals edges) columns emitted passes T)
@@ -147,31 +147,31 @@ module _ (t : Conjuncts) (table₁ table₂ table₃ : List ColumnConstraints) (
   pub resolved-fine : (a : ℕ) → a < 64 → Fine (stride ms₃) (rowOf ms₃ a) (getD table₃ a pastColumn .len)
   resolved-fine = Q .shows .fine
 
-  rewrites-is : (ltb total bounds || (emitted || dropped)) ≡ rewrites payload s
+  rewrites-is : (ltb total bounds || (normalized || (emitted || dropped))) ≡ rewrites payload s
   rewrites-is =
-      ap (λ n. ltb n bounds || (emitted || dropped)) resolved-count
-      ∙ ap (λ n. ltb (length (comparisons payload (s .order) (resolved payload s))) n || (emitted || dropped))
-      (C .bounded)
-      ∙ ap (λ b. ltb (length (comparisons payload (s .order) (resolved payload s))) (s .boundConjuncts)
-      || (b || dropped)) spread-emitted
-      ∙ ap (λ b. ltb (length (comparisons payload (s .order) (resolved payload s))) (s .boundConjuncts)
-      || (propagateEmitted payload (length (s .order)) (s .edges) (s .constraints) || b)) dropped-is
+      let n = length (comparisons payload (s .order) (resolved payload s)) in
+      ap (λ k. ltb k bounds || (normalized || (emitted || dropped))) resolved-count
+      ∙ ap (λ k. ltb n k || (normalized || (emitted || dropped))) (C .bounded)
+      ∙ ap (λ b. ltb n (s .boundConjuncts) || (b || (emitted || dropped))) (C .turned)
+      ∙ ap (λ b. ltb n (s .boundConjuncts) || (s .normalized || (b || dropped))) spread-emitted
+      ∙ ap (λ b. ltb n (s .boundConjuncts)
+      || (s .normalized || (propagateEmitted payload (length (s .order)) (s .edges) (s .constraints) || b))) dropped-is
 
   pub conclude-dead : unsat ≡ true → conclude payload s ≡ NothingPasses
   conclude-dead h = outcome-by s true (rewrites payload s) (sym unsat-is ∙ h) refl
 
-  pub conclude-same : unsat ≡ false → not (ltb total bounds || (emitted || dropped)) ≡ true
+  pub conclude-same : unsat ≡ false → not (ltb total bounds || (normalized || (emitted || dropped))) ≡ true
       → conclude payload s ≡ Unchanged
   conclude-same h r =
       outcome-by s false false (sym unsat-is ∙ h)
-      (sym rewrites-is ∙ not-true (ltb total bounds || (emitted || dropped)) r)
+      (sym rewrites-is ∙ not-true (ltb total bounds || (normalized || (emitted || dropped))) r)
 
-  pub conclude-rebuilt : unsat ≡ false → not (ltb total bounds || (emitted || dropped)) ≡ false
+  pub conclude-rebuilt : unsat ≡ false → not (ltb total bounds || (normalized || (emitted || dropped))) ≡ false
       → conclude payload s ≡
       Rebuilt (firstOf kept keeps) (comparisons payload (firstOf order columns) (shown t table₃ ms₃))
   conclude-rebuilt h r =
       outcome-by s false true (sym unsat-is ∙ h)
-      (sym rewrites-is ∙ not-false (ltb total bounds || (emitted || dropped)) r)
+      (sym rewrites-is ∙ not-false (ltb total bounds || (normalized || (emitted || dropped))) r)
       ∙ ap (λ l. Rebuilt l (comparisons payload (s .order) (resolved payload s))) (sym kept-are)
       ∙ ap (Rebuilt (firstOf kept keeps)) (sym written-comparisons)
 

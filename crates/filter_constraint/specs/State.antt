@@ -76,13 +76,14 @@ EdgesBelow lefts rights n = (e : ℕ) → e < n → (getD lefts e 0 < 64) × (ge
 
 -- ---- Collect: the arrays stand for what was collected.
 pub record Collects (t : Conjuncts) (table : List ColumnConstraints) (marks : List ℕ) (seen : List Bool) (order : List ℕ) (columns : ℕ)
-    (kept : List ℕ) (keeps : ℕ) (lefts rights equals : List ℕ) (edges bounds : ℕ) (unsat : Bool)
+    (kept : List ℕ) (keeps : ℕ) (lefts rights equals : List ℕ) (edges bounds : ℕ) (normalized unsat : Bool)
     (s : Collected ℕ) : Type 0 where
   pub shows : Shows t table marks (s .constraints)
   pub entered : Entered order columns seen (s .order)
   pub keeping : Keeps kept keeps (s .opaque)
   pub linked : Edges lefts rights equals edges (s .edges)
   pub bounded : bounds ≡ s .boundConjuncts
+  pub turned : normalized ≡ s .normalized
   pub stops : unsat ≡ s .unsat
 
 -- What the first i nodes of an array gave.

@@ -28,13 +28,14 @@ use stages::fields::bump;
 use stages::fields::slot;
 use stages::rows::add_in_row;
 
-/// How many columns entered, nodes are kept, equalities there are, conjuncts were bounds; whether a conjunct made its
-/// column impossible.
+/// How many columns entered, nodes are kept, equalities there are, conjuncts were bounds; whether one of these was a
+/// negation; whether a conjunct made its column impossible.
 pub struct Collection {
     pub columns: usize,
     pub keeps: usize,
     pub edges: usize,
     pub bounds: usize,
+    pub normalized: bool,
     pub unsat: bool,
 }
 
@@ -121,7 +122,7 @@ pub fn collect(
     ensures { λ r. ⌜ ((seen : List Bool) × Collects (conjuncts (now (kinds .entry)) (now (values .entry)) (now (starts .entry))
         (now (counts .entry)) (now (pool .entry))) (columnsOf (now (cells .exit))) (now (marks .exit)) seen
         (now (order .exit)) (r .columns) (now (kept .exit)) (r .keeps) (now (lefts .exit)) (now (rights .exit))
-        (now (equals .exit)) (r .edges) (r .bounds) (r .unsat)
+        (now (equals .exit)) (r .edges) (r .bounds) (r .normalized) (r .unsat)
         (collectTo (aexprOf (now (rs .entry)) (now (pool .entry))) (now (nodes .entry)) n)) ⌝ }
     ensures { λ r. ⌜ (r .columns ≤ n + n) × (r .keeps + r .edges ≤ n) × (r .bounds ≤ n)
         × (length (now (cells .exit)) ≡ 512) × (length (now (marks .exit)) ≡ length (now (marks .entry))) ⌝ }
@@ -131,6 +132,7 @@ pub fn collect(
     let mut keeps: usize = 0;
     let mut edges: usize = 0;
     let mut bounds: usize = 0;
+    let mut normalized = false;
     let mut unsat = false;
     let mut i: usize = 0;
     while (i < n) & !unsat {
@@ -143,6 +145,13 @@ pub fn collect(
                 columns = enter(&mut seen, order, columns, a);
                 unsat = add_to_column(kinds, values, starts, counts, pool, cells, marks, a, j, s);
                 bounds += 1;
+                continue;
+            }
+            Conjunct::Normalized(a, s) => {
+                columns = enter(&mut seen, order, columns, a);
+                unsat = add_to_column(kinds, values, starts, counts, pool, cells, marks, a, j, s);
+                bounds += 1;
+                normalized = true;
                 continue;
             }
             Conjunct::Equality(a, b) => {
@@ -185,6 +194,7 @@ pub fn collect(
         keeps: keeps,
         edges: edges,
         bounds: bounds,
+        normalized: normalized,
         unsat: unsat,
     }
 }

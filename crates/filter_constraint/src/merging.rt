@@ -107,7 +107,7 @@ pub fn merge_filter_constraints(
     if r.unsat {
         return nothing_passes(rs, used);
     }
-    if !((r.total < s.bounds) | (m.emitted | k.dropped)) {
+    if !((r.total < s.bounds) | (s.normalized | (m.emitted | k.dropped))) {
         return RewriteAnswer::Unchanged;
     }
     let answer = rebuilt_answer(rs.len(), trees, &kept, k.keeps, used, r.total);

@@ -1,11 +1,12 @@
--- The definitions yield the starred cases of 01: one table (specs/Cases.antt), one proof.
+-- The definitions yield the starred cases of 01: one table (specs/Cases.antt), one proof. So do they its other cases,
+-- and those of negated lines.
 use mathlib.Core.Path.{_≡_, refl}
 use mathlib.Core.List.{map}
 use Rattle.records.specs.Bytes.{word, valueAt, all, first}
 use Rattle.checking.specs.Check.{typesKnown, tableOk, sizesOk, meaningFault, recordFault, firstFault, recordsAnswer}
 use Rattle.checking.specs.Check.{checkAnswer}
 use Rattle.records.specs.Course.{upTo, course}
-use Rattle.checking.specs.Fit.{allFit, listOk, reachOk, isBinary, servedOk, typeOf, typeAt, sameType, binaryFits}
+use Rattle.checking.specs.Fit.{allFit, listOk, reachOk, servedOk, typeOf, typeAt, sameType, binaryFits}
 use Rattle.checking.specs.Fit.{betweenFits, memberFits, typesOk}
 use Rattle.records.specs.Operator.{operatorAt}
 use Rattle.records.specs.Record.{fieldsAt, closedAt, decode, recordAt, encode}
@@ -15,11 +16,11 @@ use Rattle.truth.specs.FromBytes.{valuesFrom, aexprOf, aexprAt, rowKeys}
 use Rattle.merge.specs.Rewrite.{rewriteAnswer, rewriteBytes}
 use Rattle.merge.specs.Write.{splice}
 use Rattle.constraints.specs.Payload.{payload}
-use Rattle.merge.specs.Cases.{starred, further, yielded, due}
+use Rattle.merge.specs.Cases.{starred, further, negatedLines, yielded, due}
 
 pub starred-cases : map yielded starred ≡ map due starred
 unfolding payload word valueAt all first typesKnown tableOk sizesOk meaningFault recordFault firstFault recordsAnswer
-    checkAnswer upTo course allFit listOk reachOk isBinary servedOk typeOf typeAt sameType binaryFits betweenFits
+    checkAnswer upTo course allFit listOk reachOk servedOk typeOf typeAt sameType binaryFits betweenFits
     memberFits typesOk operatorAt fieldsAt closedAt decode recordAt encode knownType inType maxCode uses
     knownOk zeroOr unusedOk literalOk shapeOk valuesFrom aexprOf aexprAt rowKeys rewriteAnswer rewriteBytes
     splice
@@ -27,8 +28,16 @@ starred-cases = refl
 
 pub further-cases : map yielded further ≡ map due further
 unfolding payload word valueAt all first typesKnown tableOk sizesOk meaningFault recordFault firstFault recordsAnswer
-    checkAnswer upTo course allFit listOk reachOk isBinary servedOk typeOf typeAt sameType binaryFits betweenFits
+    checkAnswer upTo course allFit listOk reachOk servedOk typeOf typeAt sameType binaryFits betweenFits
     memberFits typesOk operatorAt fieldsAt closedAt decode recordAt encode knownType inType maxCode uses
     knownOk zeroOr unusedOk literalOk shapeOk valuesFrom aexprOf aexprAt rowKeys rewriteAnswer rewriteBytes
     splice
 further-cases = refl
+
+pub negated-cases : map yielded negatedLines ≡ map due negatedLines
+unfolding payload word valueAt all first typesKnown tableOk sizesOk meaningFault recordFault firstFault recordsAnswer
+    checkAnswer upTo course allFit listOk reachOk servedOk typeOf typeAt sameType binaryFits betweenFits
+    memberFits typesOk operatorAt fieldsAt closedAt decode recordAt encode knownType inType maxCode uses
+    knownOk zeroOr unusedOk literalOk shapeOk valuesFrom aexprOf aexprAt rowKeys rewriteAnswer rewriteBytes
+    splice
+negated-cases = refl

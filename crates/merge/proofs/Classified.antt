@@ -30,6 +30,7 @@ module _ {K Val : Type 0} (S : Scalars K Val) where
     opaque = λ n. tt;
     entered = λ n c p. tt;
     compared = λ c o v p q. comparison-read o v;
+    normalized = λ c o v p q. comparison-read o v;
     between = λ c i j v w p q r x. refl;
     equal = λ a b n p q. tt;
     paired = λ n a b p q. tt;
@@ -42,7 +43,7 @@ module _ {Val : Type 0} (R Q : ℕ → AExpr Val) (u : ℕ) (same : (a : ℕ) �
   negation-same n m (Column c) h i = refl
   negation-same n m (Literal v) h i = refl
   negation-same n m Null h i = refl
-  negation-same n m (BinaryExpr op x y) h i = refl
+  negation-same n m (BinaryExpr op x y) h i = rw (same x (omega (arith, i .0)), same y (omega (arith, i .1)))
   negation-same n m (Not a) h i = refl
   negation-same n m (IsNull a) h i = rw (same a (omega arith))
   negation-same n m (IsNotNull a) h i = rw (same a (omega arith))

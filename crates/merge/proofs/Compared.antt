@@ -1,6 +1,6 @@
 -- A rebuilt chain always has a comparison. A column says something if it has a bound or an excluded value. What makes
--- the merging rebuild, makes some column that entered say something: a conjunct that became bounds; something written
--- out that moved in a pass; the fixed value for which an equality was dropped. It goes on saying something through
+-- the merging rebuild, makes some column that entered say something: a conjunct that became bounds, negated or not;
+-- something written out that moved in a pass; the fixed value for which an equality was dropped. It goes on saying something through
 -- further constraints, passes and resolving, which drops an excluded value only against a bound.
 use mathlib.Core.Path.{_≡_, refl, sym, subst}
 use mathlib.Core.Bool.{Bool, true, false, not, _&&_, _||_, cond, true≢false}
@@ -36,8 +36,8 @@ use Rattle.constraints.specs.Values.{insert, isEmpty}
 use Rattle.constraints.proofs.Columns.{addAll-live, insert-full, tighten-present}
 use Rattle.constraints.proofs.Resolves.{fixed-lower, openAt-present, resolveIf}
 use Rattle.merge.specs.Minterms.{minterms}
-use Rattle.merge.specs.Classify.{Bounds, Conjunct, Equality, NonNullPair, Opaque, Recorded, classify}
-use Rattle.merge.specs.Classify.{comparisonConstraints}
+use Rattle.merge.specs.Classify.{Bounds, Conjunct, Equality, NonNullPair, Normalized, Opaque, Recorded}
+use Rattle.merge.specs.Classify.{classify, comparisonConstraints}
 use Rattle.merge.specs.Collect.{Collected, Table, addTo, begin, collect, collectOne, enter, requireNonNull}
 use Rattle.merge.specs.Compared.{RebuiltCompares, RewrittenRootIsNew}
 use Rattle.merge.specs.Emit.{NothingPasses, Outcome, Rebuilt, Unchanged, anyUnsat, comparisons, conclude}
@@ -331,6 +331,7 @@ module _ {K Val : Type 0} (S : Scalars K Val) where
 
   abbrev Reads : Conjunct Val → Type 0
   Reads (Bounds c l) = Begins l
+  Reads (Normalized c l) = Begins l
   Reads (Equality a b n) = Unit {0}
   Reads (Recorded z n c l) = Unit {0}
   Reads (NonNullPair n a b) = Unit {0}
@@ -355,17 +356,21 @@ module _ {K Val : Type 0} (S : Scalars K Val) where
 
   -- Once a conjunct became bounds, and reading did not stop, a column says something.
   abbrev Counted : Collected Val → Type 0
-  Counted s = s .unsat ≡ false → 1 ≤ s .boundConjuncts → Shown (s .order) (s .constraints)
+  Counted s = s .unsat ≡ false → (1 ≤ s .boundConjuncts) ⊎ (s .normalized ≡ true) → Shown (s .order) (s .constraints)
+
+  bounds-shown : (c : ℕ) (l : List (Constraint Val)) (s : Collected Val) → Begins l →
+      addAll S l (s .constraints c) .unsat ≡ false → Shown (enter c (s .order)) (addTo S c l (s .constraints))
+  bounds-shown c l s r live = (
+    c,
+    enter-in S c (s .order),
+    subst Says (sym (upd-self S (s .constraints) c (addAll S l (s .constraints c))))
+        (bounds-say l (s .constraints c) r live),
+  )
 
   collectOne-counted : (x : Conjunct Val) (s : Collected Val) → Reads x → s .unsat ≡ false → Counted s →
       Counted (collectOne S x s)
-  collectOne-counted (Bounds c l) s r u k =
-      λ live n. (
-        c,
-        enter-in S c (s .order),
-        subst Says (sym (upd-self S (s .constraints) c
-            (addAll S l (s .constraints c)))) (bounds-say l (s .constraints c) r live),
-      )
+  collectOne-counted (Bounds c l) s r u k = λ live n. bounds-shown c l s r live
+  collectOne-counted (Normalized c l) s r u k = λ live n. bounds-shown c l s r live
   collectOne-counted (Equality a b m) s r u k =
       λ live n. let h = k u n in (
         h .0,
@@ -402,9 +407,9 @@ module _ {K Val : Type 0} (S : Scalars K Val) where
     shown-full h =
         comparisons-full (s .order) (resolved S s) (h .0) (h .1) (resolve-says (propagated S s (h .0)) (h .2))
 
-    -- each of the three reasons to rebuild
+    -- each of the four reasons to rebuild
     reason : s .unsat ≡ false → rewrites S s ≡ true → Shown (s .order) (propagated S s)
-    reason u h = go (either (ltb n (s .boundConjuncts)) (moved || dropped) h)
+    reason u h = go (either (ltb n (s .boundConjuncts)) (s .normalized || (moved || dropped)) h)
       where
         n : ℕ
         n = length (comparisons S (s .order) (resolved S s))
@@ -415,16 +420,23 @@ module _ {K Val : Type 0} (S : Scalars K Val) where
         dropped : Bool
         dropped = droppedEquality S (propagated S s) (s .edges)
 
-        rest : (moved ≡ true) ⊎ (dropped ≡ true) → Shown (s .order) (propagated S s)
-        rest (inl e) = propagate-shown (s .order) (length (s .order)) (s .edges) (s .constraints) i e
-        rest (inr e) = dropped-shown (s .order) (propagated S s) (s .edges) i e
+        collected : Shown (s .order) (s .constraints) → Shown (s .order) (propagated S s)
+        collected h = shown-map (s .order) (s .constraints) (propagated S s)
+            (propagate-keeps (length (s .order)) (s .edges) (s .constraints)) h
 
-        go : (ltb n (s .boundConjuncts) ≡ true) ⊎ ((moved || dropped) ≡ true) → Shown (s .order) (propagated S s)
+        last : (moved ≡ true) ⊎ (dropped ≡ true) → Shown (s .order) (propagated S s)
+        last (inl e) = propagate-shown (s .order) (length (s .order)) (s .edges) (s .constraints) i e
+        last (inr e) = dropped-shown (s .order) (propagated S s) (s .edges) i e
+
+        rest : (s .normalized ≡ true) ⊎ ((moved || dropped) ≡ true) → Shown (s .order) (propagated S s)
+        rest (inl e) = collected (k u (inr e))
+        rest (inr e) = last (either moved dropped e)
+
+        go : (ltb n (s .boundConjuncts) ≡ true) ⊎ ((s .normalized || (moved || dropped)) ≡ true) →
+            Shown (s .order) (propagated S s)
         go (inl e) =
-            let l : n < s .boundConjuncts = ltb-true n (s .boundConjuncts) e in
-            shown-map (s .order) (s .constraints) (propagated S s)
-            (propagate-keeps (length (s .order)) (s .edges) (s .constraints)) (k u (omega arith))
-        go (inr e) = rest (either moved dropped e)
+            let l : n < s .boundConjuncts = ltb-true n (s .boundConjuncts) e in collected (k u (inl (omega arith)))
+        go (inr e) = rest (either (s .normalized) (moved || dropped) e)
 
     conclude-compares : Compares (conclude S s)
     conclude-compares = go (s .unsat || anyUnsat (s .order) (resolved S s)) refl (rewrites S s) refl
@@ -435,9 +447,13 @@ module _ {K Val : Type 0} (S : Scalars K Val) where
         go false e true f = shown-full (reason (neither (s .unsat) (anyUnsat (s .order) (resolved S s)) e) f)
         go false e false f = tt
 
+  none-yet : (1 ≤ 0) ⊎ (false ≡ true) → ⊥
+  none-yet (inl h) = omega (arith, h)
+  none-yet (inr h) = true≢false (sym h)
+
   merge-compares : (l : List (Conjunct Val)) → AllRead l → Compares (mergeFilterConstraints S l)
   merge-compares l r =
-      conclude-compares (collect S l begin) (collect-counted l begin r (λ live n. absurd (omega (arith, n))))
+      conclude-compares (collect S l begin) (collect-counted l begin r (λ live n. absurd (none-yet n)))
       (collect-in S l begin tt)
 
   -- ---- every conjunct that becomes bounds says something
@@ -456,6 +472,7 @@ module _ {K Val : Type 0} (S : Scalars K Val) where
         opaque = λ n. tt;
         entered = λ n c p. tt;
         compared = λ c o v p q. comparison-begins o v;
+        normalized = λ c o v p q. comparison-begins o v;
         between = λ c i j v w p q r. tt;
         equal = λ a b n p q. tt;
         paired = λ n a b p q. tt;

@@ -6,7 +6,7 @@ use mathlib.Core.List.{List, [], _∷_, _++_}
 use mathlib.Core.Option.{Option, none, some, Option·none-ne-some, Option·some-injective}
 use mathlib.Core.Logic.{inl, inr, _↔_}
 use Prim.Native.Nat.{ℕ, zero, suc}
-use lib.Dec.{eqb, ltb}
+use lib.Dec.{eqb}
 use lib.ListN.{length}
 use Rattle.constraints.proofs.Columns.{addAll-emitted, addAll-recorded, admits, admitsEmitted, admitsRecorded}
 use Rattle.constraints.proofs.Columns.{obeysAll, obeysEmittedAll, obeysRecordedAll}
@@ -24,12 +24,12 @@ use Rattle.merge.proofs.Sound.{unsat-none, upd-ind, upd-self}
 use Rattle.merge.proofs.Spread.{AllEndsAgree, EndsAgree, Linked, pass-emitted, pass-fix, pass-live}
 use Rattle.merge.proofs.Spread.{pass-recorded, passTimes-emitted, passTimes-live, passTimes-recorded}
 use Rattle.merge.proofs.Witness.{HalfPoints, rowValue, rowValue-admitted, valueBy, witness, witness-same}
-use Rattle.merge.specs.Classify.{Bounds, Conjunct, Equality, NonNullPair, Opaque, Recorded}
+use Rattle.merge.specs.Classify.{Bounds, Conjunct, Equality, NonNullPair, Normalized, Opaque, Recorded}
 use Rattle.merge.specs.Collect.{Collected, Table, addTo, begin, collect, collectOne, enter, isIn}
 use Rattle.merge.specs.Collect.{requireNonNull}
-use Rattle.merge.specs.Emit.{NothingPasses, Outcome, Rebuilt, Unchanged, anyUnsat, comparisons, droppedEquality}
-use Rattle.merge.specs.Emit.{keptEqualities, mergeFilterConstraints, propagated, resolved}
-use Rattle.merge.specs.Propagate.{mergeEdge, mergedRight, pass, propagateEmitted}
+use Rattle.merge.specs.Emit.{NothingPasses, Outcome, Rebuilt, Unchanged, anyUnsat, comparisons}
+use Rattle.merge.specs.Emit.{keptEqualities, mergeFilterConstraints, propagated, resolved, rewrites}
+use Rattle.merge.specs.Propagate.{mergeEdge, mergedRight, pass}
 
 -- a property of every equality
 abbrev pub AllE : ((ℕ × ℕ × ℕ) → Type 0) → List (ℕ × ℕ × ℕ) → Type 0
@@ -64,6 +64,7 @@ module _ {K Val : Type 0} (S : Scalars K Val) (H : HalfPoints S) where
   collectOne-consistent : (x : Conjunct Val) (s : Collected Val) → AllConsistent (s .constraints) →
       AllConsistent (collectOne S x s .constraints)
   collectOne-consistent (Bounds c l) s h = addTo-consistent c l (s .constraints) h
+  collectOne-consistent (Normalized c l) s h = addTo-consistent c l (s .constraints) h
   collectOne-consistent (Equality a b n) s h = addTo-consistent b (Require NonNull ∷ [])
       (requireNonNull S a (s .constraints)) (addTo-consistent a (Require NonNull ∷ []) (s .constraints) h)
   collectOne-consistent (Recorded z n c l) s h = addTo-consistent c l (s .constraints) h
@@ -88,6 +89,7 @@ module _ {K Val : Type 0} (S : Scalars K Val) (H : HalfPoints S) where
   collectOne-alle : (P : (ℕ × ℕ × ℕ) → Type 0) (x : Conjunct Val) (s : Collected Val) →
       AllE P (collectOne S x s .edges) → AllE P (s .edges)
   collectOne-alle P (Bounds c l) s h = h
+  collectOne-alle P (Normalized c l) s h = h
   collectOne-alle P (Equality a b n) s h = alle-app P (s .edges) ((a, b, n) ∷ []) h .0
   collectOne-alle P (Recorded z n c l) s h = h
   collectOne-alle P (NonNullPair n a b) s h = h
@@ -106,6 +108,7 @@ module _ {K Val : Type 0} (S : Scalars K Val) (H : HalfPoints S) where
     -- what a conjunct of a plain screen says
     abbrev pub Exact : Conjunct Val → Type 0
     Exact (Bounds c l) = Unit {0}
+    Exact (Normalized c l) = Unit {0}
     Exact (Equality a b n) = Linked S ρ a b → N n ≡ true
     Exact (Recorded z n c l) = obeysAll S l (ρ c) ≡ true → N n ≡ true
     Exact (NonNullPair n a b) = ⊥
@@ -152,6 +155,7 @@ module _ {K Val : Type 0} (S : Scalars K Val) (H : HalfPoints S) where
     -- what a conjunct says of the row
     abbrev pub Fits : Conjunct Val → Type 0
     Fits (Bounds c l) = obeysAll S l (ρ c) ≡ true
+    Fits (Normalized c l) = obeysAll S l (ρ c) ≡ true
     Fits (Equality a b n) = Linked S ρ a b
     Fits (Recorded z n c l) = obeysAll S l (ρ c) ≡ true
     Fits (NonNullPair n a b) = Some S ρ N a × Some S ρ N b
@@ -184,6 +188,8 @@ module _ {K Val : Type 0} (S : Scalars K Val) (H : HalfPoints S) where
         AllE Meets (collectOne S x s .edges) → Full f → Fits x
     collectOne-fits (Bounds c l) s f g m k = let r = full-at (collectOne S (Bounds c l) s) f g k c
         (enter-in S c (s .order)) in addTo-back c l (s .constraints) (r .0) (r .1) (r .2)
+    collectOne-fits (Normalized c l) s f g m k = let r = full-at (collectOne S (Normalized c l) s) f g k c
+        (enter-in S c (s .order)) in addTo-back c l (s .constraints) (r .0) (r .1) (r .2)
     collectOne-fits (Recorded z n c l) s f g m k = let r = full-at (collectOne S (Recorded z n c l) s) f g k c
         (enter-in S c (s .order)) in addTo-back c l (s .constraints) (r .0) (r .1) (r .2)
     collectOne-fits (NonNullPair n a b) s f g m k =
@@ -212,6 +218,7 @@ module _ {K Val : Type 0} (S : Scalars K Val) (H : HalfPoints S) where
 
     fits-holds : (x : Conjunct Val) → Exact x → Fits x → Holds S ρ N x
     fits-holds (Bounds c l) e f = f
+    fits-holds (Normalized c l) e f = f
     fits-holds (Equality a b n) e f = e f
     fits-holds (Recorded z n c l) e f = e f
     fits-holds (NonNullPair n a b) e f = absurd e
@@ -300,10 +307,7 @@ module _ {K Val : Type 0} (S : Scalars K Val) (H : HalfPoints S) where
 
   pub merge-is-complete : (N : (ℕ → Option K) → ℕ → Bool) (l : List (Conjunct Val)) →
       ((ρ : ℕ → Option K) → ExactAll ρ (N ρ) l) → Complete N l (mergeFilterConstraints S l)
-  merge-is-complete N l e = go (s .unsat || anyUnsat (s .order) (resolved S s)) refl
-      (ltb (length (comparisons S (s .order) (resolved S s))) (s .boundConjuncts) ||
-      (propagateEmitted S (length (s .order)) (s .edges) (s .constraints) || droppedEquality S (propagated S s)
-      (s .edges)))
+  merge-is-complete N l e = go (s .unsat || anyUnsat (s .order) (resolved S s)) refl (rewrites S s)
     where
       s : Collected Val
       s = collect S l (begin)

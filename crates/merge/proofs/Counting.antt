@@ -9,7 +9,7 @@ use lib.Dec.{eqb}
 use lib.ListN.{length}
 use Rattle.constraints.specs.Comparisons.{ColumnComparison, collectColumnComparisons}
 use Rattle.constraints.specs.Scalars.{Scalars}
-use Rattle.merge.specs.Classify.{Bounds, Conjunct, Equality, NonNullPair, Opaque, Recorded}
+use Rattle.merge.specs.Classify.{Bounds, Normalized, Conjunct, Equality, NonNullPair, Opaque, Recorded}
 use Rattle.merge.specs.Collect.{Collected, Table, collect, collectOne, enter, isIn}
 use Rattle.merge.specs.Emit.{comparisons, ofColumn}
 use Rattle.merge.proofs.Passes.{eqb-path, eqb-self}
@@ -120,6 +120,7 @@ module _ {K Val : Type 0} (S : Scalars K Val) where
 
   collectOne-once : (x : Conjunct Val) (s : Collected Val) → Once S (s .order) → Once S (collectOne S x s .order)
   collectOne-once (Bounds c l) s n = enter-once c (s .order) n
+  collectOne-once (Normalized c l) s n = enter-once c (s .order) n
   collectOne-once (Equality a b m) s n = enter-once b (enter a (s .order)) (enter-once a (s .order) n)
   collectOne-once (Recorded z m c l) s n = enter-once c (s .order) n
   collectOne-once (NonNullPair m a b) s n = enter-once b (enter a (s .order)) (enter-once a (s .order) n)

@@ -17,7 +17,7 @@ use Rattle.records.specs.declared.record.Record.the-variants as kind
 use Rattle.records.proofs.Laws.{and-left, and-right, by-test}
 use Rattle.records.proofs.Loops.{all-holds}
 use Rattle.records.proofs.RoundTrips.{decode-encode}
-use Rattle.checking.specs.Fit.{reachOk, servedOk, isBinary, typeOf, typeAt, sameType, binaryFits, typesOk}
+use Rattle.checking.specs.Fit.{reachOk, servedOk, typeOf, typeAt, sameType, binaryFits, typesOk}
 use Rattle.checking.specs.Check.{typesKnown, tableOk}
 use Rattle.checking.specs.Checked.{CheckedRecord}
 use Rattle.truth.specs.Comparison.{Comparison, Eq, NotEq, Lt, LtEq, Gt, GtEq}
@@ -51,20 +51,6 @@ module _ (t rs out p : List ℕ) (n : ℕ) (same : SameBelow rs out n) where
   unfolding typeAt
   type-same x h = ap (typeOf t) (same (x .0) h)
 
-  served-same : (r : Record) → reachOk t p r (node n) ≡ true → servedOk out r ≡ servedOk rs r
-  unfolding reachOk servedOk
-  served-same kind.Invalid h = refl
-  served-same (kind.Column c) h = refl
-  served-same (kind.Literal ty v) h = refl
-  served-same (kind.Null ty) h = refl
-  served-same (kind.Binary o x y) h = refl
-  served-same (kind.Not x) h = ap (λ q. not (isBinary q)) (same (x .0) (one n (x .0) h))
-  served-same (kind.IsNull x) h = refl
-  served-same (kind.IsNotNull x) h = refl
-  served-same (kind.IsBetween k x low high) h = refl
-  served-same (kind.List ty marked start count) h = refl
-  served-same (kind.IsIn equal x list) h = refl
-
   types-same : (r : Record) → reachOk t p r (node n) ≡ true → typesOk t out r ≡ typesOk t rs r
   unfolding reachOk typesOk
   types-same kind.Invalid h = refl
@@ -86,13 +72,13 @@ module _ (t rs out p : List ℕ) (n : ℕ) (same : SameBelow rs out n) where
 -- Record u has no fault if the record r that it decodes to has none over the records below u.
 checked-as :
     (t rs out p : List ℕ) (n : ℕ) (r : Record) → SameBelow rs out n → recordAt out (node n) ≡ r →
-    shapeOk (fieldsAt out (node n)) ≡ true → reachOk t p r (node n) ≡ true → servedOk rs r ≡ true →
+    shapeOk (fieldsAt out (node n)) ≡ true → reachOk t p r (node n) ≡ true → servedOk r ≡ true →
     typesOk t rs r ≡ true → CheckedRecord t out p n
 checked-as t rs out p n r same e shape reach served types =
     record {
       shape = shape;
       reach = ap (λ q. reachOk t p q (node n)) e ∙ reach;
-      served = ap (servedOk out) e ∙ served-same t rs out p n same r reach ∙ served;
+      served = ap servedOk e ∙ served;
       types = ap (typesOk t out) e ∙ types-same t rs out p n same r reach ∙ types;
     }
 
@@ -120,7 +106,7 @@ pub record New (t rs p : List ℕ) (u : ℕ) (r : Record) : Type 0 where
   pub words : Words (encode r)
   pub shape : shapeOk (encode r) ≡ true
   pub reach : reachOk t p r (node u) ≡ true
-  pub served : servedOk rs r ≡ true
+  pub served : servedOk r ≡ true
   pub types : typesOk t rs r ≡ true
 
 module _ (t rs p : List ℕ) (u : ℕ) (r : Record) (room : 16 * u + 16 ≤ length rs) (w : Words (encode r)) where
@@ -228,7 +214,7 @@ comparison-new t rs p u o x y ty i j small known a b =
     reach-of : reachOk t p (comparisonRecord o x y) (node u) ≡ true
     reach-of = rw (lt-ltb x u i, lt-ltb y u j)
 
-    served-of : (o : Comparison) → servedOk rs (comparisonRecord o x y) ≡ true
+    served-of : (o : Comparison) → servedOk (comparisonRecord o x y) ≡ true
     served-of Eq = refl
     served-of NotEq = refl
     served-of Lt = refl

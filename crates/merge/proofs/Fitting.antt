@@ -10,6 +10,7 @@ use Rattle.truth.specs.Comparison.{Comparison, Eq, NotEq, Lt, LtEq, Gt, GtEq}
 use Rattle.truth.specs.AExpr.{AExpr, Column, Literal, Null, BinaryExpr, Not, IsNull, IsNotNull, IsBetween}
 use Rattle.truth.specs.AExpr.{ListLiteral, IsIn, Missing}
 use Rattle.truth.specs.AExpr.{BinaryOp, Compare, EqValidity, NotEqValidity, And, Or, Xor, LogicalAnd, LogicalOr}
+use Rattle.truth.proofs.Negations.{negateComparison}
 use Rattle.constraints.specs.Scalars.{Scalars}
 use Rattle.merge.specs.Minterms.{minterms}
 use Rattle.merge.specs.Classify.{Operand, AColumn, ALiteral, AList, Other, operand, classify}
@@ -82,30 +83,42 @@ module _ {K Val : Type 0} (S : Scalars K Val) (P : ℕ → Val → Type 0)
     seen-as : (x y : ℕ) (s t : Operand Val) → operand (R x) ≡ s → operand (R y) ≡ t → At x y → Together s t
     seen-as x y s t e f h = subst (λ q. Together s q) f (subst (λ q. Together q (operand (R y))) e h)
 
-    forms : (n : ℕ) → ReadForms R n (λ x s. operand (R x) ≡ s) (λ r p c. RecordP r → ConjunctP S P opens c)
-    forms n =
-        record {
-          opaque = λ r h. tt;
-          entered = λ r x c p h. tt;
-          compared = λ o x y c v p q h. op-p (P c) o v (seen-as x y (AColumn c) (ALiteral v) p q h);
-          swapped =
-              λ o x y c v p q h. op-p (P c) (swapComparison o) v (seen-as x y (ALiteral v) (AColumn c) p q h);
-          equal = λ x y a b p q h. seen-as x y (AColumn a) (AColumn b) p q h;
-          paired = λ o x y a b p q h. tt;
-          between =
-              λ i j x y z c v w p q r h. (
-                seen-as x y (AColumn c) (ALiteral v) p q (h .0),
-                (seen-as x z (AColumn c) (ALiteral w) p r (h .1), tt),
-              );
-          listed = λ e x y c l p q h. (tt, tt);
-          unlisted = λ e a x y c l f p q h. (tt, tt);
-          null = λ x c p h. (tt, tt);
-          nonNull = λ x c p h. (tt, tt);
-          notNull = λ a x c f p h. (tt, tt);
-          notNonNull = λ a x c f p h. (tt, tt);
-        }
-
     module _ (all : (n : ℕ) → RecordP (R n)) where
+      -- the sides of a comparison below Not
+      inner : (a : ℕ) (o : Comparison) (x y : ℕ) → R a ≡ BinaryExpr (Compare o) x y → At x y
+      inner a o x y e = subst RecordP e (all a)
+
+      forms : (n : ℕ) → ReadForms R n (λ x s. operand (R x) ≡ s) (λ r p c. RecordP r → ConjunctP S P opens c)
+      forms n =
+          record {
+            opaque = λ r h. tt;
+            entered = λ r x c p h. tt;
+            compared = λ o x y c v p q h. op-p (P c) o v (seen-as x y (AColumn c) (ALiteral v) p q h);
+            swapped =
+                λ o x y c v p q h. op-p (P c) (swapComparison o) v (seen-as x y (ALiteral v) (AColumn c) p q h);
+            equal = λ x y a b p q h. seen-as x y (AColumn a) (AColumn b) p q h;
+            paired = λ o x y a b p q h. tt;
+            notCompared =
+                λ o a x y c v e p q h. op-p (P c) (negateComparison o) v
+                (seen-as x y (AColumn c) (ALiteral v) p q (inner a o x y e));
+            notSwapped =
+                λ o a x y c v e p q h. op-p (P c) (swapComparison (negateComparison o)) v
+                (seen-as x y (ALiteral v) (AColumn c) p q (inner a o x y e));
+            notUnequal = λ a x y b d e p q h. seen-as x y (AColumn b) (AColumn d) p q (inner a NotEq x y e);
+            notPaired = λ o a x y b d e p q h. tt;
+            between =
+                λ i j x y z c v w p q r h. (
+                  seen-as x y (AColumn c) (ALiteral v) p q (h .0),
+                  (seen-as x z (AColumn c) (ALiteral w) p r (h .1), tt),
+                );
+            listed = λ e x y c l p q h. (tt, tt);
+            unlisted = λ e a x y c l f p q h. (tt, tt);
+            null = λ x c p h. (tt, tt);
+            nonNull = λ x c p h. (tt, tt);
+            notNull = λ a x c f p h. (tt, tt);
+            notNonNull = λ a x c f p h. (tt, tt);
+          }
+
       lines-p : (l : List ℕ) → ConjunctsP S P opens (map (classify R) l)
       lines-p [] = tt
       lines-p (n ∷ l) = (

@@ -1,24 +1,27 @@
 -- Every form that a conjunct is read as, once: what holds of each form, given what holds of the operands, holds of
 -- every conjunct.
-use mathlib.Core.Path.{_≡_, refl}
+use mathlib.Core.Path.{_≡_, refl, subst}
 use mathlib.Core.Option.{none, some}
 use mathlib.Core.Bool.{Bool, true, false, not, _&&_}
 use mathlib.Core.List.{List, [], _∷_}
 use Prim.Native.Nat.{ℕ}
+use Rattle.records.specs.Operator.{negate}
 use Rattle.truth.specs.Comparison.{Comparison, Eq, NotEq, Lt, LtEq, Gt, GtEq}
 use Rattle.truth.specs.AExpr.{AExpr, Column, Literal, Null, BinaryExpr, Not, IsNull, IsNotNull, IsBetween}
 use Rattle.truth.specs.AExpr.{ListLiteral, IsIn, Missing, BinaryOp, Compare, EqValidity, NotEqValidity, And, Or, Xor}
 use Rattle.truth.specs.AExpr.{LogicalAnd, LogicalOr}
+use Rattle.truth.proofs.Negations.{negateComparison}
 use Rattle.constraints.specs.declared.column.Nullability.{Nullability}
 use Rattle.constraints.specs.declared.column.Nullability.the-variants.{NonNull}
 use Rattle.constraints.specs.declared.column.Nullability.the-variants as required
 use Rattle.constraints.specs.Column.{Constraint, Lower, Upper, Exclude, Allow, Disallow, Require}
-use Rattle.merge.specs.Classify.{Conjunct, Bounds, Equality, Recorded, NonNullPair, Opaque, asComparison}
+use Rattle.merge.specs.Classify.{Conjunct, Bounds, Normalized, Equality, Recorded, NonNullPair, Opaque}
+use Rattle.merge.specs.Classify.{asComparison, operatorOf, normalized, classifyNegated}
 use Rattle.merge.specs.Classify.{swapComparison, classifyColumnColumn, Operand, AColumn, ALiteral, AList, Other}
 use Rattle.merge.specs.Classify.{operand, comparisonConstraints, classifyComparison, classifyIsBetween}
 use Rattle.merge.specs.Classify.{classifyIsIn, classifyNull, classifyNegation, classifyRecord, classify}
 use Rattle.merge.proofs.PlainForms.{isColumn, isLiteral, isShortList, plainColumns, plainComparison}
-use Rattle.merge.proofs.PlainForms.{plainBinary, plainNegation, plainRecord, plainConjunct}
+use Rattle.merge.proofs.PlainForms.{besideLiteral, plainCompared, plainBinary, plainNegation, plainRecord, plainConjunct}
 
 -- What is to hold of each form that a conjunct is read as: C of the record of node n, of whether it is plain, and of
 -- what is read of it; given F of the nodes of the operands and of what they are seen as.
@@ -37,6 +40,18 @@ pub record ReadForms {Val : Type 0} (R : ℕ → AExpr Val) (n : ℕ) (F : ℕ �
   pub paired :
       (o : Comparison) (x y a b : ℕ) → F x (AColumn a) → F y (AColumn b) →
       C (BinaryExpr (Compare o) x y) false (NonNullPair n a b)
+  pub notCompared :
+      (o : Comparison) (a x y c : ℕ) (v : Val) → R a ≡ BinaryExpr (Compare o) x y → F x (AColumn c) →
+      F y (ALiteral v) → C (Not a) true (Normalized c (comparisonConstraints (negateComparison o) v))
+  pub notSwapped :
+      (o : Comparison) (a x y c : ℕ) (v : Val) → R a ≡ BinaryExpr (Compare o) x y → F x (ALiteral v) →
+      F y (AColumn c) → C (Not a) true (Normalized c (comparisonConstraints (swapComparison (negateComparison o)) v))
+  pub notUnequal :
+      (a x y b d : ℕ) → R a ≡ BinaryExpr (Compare NotEq) x y → F x (AColumn b) → F y (AColumn d) →
+      C (Not a) false (Equality b d n)
+  pub notPaired :
+      (o : Comparison) (a x y b d : ℕ) → R a ≡ BinaryExpr (Compare o) x y → F x (AColumn b) → F y (AColumn d) →
+      C (Not a) false (NonNullPair n b d)
   pub between :
       (i j : Bool) (x y z c : ℕ) (v w : Val) → F x (AColumn c) → F y (ALiteral v) → F z (ALiteral w) →
       C (IsBetween i j x y z) true (Bounds c (Lower i v ∷ (Upper j w ∷ [])))
@@ -106,6 +121,71 @@ module _ {Val : Type 0} (R : ℕ → AExpr Val) (n : ℕ) (F : ℕ → Operand V
   binary LogicalAnd x y s t p q = enters (BinaryExpr LogicalAnd x y) x y s t p q
   binary LogicalOr x y s t p q = enters (BinaryExpr LogicalOr x y) x y s t p q
 
+  -- Not of a comparison
+  not-columns :
+      (o : Comparison) (a x y b d : ℕ) → R a ≡ BinaryExpr (Compare o) x y → F x (AColumn b) → F y (AColumn d) →
+      C (Not a) false (normalized (classifyColumnColumn n b d (some (negateComparison o))))
+  not-columns Eq a x y b d e p q = f .notPaired Eq a x y b d e p q
+  not-columns NotEq a x y b d e p q = f .notUnequal a x y b d e p q
+  not-columns Lt a x y b d e p q = f .notPaired Lt a x y b d e p q
+  not-columns LtEq a x y b d e p q = f .notPaired LtEq a x y b d e p q
+  not-columns Gt a x y b d e p q = f .notPaired Gt a x y b d e p q
+  not-columns GtEq a x y b d e p q = f .notPaired GtEq a x y b d e p q
+
+  not-compares :
+      (o : Comparison) (a x y : ℕ) (s t : Operand Val) → R a ≡ BinaryExpr (Compare o) x y → F x s → F y t →
+      C (Not a) (besideLiteral s t) (normalized (classifyComparison n (some (negateComparison o)) s t))
+  not-compares o a x y (AColumn c) (AColumn d) e p q = not-columns o a x y c d e p q
+  not-compares o a x y (AColumn c) (ALiteral v) e p q = f .notCompared o a x y c v e p q
+  not-compares o a x y (AColumn c) (AList l) e p q = f .opaque (Not a)
+  not-compares o a x y (AColumn c) Other e p q = f .opaque (Not a)
+  not-compares o a x y (ALiteral v) (AColumn c) e p q = f .notSwapped o a x y c v e p q
+  not-compares o a x y (ALiteral v) (ALiteral w) e p q = f .opaque (Not a)
+  not-compares o a x y (ALiteral v) (AList l) e p q = f .opaque (Not a)
+  not-compares o a x y (ALiteral v) Other e p q = f .opaque (Not a)
+  not-compares o a x y (AList l) t e p q = f .opaque (Not a)
+  not-compares o a x y Other t e p q = f .opaque (Not a)
+
+  -- `negate` of an ordinary comparison is the complementary one
+  negates :
+      (o : Comparison) (s t : Operand Val) →
+      normalized (classifyComparison n (some (negateComparison o)) s t) ≡
+      classifyNegated n (negate (operatorOf (Compare o))) s t
+  negates Eq s t = refl
+  negates NotEq s t = refl
+  negates Lt s t = refl
+  negates LtEq s t = refl
+  negates Gt s t = refl
+  negates GtEq s t = refl
+
+  -- the validity comparisons: a column beside a literal enters the table, and that is all
+  not-enters :
+      (r : AExpr Val) (x y : ℕ) (s t : Operand Val) → F x s → F y t →
+      C r false (normalized (classifyComparison n none s t))
+  not-enters r x y (AColumn c) (AColumn d) p q = f .opaque r
+  not-enters r x y (AColumn c) (ALiteral v) p q = f .entered r x c p
+  not-enters r x y (AColumn c) (AList l) p q = f .opaque r
+  not-enters r x y (AColumn c) Other p q = f .opaque r
+  not-enters r x y (ALiteral v) (AColumn c) p q = f .entered r y c q
+  not-enters r x y (ALiteral v) (ALiteral w) p q = f .opaque r
+  not-enters r x y (ALiteral v) (AList l) p q = f .opaque r
+  not-enters r x y (ALiteral v) Other p q = f .opaque r
+  not-enters r x y (AList l) t p q = f .opaque r
+  not-enters r x y Other t p q = f .opaque r
+
+  not-binary :
+      (b : BinaryOp) (a x y : ℕ) (s t : Operand Val) → R a ≡ BinaryExpr b x y → F x s → F y t →
+      C (Not a) (plainCompared b s t) (classifyNegated n (negate (operatorOf b)) s t)
+  not-binary (Compare o) a x y s t e p q =
+      subst (λ c. C (Not a) (besideLiteral s t) c) (negates o s t) (not-compares o a x y s t e p q)
+  not-binary EqValidity a x y s t e p q = not-enters (Not a) x y s t p q
+  not-binary NotEqValidity a x y s t e p q = not-enters (Not a) x y s t p q
+  not-binary And a x y s t e p q = f .opaque (Not a)
+  not-binary Or a x y s t e p q = f .opaque (Not a)
+  not-binary Xor a x y s t e p q = f .opaque (Not a)
+  not-binary LogicalAnd a x y s t e p q = f .opaque (Not a)
+  not-binary LogicalOr a x y s t e p q = f .opaque (Not a)
+
   ends :
       (i j : Bool) (x y z c : ℕ) (t u : Operand Val) → F x (AColumn c) → F y t → F z u →
       C (IsBetween i j x y z) (isLiteral t && isLiteral u) (classifyIsBetween n i j (AColumn c) t u)
@@ -153,7 +233,8 @@ module _ {Val : Type 0} (R : ℕ → AExpr Val) (n : ℕ) (F : ℕ → Operand V
     negations a (Column c) e = f .opaque (Not a)
     negations a (Literal v) e = f .opaque (Not a)
     negations a Null e = f .opaque (Not a)
-    negations a (BinaryExpr b x y) e = f .opaque (Not a)
+    negations a (BinaryExpr b x y) e =
+        not-binary b a x y (operand (R x)) (operand (R y)) e (seen x) (seen y)
     negations a (Not x) e = f .opaque (Not a)
     negations a (IsNull x) e = nulls (Not a) NonNull x (operand (R x)) (λ c p. f .notNull a x c e p) (seen x)
     negations a (IsNotNull x) e =
@@ -200,6 +281,8 @@ pub record Forms {Val : Type 0} (F : Operand Val → Type 0) (C : Conjunct Val �
   pub entered : (n c : ℕ) → F (AColumn c) → C (Recorded false n c [])
   pub compared : (c : ℕ) (o : Comparison) (v : Val) → F (AColumn c) → F (ALiteral v) →
       C (Bounds c (comparisonConstraints o v))
+  pub normalized : (c : ℕ) (o : Comparison) (v : Val) → F (AColumn c) → F (ALiteral v) →
+      C (Normalized c (comparisonConstraints o v))
   pub between :
       (c : ℕ) (i j : Bool) (v w : Val) → F (AColumn c) → F (ALiteral v) → F (ALiteral w) →
       C (Bounds c (Lower i v ∷ (Upper j w ∷ [])))
@@ -218,6 +301,10 @@ module _ {Val : Type 0} (F : Operand Val → Type 0) (C : Conjunct Val → Type 
         swapped = λ o x y c v p q. f .compared c (swapComparison o) v q p;
         equal = λ x y a b p q. f .equal a b n p q;
         paired = λ o x y a b p q. f .paired n a b p q;
+        notCompared = λ o a x y c v e p q. f .normalized c (negateComparison o) v p q;
+        notSwapped = λ o a x y c v e p q. f .normalized c (swapComparison (negateComparison o)) v q p;
+        notUnequal = λ a x y b d e p q. f .equal b d n p q;
+        notPaired = λ o a x y b d e p q. f .paired n b d p q;
         between = λ i j x y z c v w p q r. f .between c i j v w p q r;
         listed = λ e x y c l p q. f .recorded false n c (Allow l) tt p;
         unlisted = λ e a x y c l h p q. f .recorded false n c (Disallow (not e) l) tt p;

@@ -6,7 +6,7 @@ use mathlib.Core.Bool.{Bool, true, false, _||_, cond}
 use mathlib.Core.List.{List, [], _∷_, _++_, map}
 use mathlib.Core.Option.{Option, none, some}
 use Prim.Native.Nat.{ℕ, zero, suc}
-use lib.Dec.{eqb, ltb}
+use lib.Dec.{eqb}
 use lib.ListN.{length}
 use Rattle.truth.specs.declared.scalar.Ordering.{Ordering}
 use Rattle.truth.specs.declared.scalar.Ordering.the-variants.{Equal, Greater, Less}
@@ -25,13 +25,13 @@ use Rattle.constraints.specs.declared.column.ExcludedResolution.the-variants.{D
 use Rattle.constraints.specs.declared.column.Nullability.the-variants.{NonNull}
 use Rattle.merge.proofs.Passes.{edge-ind}
 use Rattle.merge.proofs.Sound.{upd-ind}
-use Rattle.merge.specs.Classify.{Bounds, Conjunct, Equality, NonNullPair, Opaque, Recorded}
+use Rattle.merge.specs.Classify.{Bounds, Conjunct, Equality, NonNullPair, Normalized, Opaque, Recorded}
 use Rattle.merge.specs.Collect.{Collected, Table, addTo, begin, collect, collectOne}
 use Rattle.merge.specs.Collect.{requireNonNull}
 use Rattle.merge.specs.Emit.{NothingPasses, Outcome, Rebuilt, Unchanged, anyUnsat, comparisons, conclude}
-use Rattle.merge.specs.Emit.{droppedEquality, keptEqualities, mergeFilterConstraints, ofColumn}
+use Rattle.merge.specs.Emit.{keptEqualities, mergeFilterConstraints, ofColumn, rewrites}
 use Rattle.merge.specs.Emit.{propagated, resolved}
-use Rattle.merge.specs.Propagate.{mergeEdge, mergedRight, pass, passAny, propagate, propagateEmitted}
+use Rattle.merge.specs.Propagate.{mergeEdge, mergedRight, pass, passAny, propagate}
 use Rattle.merge.specs.Rebuild.{valueOf}
 
 module _ {Val : Type 0} (P : Val → Type 0) where
@@ -271,6 +271,7 @@ module _ {K Val : Type 0} (S : Scalars K Val) (P : ℕ → Val → Type 0)
   -- ---- reading
   abbrev pub ConjunctP : Conjunct Val → Type 0
   ConjunctP (Bounds c l) = ConstraintsP (P c) l
+  ConjunctP (Normalized c l) = ConstraintsP (P c) l
   ConjunctP (Equality a b m) = Alike a b
   ConjunctP (Recorded z m c l) = ConstraintsP (P c) l
   ConjunctP (NonNullPair m a b) = Unit {0}
@@ -294,6 +295,7 @@ module _ {K Val : Type 0} (S : Scalars K Val) (P : ℕ → Val → Type 0)
 
   read-p : (x : Conjunct Val) (s : Collected Val) → ConjunctP x → StP s → StP (collectOne S x s)
   read-p (Bounds c l) s p h = (told-p c l (s .constraints) p (h .0), h .1)
+  read-p (Normalized c l) s p h = (told-p c l (s .constraints) p (h .0), h .1)
   read-p (Equality a b m) s p h = (pair-p a b (s .constraints) (h .0), alike-snoc (s .edges) (a, b, m) (h .1) p)
   read-p (Recorded z m c l) s p h = (told-p c l (s .constraints) p (h .0), h .1)
   read-p (NonNullPair m a b) s p h = (pair-p a b (s .constraints) (h .0), h .1)
@@ -313,10 +315,7 @@ module _ {K Val : Type 0} (S : Scalars K Val) (P : ℕ → Val → Type 0)
   OutcomeP (Rebuilt ns cs) = WrittenP cs
 
   finish-p : (s : Collected Val) → StP s → OutcomeP (conclude S s)
-  finish-p s h = go (s .unsat || anyUnsat (s .order) (resolved S s))
-      (ltb (length (comparisons S (s .order) (resolved S s))) (s .boundConjuncts) ||
-      (propagateEmitted S (length (s .order)) (s .edges) (s .constraints) || droppedEquality S (propagated S s)
-      (s .edges)))
+  finish-p s h = go (s .unsat || anyUnsat (s .order) (resolved S s)) (rewrites S s)
     where
       go : (b d : Bool) → OutcomeP (cond b NothingPasses (cond d
           (Rebuilt (s .opaque ++ keptEqualities S (propagated S s) (s .edges))

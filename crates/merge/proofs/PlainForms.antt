@@ -52,6 +52,28 @@ plainComparison c (ALiteral v) Other = false
 plainComparison c (AList values) right = false
 plainComparison c Other right = false
 
+abbrev pub besideLiteral : {Val : Type 0} → Operand Val → Operand Val → Bool
+besideLiteral (AColumn a) (AColumn b) = false
+besideLiteral (AColumn a) (ALiteral v) = true
+besideLiteral (AColumn a) (AList values) = false
+besideLiteral (AColumn a) Other = false
+besideLiteral (ALiteral v) (AColumn a) = true
+besideLiteral (ALiteral v) (ALiteral w) = false
+besideLiteral (ALiteral v) (AList values) = false
+besideLiteral (ALiteral v) Other = false
+besideLiteral (AList values) right = false
+besideLiteral Other right = false
+
+abbrev pub plainCompared : {Val : Type 0} → BinaryOp → Operand Val → Operand Val → Bool
+plainCompared (Compare c) left right = besideLiteral left right
+plainCompared EqValidity left right = false
+plainCompared NotEqValidity left right = false
+plainCompared And left right = false
+plainCompared Or left right = false
+plainCompared Xor left right = false
+plainCompared LogicalAnd left right = false
+plainCompared LogicalOr left right = false
+
 abbrev pub plainBinary : {Val : Type 0} → BinaryOp → Operand Val → Operand Val → Bool
 plainBinary (Compare c) left right = plainComparison c left right
 plainBinary EqValidity left right = false
@@ -67,7 +89,7 @@ module _ {Val : Type 0} (R : ℕ → AExpr Val) where
   plainNegation (Column c) = false
   plainNegation (Literal v) = false
   plainNegation Null = false
-  plainNegation (BinaryExpr op left right) = false
+  plainNegation (BinaryExpr op left right) = plainCompared op (operand (R left)) (operand (R right))
   plainNegation (Not a) = false
   plainNegation (IsNull a) = isColumn (operand (R a))
   plainNegation (IsNotNull a) = isColumn (operand (R a))
@@ -162,7 +184,7 @@ eq-same GtEq = refl
 
 sides-same :
     {Val : Type 0} (c : Comparison) (s t : Operand Val) →
-    ((isColumn s && isLiteral t) || ((isLiteral s && isColumn t) || (plain.isEq c && (isColumn s && isColumn t))))
+    (((isColumn s && isLiteral t) || (isLiteral s && isColumn t)) || (plain.isEq c && (isColumn s && isColumn t)))
     ≡ plainComparison c s t
 sides-same c (AColumn a) (AColumn b) = and-true (plain.isEq c) ∙ eq-same c
 sides-same c (AColumn a) (ALiteral v) = refl
@@ -174,6 +196,33 @@ sides-same c (ALiteral v) (AList l) = and-false (plain.isEq c)
 sides-same c (ALiteral v) Other = and-false (plain.isEq c)
 sides-same c (AList l) t = and-false (plain.isEq c)
 sides-same c Other t = and-false (plain.isEq c)
+
+beside-same :
+    {Val : Type 0} (s t : Operand Val) → ((isColumn s && isLiteral t) || (isLiteral s && isColumn t)) ≡
+    besideLiteral s t
+beside-same (AColumn a) (AColumn b) = refl
+beside-same (AColumn a) (ALiteral v) = refl
+beside-same (AColumn a) (AList l) = refl
+beside-same (AColumn a) Other = refl
+beside-same (ALiteral v) (AColumn a) = refl
+beside-same (ALiteral v) (ALiteral w) = refl
+beside-same (ALiteral v) (AList l) = refl
+beside-same (ALiteral v) Other = refl
+beside-same (AList l) t = refl
+beside-same Other t = refl
+
+compared-same :
+    {Val : Type 0} (op : BinaryOp) (x y : AExpr Val) → plain.plainCompared op x y ≡
+    plainCompared op (operand x) (operand y)
+compared-same (Compare c) x y =
+    rw (column-same x, column-same y, literal-same x, literal-same y) (beside-same (operand x) (operand y))
+compared-same EqValidity x y = refl
+compared-same NotEqValidity x y = refl
+compared-same And x y = refl
+compared-same Or x y = refl
+compared-same Xor x y = refl
+compared-same LogicalAnd x y = refl
+compared-same LogicalOr x y = refl
 
 binary-same :
     {Val : Type 0} (op : BinaryOp) (x y : AExpr Val) → plain.plainBinary op x y ≡
@@ -198,7 +247,7 @@ module _ {Val : Type 0} (R : ℕ → AExpr Val) where
   negation-same (Column c) = refl
   negation-same (Literal v) = refl
   negation-same Null = refl
-  negation-same (BinaryExpr op left right) = refl
+  negation-same (BinaryExpr op left right) = compared-same op (R left) (R right)
   negation-same (Not a) = refl
   negation-same (IsNull a) = column-same (R a)
   negation-same (IsNotNull a) = column-same (R a)

@@ -15,7 +15,7 @@ use Rattle.constraints.specs.Comparisons.{ColumnComparison, collectColumnCompar
 use Rattle.constraints.specs.Resolve.{fixedValue}
 use Rattle.constraints.specs.Scalars.{Scalars}
 use Rattle.constraints.specs.declared.column.Nullability.the-variants.{NonNull}
-use Rattle.merge.specs.Classify.{Bounds, Conjunct, Equality, NonNullPair, Opaque, Recorded}
+use Rattle.merge.specs.Classify.{Bounds, Normalized, Conjunct, Equality, NonNullPair, Opaque, Recorded}
 use Rattle.merge.specs.Collect.{Collected, Table, addTo, begin, collect, collectOne, enter, isIn}
 use Rattle.merge.specs.Collect.{requireNonNull}
 use Rattle.merge.specs.Emit.{comparisons, isFixed, ofColumn, propagated}
@@ -29,6 +29,7 @@ use Rattle.merge.proofs.Reread.{Bare, conjunctOf, told, toldAll}
 abbrev pub keptOthers : {Val : Type 0} → List (Conjunct Val) → List (Conjunct Val)
 keptOthers [] = []
 keptOthers (Bounds c l ∷ xs) = keptOthers xs
+keptOthers (Normalized c l ∷ xs) = keptOthers xs
 keptOthers (Equality a b n ∷ xs) = keptOthers xs
 keptOthers (Recorded z n c l ∷ xs) = Recorded z n c l ∷ keptOthers xs
 keptOthers (NonNullPair n a b ∷ xs) = NonNullPair n a b ∷ keptOthers xs
@@ -39,6 +40,7 @@ module _ {K Val : Type 0} (S : Scalars K Val) where
   abbrev pub keptEquals : Table Val → List (Conjunct Val) → List (Conjunct Val)
   keptEquals t [] = []
   keptEquals t (Bounds c l ∷ xs) = keptEquals t xs
+  keptEquals t (Normalized c l ∷ xs) = keptEquals t xs
   keptEquals t (Equality a b n ∷ xs) =
       cond (isFixed (fixedValue S (t a))) (keptEquals t xs) (Equality a b n ∷ keptEquals t xs)
   keptEquals t (Recorded z n c l ∷ xs) = keptEquals t xs
@@ -59,6 +61,7 @@ module _ {K Val : Type 0} (S : Scalars K Val) where
 
   abbrev pub AsRead : Conjunct Val → Type 0
   AsRead (Bounds c l) = (x : Option K) → obeysRecordedAll S l x ≡ true
+  AsRead (Normalized c l) = (x : Option K) → obeysRecordedAll S l x ≡ true
   AsRead (Equality a b n) = Unit {0}
   AsRead (Recorded z n c l) = AllMinded l
   AsRead (NonNullPair n a b) = Unit {0}
@@ -66,6 +69,7 @@ module _ {K Val : Type 0} (S : Scalars K Val) where
 
   abbrev pub IsKept : Conjunct Val → Type 0
   IsKept (Bounds c l) = ⊥
+  IsKept (Normalized c l) = ⊥
   IsKept (Equality a b n) = Unit {0}
   IsKept (Recorded z n c l) = AllMinded l
   IsKept (NonNullPair n a b) = Unit {0}
@@ -82,6 +86,7 @@ module _ {K Val : Type 0} (S : Scalars K Val) where
   pub each-others : (P : Conjunct Val → Type 0) (l : List (Conjunct Val)) → Each P l → Each P (keptOthers l)
   each-others P [] h = tt
   each-others P (Bounds c l ∷ xs) h = each-others P xs (h .1)
+  each-others P (Normalized c l ∷ xs) h = each-others P xs (h .1)
   each-others P (Equality a b n ∷ xs) h = each-others P xs (h .1)
   each-others P (Recorded z n c l ∷ xs) h = (h .0, each-others P xs (h .1))
   each-others P (NonNullPair n a b ∷ xs) h = (h .0, each-others P xs (h .1))
@@ -91,6 +96,7 @@ module _ {K Val : Type 0} (S : Scalars K Val) where
       Each P (keptEquals t l)
   each-equals P t [] h = tt
   each-equals P t (Bounds c l ∷ xs) h = each-equals P t xs (h .1)
+  each-equals P t (Normalized c l ∷ xs) h = each-equals P t xs (h .1)
   each-equals P t (Equality a b n ∷ xs) h = go (isFixed (fixedValue S (t a))) (each-equals P t xs (h .1))
     where
       go : (o : Bool) → Each P (keptEquals t xs) →
@@ -108,6 +114,7 @@ module _ {K Val : Type 0} (S : Scalars K Val) where
   pub others-kept : (l : List (Conjunct Val)) → Each AsRead l → Each IsKept (keptOthers l)
   others-kept [] h = tt
   others-kept (Bounds c l ∷ xs) h = others-kept xs (h .1)
+  others-kept (Normalized c l ∷ xs) h = others-kept xs (h .1)
   others-kept (Equality a b n ∷ xs) h = others-kept xs (h .1)
   others-kept (Recorded z n c l ∷ xs) h = (h .0, others-kept xs (h .1))
   others-kept (NonNullPair n a b ∷ xs) h = (tt, others-kept xs (h .1))
@@ -116,6 +123,7 @@ module _ {K Val : Type 0} (S : Scalars K Val) where
   pub equals-kept : (t : Table Val) (l : List (Conjunct Val)) → Each IsKept (keptEquals t l)
   equals-kept t [] = tt
   equals-kept t (Bounds c l ∷ xs) = equals-kept t xs
+  equals-kept t (Normalized c l ∷ xs) = equals-kept t xs
   equals-kept t (Equality a b n ∷ xs) = go (isFixed (fixedValue S (t a))) (equals-kept t xs)
     where
       go : (o : Bool) → Each IsKept (keptEquals t xs) →
@@ -179,6 +187,7 @@ module _ {K Val : Type 0} (S : Scalars K Val) where
   collectOne-bare : (x : Conjunct Val) (s : Collected Val) → IsKept x → AllBare (s .constraints) →
       AllBare (collectOne S x s .constraints)
   collectOne-bare (Bounds c l) s k h = absurd k
+  collectOne-bare (Normalized c l) s k h = absurd k
   collectOne-bare (Equality a b n) s k h = required-bare a b (s .constraints) h
   collectOne-bare (Recorded z n c l) s k h = addTo-bare c l (s .constraints) k h
   collectOne-bare (NonNullPair n a b) s k h = required-bare a b (s .constraints) h
@@ -192,6 +201,7 @@ module _ {K Val : Type 0} (S : Scalars K Val) where
   collectOne-count : (x : Conjunct Val) (s : Collected Val) → IsKept x →
       collectOne S x s .boundConjuncts ≡ s .boundConjuncts
   collectOne-count (Bounds c l) s k = absurd k
+  collectOne-count (Normalized c l) s k = absurd k
   collectOne-count (Equality a b n) s k = refl
   collectOne-count (Recorded z n c l) s k = refl
   collectOne-count (NonNullPair n a b) s k = refl
@@ -202,10 +212,26 @@ module _ {K Val : Type 0} (S : Scalars K Val) where
   kept-count [] s k = refl
   kept-count (x ∷ l) s k = kept-count l (collectOne S x s) (k .1) ∙ collectOne-count x s (k .0)
 
+  -- Nor do they force a rebuild.
+  collectOne-unforced : (x : Conjunct Val) (s : Collected Val) → IsKept x →
+      collectOne S x s .normalized ≡ s .normalized
+  collectOne-unforced (Bounds c l) s k = absurd k
+  collectOne-unforced (Normalized c l) s k = absurd k
+  collectOne-unforced (Equality a b n) s k = refl
+  collectOne-unforced (Recorded z n c l) s k = refl
+  collectOne-unforced (NonNullPair n a b) s k = refl
+  collectOne-unforced (Opaque n) s k = refl
+
+  pub kept-unforced : (l : List (Conjunct Val)) (s : Collected Val) → Each IsKept l →
+      collectAll l s .normalized ≡ s .normalized
+  kept-unforced [] s k = refl
+  kept-unforced (x ∷ l) s k = kept-unforced l (collectOne S x s) (k .1) ∙ collectOne-unforced x s (k .0)
+
   -- ---- The equalities read.
   abbrev pub edgesOf : List (Conjunct Val) → List (ℕ × ℕ × ℕ)
   edgesOf [] = []
   edgesOf (Bounds c l ∷ xs) = edgesOf xs
+  edgesOf (Normalized c l ∷ xs) = edgesOf xs
   edgesOf (Equality a b n ∷ xs) = (a, b, n) ∷ edgesOf xs
   edgesOf (Recorded z n c l ∷ xs) = edgesOf xs
   edgesOf (NonNullPair n a b ∷ xs) = edgesOf xs
@@ -214,6 +240,7 @@ module _ {K Val : Type 0} (S : Scalars K Val) where
   pub edges-read : (l : List (Conjunct Val)) (s : Collected Val) → collectAll l s .edges ≡ s .edges ++ edgesOf l
   edges-read [] s = sym (append-nil (s .edges))
   edges-read (Bounds c l ∷ xs) s = edges-read xs (collectOne S (Bounds c l) s)
+  edges-read (Normalized c l ∷ xs) s = edges-read xs (collectOne S (Normalized c l) s)
   edges-read (Equality a b n ∷ xs) s = edges-read xs (collectOne S (Equality a b n) s)
       ∙ append-assoc (s .edges) ((a, b, n) ∷ []) (edgesOf xs)
   edges-read (Recorded z n c l ∷ xs) s = edges-read xs (collectOne S (Recorded z n c l) s)
@@ -223,6 +250,7 @@ module _ {K Val : Type 0} (S : Scalars K Val) where
   pub edges-append : (l m : List (Conjunct Val)) → edgesOf (l ++ m) ≡ edgesOf l ++ edgesOf m
   edges-append [] m = refl
   edges-append (Bounds c l ∷ xs) m = edges-append xs m
+  edges-append (Normalized c l ∷ xs) m = edges-append xs m
   edges-append (Equality a b n ∷ xs) m = ap (λ e. (a, b, n) ∷ e) (edges-append xs m)
   edges-append (Recorded z n c l ∷ xs) m = edges-append xs m
   edges-append (NonNullPair n a b ∷ xs) m = edges-append xs m
@@ -231,6 +259,7 @@ module _ {K Val : Type 0} (S : Scalars K Val) where
   others-edges : (l : List (Conjunct Val)) → edgesOf (keptOthers l) ≡ []
   others-edges [] = refl
   others-edges (Bounds c l ∷ xs) = others-edges xs
+  others-edges (Normalized c l ∷ xs) = others-edges xs
   others-edges (Equality a b n ∷ xs) = others-edges xs
   others-edges (Recorded z n c l ∷ xs) = others-edges xs
   others-edges (NonNullPair n a b ∷ xs) = others-edges xs
@@ -255,6 +284,11 @@ module _ {K Val : Type 0} (S : Scalars K Val) where
       collectAll (map conjunctOf cs) s .boundConjuncts ≡ length cs + s .boundConjuncts
   read-count [] s = omega arith
   read-count (x ∷ cs) s = read-count cs (collectOne S (conjunctOf x) s) ∙ omega arith
+
+  pub read-unforced : (cs : List (ℕ × ColumnComparison Val)) (s : Collected Val) →
+      collectAll (map conjunctOf cs) s .normalized ≡ s .normalized
+  read-unforced [] s = refl
+  read-unforced (x ∷ cs) s = read-unforced cs (collectOne S (conjunctOf x) s)
 
   pub order-grows : (l : List (Conjunct Val)) (s : Collected Val) (c : ℕ) → In S c (s .order) →
       In S c (collectAll l s .order)

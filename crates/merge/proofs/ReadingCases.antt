@@ -11,7 +11,8 @@ use Rattle.truth.specs.FromBytes.{valuesFrom, aexprOf, aexprAt}
 use Rattle.constraints.specs.declared.column.Nullability.the-variants.{NonNull}
 use Rattle.constraints.specs.declared.column.Nullability.the-variants as required
 use Rattle.constraints.specs.Column.{Constraint, Lower, Upper, Exclude, Allow, Disallow, Require}
-use Rattle.merge.specs.Classify.{Conjunct, Bounds, Equality, Recorded, NonNullPair, Opaque, readConjuncts}
+use Rattle.merge.specs.Classify.{Conjunct, Bounds, Normalized, Equality, Recorded, NonNullPair, Opaque}
+use Rattle.merge.specs.Classify.{readConjuncts}
 use Rattle.merge.specs.Plain.{plainScreen}
 use Rattle.merge.specs.Write.{fieldBytes}
 use Rattle.merge.specs.Cases.{column, binary, negation, isNull, membership, between}
@@ -205,6 +206,102 @@ table =
     ∷ reading false (column 0 ++ isNull 0 ++ negation 1 ++ negation 2) [] 4 3 (Opaque 3 ∷ [])
     -- Not is_between(c0, 3, 5)
     ∷ reading false (column 0 ++ literal 3 ++ literal 5 ++ between 0 0 1 2 ++ negation 3) [] 5 4 (Opaque 4 ∷ [])
+    -- Not (c0 Eq 3)
+    ∷ reading true (column 0 ++ literal 3 ++ binary 0 0 1 ++ negation 2) [] 4 3
+    (Normalized 0 (Exclude 3 ∷ []) ∷ [])
+    -- Not (c0 EqValidity 3)
+    ∷ reading false (column 0 ++ literal 3 ++ binary 1 0 1 ++ negation 2) [] 4 3
+    (Recorded false 3 0 [] ∷ [])
+    -- Not (c0 NotEq 3)
+    ∷ reading true (column 0 ++ literal 3 ++ binary 2 0 1 ++ negation 2) [] 4 3
+    (Normalized 0 (Lower true 3 ∷ Upper true 3 ∷ []) ∷ [])
+    -- Not (c0 NotEqValidity 3)
+    ∷ reading false (column 0 ++ literal 3 ++ binary 3 0 1 ++ negation 2) [] 4 3
+    (Recorded false 3 0 [] ∷ [])
+    -- Not (c0 Lt 3)
+    ∷ reading true (column 0 ++ literal 3 ++ binary 4 0 1 ++ negation 2) [] 4 3
+    (Normalized 0 (Lower true 3 ∷ []) ∷ [])
+    -- Not (c0 LtEq 3)
+    ∷ reading true (column 0 ++ literal 3 ++ binary 5 0 1 ++ negation 2) [] 4 3
+    (Normalized 0 (Lower false 3 ∷ []) ∷ [])
+    -- Not (c0 Gt 3)
+    ∷ reading true (column 0 ++ literal 3 ++ binary 6 0 1 ++ negation 2) [] 4 3
+    (Normalized 0 (Upper true 3 ∷ []) ∷ [])
+    -- Not (c0 GtEq 3)
+    ∷ reading true (column 0 ++ literal 3 ++ binary 7 0 1 ++ negation 2) [] 4 3
+    (Normalized 0 (Upper false 3 ∷ []) ∷ [])
+    -- Not (c0 Plus 3)
+    ∷ reading false (column 0 ++ literal 3 ++ binary 8 0 1 ++ negation 2) [] 4 3
+    (Opaque 3 ∷ [])
+    -- Not (c0 And 3)
+    ∷ reading false (column 0 ++ literal 3 ++ binary 15 0 1 ++ negation 2) [] 4 3
+    (Opaque 3 ∷ [])
+    -- Not (c0 Or 3)
+    ∷ reading false (column 0 ++ literal 3 ++ binary 16 0 1 ++ negation 2) [] 4 3
+    (Opaque 3 ∷ [])
+    -- Not (c0 Xor 3)
+    ∷ reading false (column 0 ++ literal 3 ++ binary 17 0 1 ++ negation 2) [] 4 3
+    (Opaque 3 ∷ [])
+    -- Not (c0 LogicalAnd 3)
+    ∷ reading false (column 0 ++ literal 3 ++ binary 18 0 1 ++ negation 2) [] 4 3
+    (Opaque 3 ∷ [])
+    -- Not (c0 LogicalOr 3)
+    ∷ reading false (column 0 ++ literal 3 ++ binary 19 0 1 ++ negation 2) [] 4 3
+    (Opaque 3 ∷ [])
+    -- Not (3 Eq c0)
+    ∷ reading true (column 0 ++ literal 3 ++ binary 0 1 0 ++ negation 2) [] 4 3
+    (Normalized 0 (Exclude 3 ∷ []) ∷ [])
+    -- Not (3 EqValidity c0)
+    ∷ reading false (column 0 ++ literal 3 ++ binary 1 1 0 ++ negation 2) [] 4 3
+    (Recorded false 3 0 [] ∷ [])
+    -- Not (3 NotEq c0)
+    ∷ reading true (column 0 ++ literal 3 ++ binary 2 1 0 ++ negation 2) [] 4 3
+    (Normalized 0 (Lower true 3 ∷ Upper true 3 ∷ []) ∷ [])
+    -- Not (3 NotEqValidity c0)
+    ∷ reading false (column 0 ++ literal 3 ++ binary 3 1 0 ++ negation 2) [] 4 3
+    (Recorded false 3 0 [] ∷ [])
+    -- Not (3 Lt c0)
+    ∷ reading true (column 0 ++ literal 3 ++ binary 4 1 0 ++ negation 2) [] 4 3
+    (Normalized 0 (Upper true 3 ∷ []) ∷ [])
+    -- Not (3 LtEq c0)
+    ∷ reading true (column 0 ++ literal 3 ++ binary 5 1 0 ++ negation 2) [] 4 3
+    (Normalized 0 (Upper false 3 ∷ []) ∷ [])
+    -- Not (3 Gt c0)
+    ∷ reading true (column 0 ++ literal 3 ++ binary 6 1 0 ++ negation 2) [] 4 3
+    (Normalized 0 (Lower true 3 ∷ []) ∷ [])
+    -- Not (3 GtEq c0)
+    ∷ reading true (column 0 ++ literal 3 ++ binary 7 1 0 ++ negation 2) [] 4 3
+    (Normalized 0 (Lower false 3 ∷ []) ∷ [])
+    -- Not (c0 Eq c1)
+    ∷ reading false (column 0 ++ column 1 ++ binary 0 0 1 ++ negation 2) [] 4 3 (NonNullPair 3 0 1 ∷ [])
+    -- Not (c0 EqValidity c1)
+    ∷ reading false (column 0 ++ column 1 ++ binary 1 0 1 ++ negation 2) [] 4 3 (Opaque 3 ∷ [])
+    -- Not (c0 NotEq c1)
+    ∷ reading false (column 0 ++ column 1 ++ binary 2 0 1 ++ negation 2) [] 4 3 (Equality 0 1 3 ∷ [])
+    -- Not (c0 NotEqValidity c1)
+    ∷ reading false (column 0 ++ column 1 ++ binary 3 0 1 ++ negation 2) [] 4 3 (Opaque 3 ∷ [])
+    -- Not (c0 Lt c1)
+    ∷ reading false (column 0 ++ column 1 ++ binary 4 0 1 ++ negation 2) [] 4 3 (NonNullPair 3 0 1 ∷ [])
+    -- Not (c0 LtEq c1)
+    ∷ reading false (column 0 ++ column 1 ++ binary 5 0 1 ++ negation 2) [] 4 3 (NonNullPair 3 0 1 ∷ [])
+    -- Not (c0 Gt c1)
+    ∷ reading false (column 0 ++ column 1 ++ binary 6 0 1 ++ negation 2) [] 4 3 (NonNullPair 3 0 1 ∷ [])
+    -- Not (c0 GtEq c1)
+    ∷ reading false (column 0 ++ column 1 ++ binary 7 0 1 ++ negation 2) [] 4 3 (NonNullPair 3 0 1 ∷ [])
+    -- Not (c0 And c1)
+    ∷ reading false (column 0 ++ column 1 ++ binary 15 0 1 ++ negation 2) [] 4 3 (Opaque 3 ∷ [])
+    -- Not (c0 Or c1)
+    ∷ reading false (column 0 ++ column 1 ++ binary 16 0 1 ++ negation 2) [] 4 3 (Opaque 3 ∷ [])
+    -- Not (c0 Xor c1)
+    ∷ reading false (column 0 ++ column 1 ++ binary 17 0 1 ++ negation 2) [] 4 3 (Opaque 3 ∷ [])
+    -- Not (c0 LogicalAnd c1)
+    ∷ reading false (column 0 ++ column 1 ++ binary 18 0 1 ++ negation 2) [] 4 3 (Opaque 3 ∷ [])
+    -- Not (c0 LogicalOr c1)
+    ∷ reading false (column 0 ++ column 1 ++ binary 19 0 1 ++ negation 2) [] 4 3 (Opaque 3 ∷ [])
+    -- Not (c0 Lt null), Not (3 Eq 3), Not Not (c0 Lt 3)
+    ∷ reading false (column 0 ++ null ++ binary 4 0 1 ++ negation 2) [] 4 3 (Opaque 3 ∷ [])
+    ∷ reading false (literal 3 ++ binary 0 0 0 ++ negation 1) [] 3 2 (Opaque 2 ∷ [])
+    ∷ reading false (column 0 ++ literal 3 ++ binary 4 0 1 ++ negation 2 ++ negation 3) [] 5 4 (Opaque 4 ∷ [])
     -- (c0 And c1) LogicalAnd (c1 And c0): left to right
     ∷ reading false (column 0 ++ column 1 ++ binary 15 0 1 ++ binary 15 1 0 ++ binary 18 2 3) [] 5 4
     (Opaque 0 ∷ Opaque 1 ∷ Opaque 1 ∷ Opaque 0 ∷ [])

@@ -8,8 +8,9 @@ use Prim.Native.Nat.{ℕ}
 use lib.Dec.{leb}
 use lib.ListN.{length}
 use Rattle.truth.proofs.Cells.{and-is-true, cell-law}
+use Rattle.truth.proofs.Negations.{negateComparison, compare-negate}
 use Rattle.truth.proofs.Orders.{cmp-eq, cmp-gt, cmp-lt}
-use Rattle.truth.specs.AExpr.{AExpr, BinaryExpr, Column, Inputs, IsBetween, IsIn, IsNotNull, IsNull, ListLiteral}
+use Rattle.truth.specs.AExpr.{AExpr, BinaryExpr, Column, Compare, Inputs, IsBetween, IsIn, IsNotNull, IsNull, ListLiteral}
 use Rattle.truth.specs.AExpr.{Literal, Missing, Not, Null}
 use Rattle.truth.specs.Cell.{Cell, TruthKeys, cellAt, compare3, highComparison, isNull, lowComparison, step}
 use Rattle.truth.specs.Comparison.{Comparison, Eq, Gt, GtEq, Lt, LtEq, NotEq, comparisonHolds}
@@ -30,8 +31,8 @@ use Rattle.merge.proofs.Comparisons.{comparison-null, comparison-obeyed
 use Rattle.merge.proofs.Complete.{Exact}
 use Rattle.merge.proofs.Sound.{Fair, Holds}
 use Rattle.merge.proofs.Witness.{HalfPoints}
-use Rattle.merge.specs.Classify.{AColumn, AList, ALiteral, Bounds, Conjunct, Equality, NonNullPair, Opaque}
-use Rattle.merge.specs.Classify.{Operand, Other, Recorded, classify, comparisonConstraints, operand}
+use Rattle.merge.specs.Classify.{AColumn, AList, ALiteral, Bounds, Conjunct, Equality, NonNullPair, Normalized}
+use Rattle.merge.specs.Classify.{Opaque, Operand, Other, Recorded, classify, comparisonConstraints, operand}
 use Rattle.merge.specs.Classify.{swapComparison}
 use Rattle.merge.proofs.Forms.{ReadForms, read-ind}
 use Rattle.merge.proofs.PlainForms.{plainConjunct}
@@ -70,40 +71,6 @@ comparison-flip GtEq Less = refl
 comparison-flip GtEq Equal = refl
 comparison-flip GtEq Greater = refl
 
--- for 2.1
-abbrev pub negateComparison : Comparison → Comparison
-negateComparison Eq = NotEq
-negateComparison NotEq = Eq
-negateComparison Lt = GtEq
-negateComparison LtEq = Gt
-negateComparison Gt = LtEq
-negateComparison GtEq = Lt
-
-comparison-negate : (o : Comparison) (r : Ordering) → not (comparisonHolds o r) ≡ comparisonHolds (negateComparison o)
-    r
-comparison-negate Eq Less = refl
-comparison-negate Eq Equal = refl
-comparison-negate Eq Greater = refl
-comparison-negate NotEq Less = refl
-comparison-negate NotEq Equal = refl
-comparison-negate NotEq Greater = refl
-comparison-negate Lt Less = refl
-comparison-negate Lt Equal = refl
-comparison-negate Lt Greater = refl
-comparison-negate LtEq Less = refl
-comparison-negate LtEq Equal = refl
-comparison-negate LtEq Greater = refl
-comparison-negate Gt Less = refl
-comparison-negate Gt Equal = refl
-comparison-negate Gt Greater = refl
-comparison-negate GtEq Less = refl
-comparison-negate GtEq Equal = refl
-comparison-negate GtEq Greater = refl
-
-not-of : (b : Bool) → not3 (ofBool b) ≡ ofBool (not b)
-not-of true = refl
-not-of false = refl
-
 iff-of : (a b : Bool) → a ≡ b → (a ≡ true) ↔ (b ≡ true)
 iff-of a b e = (λ h. sym e ∙ h, λ h. e ∙ h)
 
@@ -124,14 +91,6 @@ module _ {K Val : Type 0} (S : Scalars K Val) (tk : TruthKeys (S .order)) where
   compare-swap o (some a) none = refl
   compare-swap o (some a) (some b) =
       ap ofBool (comparison-flip o (S .order .cmp a b) ∙ ap (comparisonHolds (swapComparison o)) (sym (cmp-flip a b)))
-
-  -- for 2.1: Not of a comparison is the complementary comparison, null or not
-  pub compare-negate : (o : Comparison) (x y : Option K) → not3 (compare3 (S .key) (S .order) tk o x y) ≡
-      compare3 (S .key) (S .order) tk (negateComparison o) x y
-  compare-negate o none y = refl
-  compare-negate o (some a) none = refl
-  compare-negate o (some a) (some b) = not-of (comparisonHolds o (S .order .cmp a b)) ∙
-      ap ofBool (comparison-negate o (S .order .cmp a b))
 
   pub comparison-mean : (o : Comparison) (v : Val) (x : Option K) → obeysAll S (comparisonConstraints o v) x ≡
       isTrue (compare3 (S .key) (S .order) tk o x (some (S .key v)))
@@ -225,6 +184,7 @@ module _ {K Val : Type 0} (S : Scalars K Val) (tk : TruthKeys (S .order)) where
 -- the node that a conjunct names, if any, is n
 abbrev pub Names : {Val : Type 0} → ℕ → Conjunct Val → Type 0
 Names n (Bounds c l) = Unit {0}
+Names n (Normalized c l) = Unit {0}
 Names n (Equality a b m) = m ≡ n
 Names n (Recorded z m c l) = m ≡ n
 Names n (NonNullPair m a b) = m ≡ n
@@ -343,6 +303,16 @@ module _ {K Val : Type 0} (S : Scalars K Val) (H : HalfPoints S) (tk : TruthKeys
   negated n a r h e = e ∙ ap (λ c. isTrue (not3 (c .truth))) (cell-law (S .key) (S .order) tk R ρ a (wf a)) ∙
       ap (λ s. isTrue (not3 (step (S .key) (S .order) tk ρ E s .truth))) h
 
+  -- Not of a comparison: the complementary one, unknown where that is
+  turned : (n a : ℕ) (o : Comparison) (x y : ℕ) → R a ≡ BinaryExpr (Compare o) x y → is n (not3 (E a .truth)) →
+      is n (compare3 (S .key) (S .order) tk (negateComparison o) (E x .value) (E y .value))
+  turned n a o x y h e = negated n a (BinaryExpr (Compare o) x y) h e ∙
+      ap isTrue (sym (compare-negate (S .key) (S .order) tk o (E x .value) (E y .value)))
+
+  -- the same, not plain
+  not-plain : (n : ℕ) (c : Conjunct Val) → ReadsAs n true c → ReadsAs n false c
+  not-plain n c r = (r .0, r .1, (λ h. absurd (true≢false (sym h))), r .3)
+
   -- a conjunct that is read of the record of node n
   abbrev Reads : ℕ → AExpr Val → Bool → Conjunct Val → Type 0
   Reads n r p c = is n (step (S .key) (S .order) tk ρ E r .truth) → ReadsAs n p c
@@ -356,6 +326,14 @@ module _ {K Val : Type 0} (S : Scalars K Val) (H : HalfPoints S) (tk : TruthKeys
         swapped = λ o x y c v h k e. reads-swapped n o c v (E x) (E y) h k e;
         equal = λ x y a b h k e. reads-equal n a b (E x) (E y) h k e;
         paired = λ o x y a b h k e. reads-paired n o a b (E x) (E y) h k e;
+        notCompared = λ o a x y c v g h k e. reads-compared n (negateComparison o) c v (E x) (E y) h k
+            (turned n a o x y g e);
+        notSwapped = λ o a x y c v g h k e. reads-swapped n (negateComparison o) c v (E x) (E y) h k
+            (turned n a o x y g e);
+        notUnequal = λ a x y b d g h k e. not-plain n (Equality b d n)
+            (reads-equal n b d (E x) (E y) h k (turned n a NotEq x y g e));
+        notPaired = λ o a x y b d g h k e. reads-paired n (negateComparison o) b d (E x) (E y) h k
+            (turned n a o x y g e);
         between = λ i j x y z c v w h k l e. reads-between n i j c v w (E x) (E y) (E z) h k l e;
         listed = λ i x y c l h k e. reads-in n c (Allow l) l (λ h l z. in3 (S .key) (S .order) i h l z)
             (in-mean S tk i l) (E x) (E y) h k e;

@@ -14,7 +14,7 @@ use Rattle.constraints.specs.Resolve.{fixedValue}
 use Rattle.constraints.specs.Scalars.{Scalars}
 use Rattle.constraints.specs.Values.{isEmpty}
 use Rattle.merge.specs.Minterms.{andSides, minterms, mintermsBy, sidesOf}
-use Rattle.merge.specs.Classify.{Bounds, Conjunct, Equality, NonNullPair, Opaque, Recorded, classify, readConjuncts}
+use Rattle.merge.specs.Classify.{Bounds, Normalized, Conjunct, Equality, NonNullPair, Opaque, Recorded, classify, readConjuncts}
 use Rattle.merge.specs.Collect.{Collected, Table, begin, collect, collectOne}
 use Rattle.merge.specs.Emit.{isFixed, keptEqualities, propagated}
 use Rattle.merge.specs.Rebuild.{andRoot, comparisonNodes, comparisonOf, comparisonsEnd, foldRoot, valueOf}
@@ -175,6 +175,7 @@ module _ {Val : Type 0} where
 abbrev pub othersOf : {Val : Type 0} → List (Conjunct Val) → List ℕ
 othersOf [] = []
 othersOf (Bounds c l ∷ xs) = othersOf xs
+othersOf (Normalized c l ∷ xs) = othersOf xs
 othersOf (Equality a b n ∷ xs) = othersOf xs
 othersOf (Recorded z n c l ∷ xs) = n ∷ othersOf xs
 othersOf (NonNullPair n a b ∷ xs) = n ∷ othersOf xs
@@ -184,6 +185,7 @@ module _ {K Val : Type 0} (S : Scalars K Val) where
   others-read : (l : List (Conjunct Val)) (s : Collected Val) → collectAll S l s .opaque ≡ s .opaque ++ othersOf l
   others-read [] s = sym (append-nil (s .opaque))
   others-read (Bounds c l ∷ xs) s = others-read xs (collectOne S (Bounds c l) s)
+  others-read (Normalized c l ∷ xs) s = others-read xs (collectOne S (Normalized c l) s)
   others-read (Equality a b n ∷ xs) s = others-read xs (collectOne S (Equality a b n) s)
   others-read (Recorded z n c l ∷ xs) s = others-read xs (collectOne S (Recorded z n c l) s)
       ∙ append-assoc (s .opaque) (n ∷ []) (othersOf xs)
@@ -215,6 +217,7 @@ module _ {K Val : Type 0} (S : Scalars K Val) where
         go : (x : Conjunct Val) → classify R n ≡ x → Names n x → Back (othersOf xs) (keptOthers xs) →
             Back (othersOf (x ∷ xs)) (keptOthers (x ∷ xs))
         go (Bounds c l) e p h = h
+        go (Normalized c l) e p h = h
         go (Equality a b m) e p h = h
         go (Recorded z m c l) e p h = back-cons n m (Recorded z m c l) (othersOf xs) (keptOthers xs) e p (o .0) h
         go (NonNullPair m a b) e p h = back-cons n m (NonNullPair m a b) (othersOf xs) (keptOthers xs) e p (o .0) h
@@ -232,6 +235,7 @@ module _ {K Val : Type 0} (S : Scalars K Val) where
             Back (keptEqualities S t (edgesOf S xs)) (keptEquals S t xs) →
             Back (keptEqualities S t (edgesOf S (x ∷ xs))) (keptEquals S t (x ∷ xs))
         go (Bounds c l) e p h = h
+        go (Normalized c l) e p h = h
         go (Equality a b m) e p h = by (isFixed (fixedValue S (t a)))
           where
             by : (f : Bool) → Back (cond f (keptEqualities S t (edgesOf S xs)) (m ∷ keptEqualities S t (edgesOf S xs)))

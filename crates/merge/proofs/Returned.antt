@@ -6,7 +6,6 @@ use mathlib.Core.Option.{Option, none, some}
 use mathlib.Core.Logic.{_↔_}
 use Prim.Native.Nat.{ℕ, suc, _<_}
 use native.Mathlib.Omega.{arith}
-use lib.Dec.{ltb}
 use lib.ListN.{length}
 use Rattle.truth.specs.AExpr.{AExpr, Literal, WF}
 use Rattle.truth.specs.Cell.{TruthKeys, truthAt, truthOfValue}
@@ -22,19 +21,20 @@ use Rattle.merge.proofs.Rebuilding.{written-iff, writtenHolds}
 use Rattle.merge.proofs.Sound.{and-both, keptBy}
 use Rattle.merge.proofs.Whole.{Keeps, is-true, outcome, outcome-keeps}
 use Rattle.merge.proofs.Witness.{HalfPoints}
-use Rattle.merge.specs.Classify.{Bounds, Conjunct, Equality, NonNullPair, Opaque, Recorded, classify}
+use Rattle.merge.specs.Classify.{Bounds, Conjunct, Equality, NonNullPair, Normalized, Opaque, Recorded}
+use Rattle.merge.specs.Classify.{classify}
 use Rattle.merge.specs.Classify.{readConjuncts}
 use Rattle.merge.specs.Collect.{Collected, Table, begin, collect, collectOne}
 use Rattle.merge.specs.Emit.{NothingPasses, Outcome, Rebuilt, Unchanged, anyUnsat, comparisons, conclude}
-use Rattle.merge.specs.Emit.{droppedEquality, keptEqualities, mergeFilterConstraints}
-use Rattle.merge.specs.Emit.{propagated, resolved}
+use Rattle.merge.specs.Emit.{keptEqualities, mergeFilterConstraints}
+use Rattle.merge.specs.Emit.{propagated, resolved, rewrites}
 use Rattle.merge.specs.Minterms.{minterms}
-use Rattle.merge.specs.Propagate.{propagateEmitted}
 use Rattle.merge.specs.Rebuild.{comparisonNodes}
 
 module _ {K Val : Type 0} (S : Scalars K Val) (N : ℕ → Type 0) where
   abbrev NodeHas : Conjunct Val → Type 0
   NodeHas (Bounds c l) = Unit {0}
+  NodeHas (Normalized c l) = Unit {0}
   NodeHas (Equality a b m) = N m
   NodeHas (Recorded z m c l) = N m
   NodeHas (NonNullPair m a b) = N m
@@ -57,6 +57,7 @@ module _ {K Val : Type 0} (S : Scalars K Val) (N : ℕ → Type 0) where
 
   read-has : (c : Conjunct Val) (s : Collected Val) → NodeHas c → StHas s → StHas (collectOne S c s)
   read-has (Bounds c l) s h k = k
+  read-has (Normalized c l) s h k = k
   read-has (Equality a b m) s h k = (k .0, edges-app (s .edges) ((a, b, m) ∷ []) (k .1) (h, tt))
   read-has (Recorded z m c l) s h k = (every-app N (s .opaque) (m ∷ []) (k .0) (h, tt), k .1)
   read-has (NonNullPair m a b) s h k = (every-app N (s .opaque) (m ∷ []) (k .0) (h, tt), k .1)
@@ -84,10 +85,7 @@ module _ {K Val : Type 0} (S : Scalars K Val) (N : ℕ → Type 0) where
   KeptHave (Rebuilt ns cs) = Every N ns
 
   finish-has : (s : Collected Val) → StHas s → KeptHave (conclude S s)
-  finish-has s k = go (s .unsat || anyUnsat (s .order) (resolved S s))
-      (ltb (length (comparisons S (s .order) (resolved S s))) (s .boundConjuncts) ||
-      (propagateEmitted S (length (s .order)) (s .edges) (s .constraints) || droppedEquality S (propagated S s)
-      (s .edges)))
+  finish-has s k = go (s .unsat || anyUnsat (s .order) (resolved S s)) (rewrites S s)
     where
       go : (b d : Bool) → KeptHave (cond b NothingPasses (cond d
           (Rebuilt (s .opaque ++ keptEqualities S (propagated S s) (s .edges))
@@ -102,6 +100,7 @@ module _ {K Val : Type 0} (S : Scalars K Val) (N : ℕ → Type 0) where
 
   names-has : (n : ℕ) (c : Conjunct Val) → N n → Names n c → NodeHas c
   names-has n (Bounds c l) h e = tt
+  names-has n (Normalized c l) h e = tt
   names-has n (Equality a b m) h e = subst N (sym e) h
   names-has n (Recorded z m c l) h e = subst N (sym e) h
   names-has n (NonNullPair m a b) h e = subst N (sym e) h

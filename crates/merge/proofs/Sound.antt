@@ -7,7 +7,7 @@ use mathlib.Core.Option.{Option, none, some}
 use mathlib.Core.Logic.{_⊎_, inl, inr, _↔_}
 use Prim.Native.Nat.{ℕ, zero}
 use native.Mathlib.Omega.{arith}
-use lib.Dec.{eqb, ltb}
+use lib.Dec.{eqb}
 use lib.ListN.{length}
 use Rattle.records.proofs.Laws.{and-left}
 use Rattle.constraints.proofs.Bounds.{SameBound, same-clears, same-of-still}
@@ -28,14 +28,13 @@ use Rattle.constraints.specs.declared.column.Nullability.the-variants.{NonNull}
 use Rattle.merge.proofs.Passes.{EdgesIn, In, eqb-path, eqb-self, propagate-quiet}
 use Rattle.merge.proofs.Spread.{AdmitsAll, AllEndsAgree, EndsAgree, Linked, Links, pass-admits, pass-emitted}
 use Rattle.merge.proofs.Spread.{pass-fix, pass-live, passTimes-admits, passTimes-emitted, passTimes-live}
-use Rattle.merge.specs.Classify.{Bounds, Conjunct, Equality, NonNullPair, Opaque, Recorded}
+use Rattle.merge.specs.Classify.{Bounds, Conjunct, Equality, NonNullPair, Normalized, Opaque, Recorded}
 use Rattle.merge.specs.Collect.{Collected, Table, addTo, begin, collect, collectOne, enter, isIn}
 use Rattle.merge.specs.Collect.{requireNonNull, update}
-use Rattle.merge.specs.Emit.{NothingPasses, Outcome, Rebuilt, Unchanged, anyUnsat, comparisons, droppedEquality}
-use Rattle.merge.specs.Emit.{isFixed}
+use Rattle.merge.specs.Emit.{NothingPasses, Outcome, Rebuilt, Unchanged, anyUnsat, comparisons, isFixed}
 use Rattle.merge.specs.Emit.{keptEqualities, mergeFilterConstraints, ofColumn, propagated}
-use Rattle.merge.specs.Emit.{resolved}
-use Rattle.merge.specs.Propagate.{pass, passAny, propagate, propagateEmitted}
+use Rattle.merge.specs.Emit.{resolved, rewrites}
+use Rattle.merge.specs.Propagate.{pass, passAny, propagate}
 
 -- The nodes kept, with that of an equality whose left column's fixed value is o.
 abbrev pub keptBy : {Val : Type 0} → Option Val → ℕ → List ℕ → List ℕ
@@ -49,6 +48,7 @@ module _ {K Val : Type 0} (S : Scalars K Val) where
     -- what a conjunct is to mean
     abbrev pub Fair : Conjunct Val → Type 0
     Fair (Bounds c l) = (x : Option K) → obeysRecordedAll S l x ≡ true
+    Fair (Normalized c l) = (x : Option K) → obeysRecordedAll S l x ≡ true
     Fair (Equality a b n) = (N n ≡ true) ↔ Linked S ρ a b
     Fair (Recorded z n c l) = N n ≡ true → obeysAll S l (ρ c) ≡ true
     Fair (NonNullPair n a b) = N n ≡ true → Some a × Some b
@@ -60,6 +60,7 @@ module _ {K Val : Type 0} (S : Scalars K Val) where
 
     abbrev pub Holds : Conjunct Val → Type 0
     Holds (Bounds c l) = obeysAll S l (ρ c) ≡ true
+    Holds (Normalized c l) = obeysAll S l (ρ c) ≡ true
     Holds (Equality a b n) = N n ≡ true
     Holds (Recorded z n c l) = N n ≡ true
     Holds (NonNullPair n a b) = N n ≡ true
@@ -147,6 +148,8 @@ module _ {K Val : Type 0} (S : Scalars K Val) where
       EdgesIn S (collectOne S x s .order) (collectOne S x s .edges)
   collectOne-in (Bounds c l) s i = edges-grow (s .order) (enter c (s .order)) (s .edges)
       (λ d. in-enter d c (s .order)) i
+  collectOne-in (Normalized c l) s i = edges-grow (s .order) (enter c (s .order)) (s .edges)
+      (λ d. in-enter d c (s .order)) i
   collectOne-in (Equality a b n) s i = edges-snoc (enter b (enter a (s .order))) (s .edges) (a, b, n)
       (edges-grow (s .order) (enter b (enter a (s .order))) (s .edges)
       (λ d j. in-enter d b (enter a (s .order)) (in-enter d a (s .order) j)) i)
@@ -172,6 +175,8 @@ module _ {K Val : Type 0} (S : Scalars K Val) where
 
   collectOne-halts : (x : Conjunct Val) (s : Collected Val) → Halts (collectOne S x s)
   collectOne-halts (Bounds c l) s h =
+      (c, ap (λ q. q .unsat) (upd-self (s .constraints) c (addAll S l (s .constraints c))) ∙ h)
+  collectOne-halts (Normalized c l) s h =
       (c, ap (λ q. q .unsat) (upd-self (s .constraints) c (addAll S l (s .constraints c))) ∙ h)
   collectOne-halts (Equality a b n) s h = absurd (true≢false (sym h))
   collectOne-halts (Recorded z n c l) s h = (
@@ -215,6 +220,7 @@ module _ {K Val : Type 0} (S : Scalars K Val) where
     collectOne-admits : (x : Conjunct Val) (s : Collected Val) → Fair S ρ N x → Holds S ρ N x →
         AdmitsAll S ρ (s .constraints) → AdmitsAll S ρ (collectOne S x s .constraints)
     collectOne-admits (Bounds c l) s f h g = addTo-admits c l (s .constraints) h g
+    collectOne-admits (Normalized c l) s f h g = addTo-admits c l (s .constraints) h g
     collectOne-admits (Equality a b n) s f h g = let p = f .0 h in
         requireNonNull-admits b (requireNonNull S a (s .constraints)) (p .0, p .2)
         (requireNonNull-admits a (s .constraints) (p .0, p .1) g)
@@ -267,6 +273,7 @@ module _ {K Val : Type 0} (S : Scalars K Val) where
     collectOne-fair : (x : Conjunct Val) (s : Collected Val) → Fair S ρ N x → EdgesFair (s .edges) →
         EdgesFair (collectOne S x s .edges)
     collectOne-fair (Bounds c l) s f h = h
+    collectOne-fair (Normalized c l) s f h = h
     collectOne-fair (Equality a b n) s f h = fair-app (s .edges) ((a, b, n) ∷ []) h (f, tt)
     collectOne-fair (Recorded z n c l) s f h = h
     collectOne-fair (NonNullPair n a b) s f h = h
@@ -286,6 +293,7 @@ module _ {K Val : Type 0} (S : Scalars K Val) where
 
     collectOne-kept : (x : Conjunct Val) (s : Collected Val) → Holds S ρ N x → Kept s → Kept (collectOne S x s)
     collectOne-kept (Bounds c l) s h k = k
+    collectOne-kept (Normalized c l) s h k = k
     collectOne-kept (Equality a b n) s h k = (k .0, true-app (s .edges) ((a, b, n) ∷ []) .1 (k .1, (h, tt)))
     collectOne-kept (Recorded z n c l) s h k = (nodes-app (s .opaque) (n ∷ []) .1 (k .0, (h, tt)), k .1)
     collectOne-kept (NonNullPair n a b) s h k = (nodes-app (s .opaque) (n ∷ []) .1 (k .0, (h, tt)), k .1)
@@ -427,6 +435,15 @@ module _ {K Val : Type 0} (S : Scalars K Val) where
           min =
               λ d. t d .2;
         }
+    collectOne-grows (Normalized c l) s = let t = addTo-tighter c l (s .constraints) in
+        record {
+          ord = λ d i. in-enter d c (s .order) i;
+          kep = λ k. k;
+          alive = λ d. t d .0;
+          sho = λ d. t d .1;
+          min =
+              λ d. t d .2;
+        }
     collectOne-grows (Equality a b n) s = let t = addTo-tighter a (Require NonNull ∷ []) (s .constraints) in let u =
         addTo-tighter b (Require NonNull ∷ []) (requireNonNull S a (s .constraints)) in
         record {
@@ -493,18 +510,30 @@ module _ {K Val : Type 0} (S : Scalars K Val) where
     Left f = Kept f × ((c : ℕ) → In S c (f .order) →
         (f .constraints c .unsat ≡ false) × (admitsEmitted S (f .constraints c) (ρ c) ≡ true))
 
-    collectOne-back : (x : Conjunct Val) (s f : Collected Val) → Fair S ρ N x → Grows (collectOne S x s) f → Left f →
-        Holds S ρ N x
-    collectOne-back (Bounds c l) s f fa g k =
-        let r = k .1 c (g .ord c (enter-in c (s .order))) in
+    -- what was told to a column of bounds is true of its value
+    bounds-back : (c : ℕ) (l : List (Constraint Val)) (s f : Collected Val) →
+        ((x : Option K) → obeysRecordedAll S l x ≡ true) →
+        (f .constraints c .unsat ≡ false → addTo S c l (s .constraints) c .unsat ≡ false) →
+        (f .constraints c .unsat ≡ false → admitsEmitted S (f .constraints c) (ρ c) ≡ true →
+        admitsEmitted S (addTo S c l (s .constraints) c) (ρ c) ≡ true) → In S c (f .order) → Left f →
+        obeysAll S l (ρ c) ≡ true
+    bounds-back c l s f fa alive shows i k =
+        let r = k .1 c i in
         let p : update (s .constraints) c (addAll S l (s .constraints c)) c ≡ addAll S l (s .constraints c) =
         upd-self (s .constraints) c (addAll S l (s .constraints c)) in
-        let a : addAll S l (s .constraints c) .unsat ≡ false = subst (λ q. q .unsat ≡ false) p (g .alive c (r .0)) in
+        let a : addAll S l (s .constraints c) .unsat ≡ false = subst (λ q. q .unsat ≡ false) p (alive (r .0)) in
         let h : admitsEmitted S (addAll S l (s .constraints c)) (ρ c) ≡ true =
-        subst (λ q. admitsEmitted S q (ρ c) ≡ true) p (g .sho c (r .0) (r .1)) in
+        subst (λ q. admitsEmitted S q (ρ c) ≡ true) p (shows (r .0) (r .1)) in
         obeys-all S l (ρ c) ∙ and-both (obeysEmittedAll S l (ρ c)) (obeysRecordedAll S l (ρ c))
         (and-eq-true-iff (admitsEmitted S (s .constraints c) (ρ c)) (obeysEmittedAll S l (ρ c)) .0
         (sym (addAll-emitted S l (s .constraints c) (ρ c) a) ∙ h) .1) (fa (ρ c))
+
+    collectOne-back : (x : Conjunct Val) (s f : Collected Val) → Fair S ρ N x → Grows (collectOne S x s) f → Left f →
+        Holds S ρ N x
+    collectOne-back (Bounds c l) s f fa g k =
+        bounds-back c l s f fa (g .alive c) (g .sho c) (g .ord c (enter-in c (s .order))) k
+    collectOne-back (Normalized c l) s f fa g k =
+        bounds-back c l s f fa (g .alive c) (g .sho c) (g .ord c (enter-in c (s .order))) k
     collectOne-back (Equality a b n) s f fa g k = true-app (s .edges) ((a, b, n) ∷ []) .0 (g .kep (k .0) .1) .1 .0
     collectOne-back (Recorded z n c l) s f fa g k = nodes-app (s .opaque) (n ∷ []) .0 (g .kep (k .0) .0) .1 .0
     collectOne-back (NonNullPair n a b) s f fa g k = nodes-app (s .opaque) (n ∷ []) .0 (g .kep (k .0) .0) .1 .0
@@ -662,10 +691,7 @@ module _ {K Val : Type 0} (S : Scalars K Val) where
         going false e = not-unsat (s .order) (resolved S s) (held-resolved l f h)
 
     pub merge-is-sound : (l : List (Conjunct Val)) → FairAll S ρ N l → Sound S ρ N l (mergeFilterConstraints S l)
-    merge-is-sound l f = go (s .unsat || anyUnsat (s .order) (resolved S s)) refl
-        (ltb (length (comparisons S (s .order) (resolved S s))) (s .boundConjuncts) ||
-        (propagateEmitted S (length (s .order)) (s .edges) (s .constraints) || droppedEquality S (propagated S s)
-        (s .edges)))
+    merge-is-sound l f = go (s .unsat || anyUnsat (s .order) (resolved S s)) refl (rewrites S s)
       where
         s : Collected Val
         s = collect S l (begin)

@@ -18,7 +18,7 @@ use Rattle.constraints.specs.Comparisons.{ColumnComparison, collectBy, collectC
 use Rattle.constraints.specs.Resolve.{Range, fixedAt, fixedValue, resolveDeferred, resolveExcluded}
 use Rattle.constraints.specs.Scalars.{Scalars}
 use Rattle.constraints.specs.declared.column.Nullability.the-variants.{Unconstrained}
-use Rattle.merge.specs.Classify.{Bounds, Conjunct, Equality, NonNullPair, Opaque, Recorded}
+use Rattle.merge.specs.Classify.{Bounds, Normalized, Conjunct, Equality, NonNullPair, Opaque, Recorded}
 use Rattle.merge.specs.Collect.{Collected, Table, begin, collect, isIn}
 use Rattle.merge.specs.Passes.{passTimes}
 use Rattle.merge.specs.Propagate.{pass, propagateEmitted}
@@ -33,8 +33,8 @@ use Rattle.merge.proofs.Counting.{collect-once, comparisons-total, tota
 use Rattle.merge.proofs.Passes.{EdgesIn, In}
 use Rattle.merge.proofs.ReadBack.{AllBare, Each, IsKept, AsRead, Written, collect-all, collectAll, collectAll-append}
 use Rattle.merge.proofs.ReadBack.{comparison-written, each-append, each-kept, edges-read, edgesOf, equals-kept}
-use Rattle.merge.proofs.ReadBack.{kept-bare, kept-count, keptConjuncts, keptEquals, keptOthers, others-kept}
-use Rattle.merge.proofs.ReadBack.{read-count, read-enters, read-table, readBack, readBack-edges, toldIf}
+use Rattle.merge.proofs.ReadBack.{kept-bare, kept-count, kept-unforced, keptConjuncts, keptEquals, keptOthers, others-kept}
+use Rattle.merge.proofs.ReadBack.{read-count, read-unforced, read-enters, read-table, readBack, readBack-edges, toldIf}
 use Rattle.merge.proofs.Reread.{conjunctOf, read-back, reread, reread-agree, reread-settled}
 use Rattle.merge.proofs.Reread.{reread-written, told-true, toldAll, upperBy}
 use Rattle.merge.proofs.Settled.{Agree, Settled, ends-resolve-alike, resolve-settles, resolve-unfixed}
@@ -53,6 +53,7 @@ module _ {K Val : Type 0} (S : Scalars K Val) (H : HalfPoints S) where
   module _ (ρ : ℕ → Option K) where
     fits-fair : (x : Conjunct Val) → AsRead S x → Fits S H ρ Yes x → Fair S ρ Yes x
     fits-fair (Bounds c l) h f = h
+    fits-fair (Normalized c l) h f = h
     fits-fair (Equality a b n) h f = (λ e. f, λ e. refl)
     fits-fair (Recorded z n c l) h f = λ e. f
     fits-fair (NonNullPair n a b) h f = λ e. f
@@ -60,6 +61,7 @@ module _ {K Val : Type 0} (S : Scalars K Val) (H : HalfPoints S) where
 
     fits-holds : (x : Conjunct Val) → Fits S H ρ Yes x → Holds S ρ Yes x
     fits-holds (Bounds c l) f = f
+    fits-holds (Normalized c l) f = f
     fits-holds (Equality a b n) f = refl
     fits-holds (Recorded z n c l) f = refl
     fits-holds (NonNullPair n a b) f = refl
@@ -131,6 +133,7 @@ module _ {K Val : Type 0} (S : Scalars K Val) (H : HalfPoints S) where
       fixedValue S (t (e .0)) ≡ none → P e) → AllE P (edgesOf S (keptEquals S t l))
   kept-edges P cs t [] i g k = tt
   kept-edges P cs t (Bounds c l ∷ xs) i g k = kept-edges P cs t xs i g k
+  kept-edges P cs t (Normalized c l ∷ xs) i g k = kept-edges P cs t xs i g k
   kept-edges P cs t (Equality a b n ∷ xs) i g k = go (fixedValue S (t a)) refl (kept-edges P cs t xs (i .1) (g .1) k)
     where
       go : (o : Option Val) → fixedValue S (t a) ≡ o → AllE P (edgesOf S (keptEquals S t xs)) →
@@ -148,14 +151,16 @@ module _ {K Val : Type 0} (S : Scalars K Val) (H : HalfPoints S) where
 
   -- ---- What is concluded of a table in which nothing moved, nothing is dropped and nothing is impossible.
   pub nothing-new : (s : Collected Val) → (s .unsat || anyUnsat (s .order) (resolved S s)) ≡ false →
-      s .boundConjuncts ≤ length (comparisons S (s .order) (resolved S s)) →
+      s .boundConjuncts ≤ length (comparisons S (s .order) (resolved S s)) → s .normalized ≡ false →
       propagateEmitted S (length (s .order)) (s .edges) (s .constraints) ≡ false →
       droppedEquality S (propagated S s) (s .edges) ≡ false → conclude S s ≡ Unchanged
-  nothing-new s a b p d =
+  nothing-new s a b f p d =
       let r : rewrites S s ≡ false =
-      ap (λ x. x || (propagateEmitted S (length (s .order)) (s .edges) (s .constraints)
-      || droppedEquality S (propagated S s) (s .edges)))
+      ap (λ x. x || (s .normalized || (propagateEmitted S (length (s .order)) (s .edges) (s .constraints)
+      || droppedEquality S (propagated S s) (s .edges))))
       (le-ltb (length (comparisons S (s .order) (resolved S s))) (s .boundConjuncts) b)
+      ∙ ap (λ x. x || (propagateEmitted S (length (s .order)) (s .edges) (s .constraints)
+      || droppedEquality S (propagated S s) (s .edges))) f
       ∙ ap (λ x. x || droppedEquality S (propagated S s) (s .edges)) p ∙ d in
       ap (λ x. cond x NothingPasses (cond (rewrites S s) (rebuilt S s) Unchanged)) a
       ∙ ap (λ x. cond x (rebuilt S s) Unchanged) r
@@ -167,7 +172,7 @@ module _ {K Val : Type 0} (S : Scalars K Val) (H : HalfPoints S) where
       ((ρ : ℕ → Option K) → FairAll S ρ Yes l → HoldsAll S ρ Yes l → WrittenTrue S ρ Yes cs) →
       mergeFilterConstraints S (readBack S l cs) ≡ Unchanged
   merged-again l shaped cs alive is-cs sound =
-      nothing-new s′ alive′ counted (still .1) (subst (λ es. droppedEquality S (propagated S s′) es ≡ false) (sym edges′)
+      nothing-new s′ alive′ counted unforced (still .1) (subst (λ es. droppedEquality S (propagated S s′) es ≡ false) (sym edges′)
       (none-dropped (propagated S s′) (edgesOf S (keptEquals S P l)) unfixed))
     where
       -- the first merging
@@ -342,6 +347,11 @@ module _ {K Val : Type 0} (S : Scalars K Val) (H : HalfPoints S) where
           (collect-once S l begin tt)
           (λ c i. subst (λ k. written S R c ≤ length k) (sym (same-column c (isIn-in S c (s .order) i))) (omega arith))
           (λ c i h. in-isIn S H c (s′ .order) (enters c (isIn-in S c (s .order) i) h))))
+
+      -- no comparison with a literal is negated any more
+      unforced : s′ .normalized ≡ false
+      unforced = ap (λ f. f .normalized) parted ∙ read-unforced S cs kept ∙ kept-unforced S (keptConjuncts S l) begin
+          (each-append S (IsKept S) (keptOthers l) (keptEquals S P l) (others-kept S l shaped) (equals-kept S P l))
 
       counted : s′ .boundConjuncts ≤ length (comparisons S (s′ .order) (resolved S s′))
       counted =

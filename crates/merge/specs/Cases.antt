@@ -187,6 +187,35 @@ further =
     ∷ caseOf (twoLines gt 3 gt 5) 6 6 3 (Refused 3) (unused 3)
     ∷ []
 
+-- Not of c0 under a comparison with what stands at record 1: 2 the comparison, 3 its Not.
+abbrev pub notLine : ℕ → List ℕ → List ℕ
+notLine op right = column 0 ++ right ++ binary op 0 1 ++ negation 2
+
+-- Cases of negated lines (02, 2.1).
+abbrev pub negatedLines : List Case
+negatedLines =
+    -- Not (c0<3) alone: c0>=3, three added
+    caseOf (notLine lt (literal 3)) 4 3 3 (Rewritten 6 7) (column 0 ++ literal 3 ++ binary gtEq 4 5)
+    -- Not (3<c0) alone: c0<=3
+    ∷ caseOf (literal 3 ++ column 0 ++ binary lt 0 1 ++ negation 2) 4 3 3 (Rewritten 6 7)
+    (column 0 ++ literal 3 ++ binary ltEq 4 5)
+    -- Not (c0==3), c0>=3: c0>3
+    ∷ caseOf (notLine eq (literal 3) ++ binary gtEq 0 1 ++ binary and 3 4) 6 5 3 (Rewritten 8 9)
+    (column 0 ++ literal 3 ++ binary gt 6 7)
+    -- Not (c0>=3), c0>=3: nothing passes
+    ∷ caseOf (notLine gtEq (literal 3) ++ binary and 2 3) 5 4 1 (NothingPasses 5 6) falseLiteral
+    -- Not (c0!=c1) alone: unchanged; with c0>5: the Not stays, c0>5, c1>5, eight added
+    ∷ caseOf (notLine notEq (column 1)) 4 3 1 Unchanged (unused 1)
+    ∷ caseOf (notLine notEq (column 1) ++ literal 5 ++ binary gt 0 4 ++ binary and 3 5) 7 6 8 (Rewritten 14 15)
+    (column 0 ++ literal 5 ++ binary gt 7 8 ++ column 1 ++ literal 5 ++ binary gt 10 11
+    ++ binary and 3 9 ++ binary and 13 12)
+    -- Not (c0<c1), is_null(c0): nothing passes
+    ∷ caseOf (notLine lt (column 1) ++ isNull 0 ++ binary and 3 4) 6 5 1 (NothingPasses 6 7) falseLiteral
+    -- Not (c0 EqValidity 3) alone, Not Not (c0<3) alone: unchanged
+    ∷ caseOf (notLine 1 (literal 3)) 4 3 1 Unchanged (unused 1)
+    ∷ caseOf (notLine lt (literal 3) ++ negation 3) 5 4 1 Unchanged (unused 1)
+    ∷ []
+
 -- What the definitions yield, and what 01 says.
 abbrev pub yielded : Case → RewriteAnswer × List ℕ
 yielded c = (

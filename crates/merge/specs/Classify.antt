@@ -7,6 +7,11 @@ use mathlib.Core.List.{List, [], _∷_, map}
 use Prim.Native.Nat.{ℕ}
 use lib.Dec.{leb}
 use lib.ListN.{length}
+use Rattle.records.specs.Operator.{negate}
+use Rattle.records.specs.declared.operator.Operator.{Operator}
+use Rattle.records.specs.declared.operator.Operator.the-variants as operator
+use Rattle.records.specs.declared.operator.Negated.{Negated}
+use Rattle.records.specs.declared.operator.Negated.the-variants as negated
 use Rattle.truth.specs.Comparison.{Comparison, Eq, NotEq, Lt, LtEq, Gt, GtEq}
 use Rattle.truth.specs.AExpr.{AExpr, Column, Literal, Null, BinaryExpr, Not, IsNull, IsNotNull, IsBetween}
 use Rattle.truth.specs.AExpr.{ListLiteral}
@@ -22,6 +27,8 @@ use Rattle.merge.specs.Minterms.{minterms}
 pub data Conjunct (Val : Type 0) : Type 0 where
   -- column, constraints: it is written anew from the merged constraints, so the node is dropped
   Bounds : ℕ → List (Constraint Val) → Conjunct Val
+  -- column, constraints: the same of a negated comparison, whose node is dropped even where nothing tightened
+  Normalized : ℕ → List (Constraint Val) → Conjunct Val
   -- left column, right column, node: an edge
   Equality : ℕ → ℕ → ℕ → Conjunct Val
   -- whether reading stops if the column became impossible; node, column, constraints: kept, but the column learns of
@@ -114,6 +121,58 @@ classifyComparison n op (ALiteral v) Other = Opaque n
 classifyComparison n op (AList values) right = Opaque n
 classifyComparison n op Other right = Opaque n
 
+-- ---- `classify_negation` of a comparison: that of the complementary operator, where it has one. Bounds so read force
+-- the rebuild; an edge, or a conjunct that stays, is what it is without Not.
+abbrev pub operatorOf : BinaryOp → Operator
+operatorOf (Compare Eq) = operator.Eq
+operatorOf (Compare NotEq) = operator.NotEq
+operatorOf (Compare Lt) = operator.Lt
+operatorOf (Compare LtEq) = operator.LtEq
+operatorOf (Compare Gt) = operator.Gt
+operatorOf (Compare GtEq) = operator.GtEq
+operatorOf EqValidity = operator.EqValidity
+operatorOf NotEqValidity = operator.NotEqValidity
+operatorOf And = operator.And
+operatorOf Or = operator.Or
+operatorOf Xor = operator.Xor
+operatorOf LogicalAnd = operator.LogicalAnd
+operatorOf LogicalOr = operator.LogicalOr
+
+-- The ordinary comparison that an operator is, if it is one of the six.
+abbrev pub ordinaryComparison : Operator → Option Comparison
+ordinaryComparison operator.Eq = some Eq
+ordinaryComparison operator.EqValidity = none
+ordinaryComparison operator.NotEq = some NotEq
+ordinaryComparison operator.NotEqValidity = none
+ordinaryComparison operator.Lt = some Lt
+ordinaryComparison operator.LtEq = some LtEq
+ordinaryComparison operator.Gt = some Gt
+ordinaryComparison operator.GtEq = some GtEq
+ordinaryComparison operator.Plus = none
+ordinaryComparison operator.Minus = none
+ordinaryComparison operator.Multiply = none
+ordinaryComparison operator.RustDivide = none
+ordinaryComparison operator.TrueDivide = none
+ordinaryComparison operator.FloorDivide = none
+ordinaryComparison operator.Modulus = none
+ordinaryComparison operator.And = none
+ordinaryComparison operator.Or = none
+ordinaryComparison operator.Xor = none
+ordinaryComparison operator.LogicalAnd = none
+ordinaryComparison operator.LogicalOr = none
+
+abbrev pub normalized : {Val : Type 0} → Conjunct Val → Conjunct Val
+normalized (Bounds c l) = Normalized c l
+normalized (Normalized c l) = Normalized c l
+normalized (Equality a b n) = Equality a b n
+normalized (Recorded stops n c l) = Recorded stops n c l
+normalized (NonNullPair n a b) = NonNullPair n a b
+normalized (Opaque n) = Opaque n
+
+abbrev pub classifyNegated : {Val : Type 0} → ℕ → Negated → Operand Val → Operand Val → Conjunct Val
+classifyNegated n negated.Nothing left right = Opaque n
+classifyNegated n (negated.To o) left right = normalized (classifyComparison n (ordinaryComparison o) left right)
+
 -- ---- `classify_is_between`: a lower and an upper bound, inclusive or not.
 abbrev pub classifyIsBetween : {Val : Type 0} → ℕ → Bool → Bool → Operand Val → Operand Val → Operand Val →
     Conjunct Val
@@ -151,7 +210,8 @@ module _ {Val : Type 0} (R : ℕ → AExpr Val) where
   classifyNegation n (Column c) = Opaque n
   classifyNegation n (Literal v) = Opaque n
   classifyNegation n Null = Opaque n
-  classifyNegation n (BinaryExpr op left right) = Opaque n
+  classifyNegation n (BinaryExpr op left right) =
+      classifyNegated n (negate (operatorOf op)) (operand (R left)) (operand (R right))
   classifyNegation n (Not a) = Opaque n
   classifyNegation n (IsNull a) = classifyNull n NonNull (operand (R a))
   classifyNegation n (IsNotNull a) = classifyNull n required.Null (operand (R a))

@@ -57,11 +57,13 @@ module _ {K Val : Type 0} (S : Scalars K Val) where
   abbrev pub resolved : Collected Val → Table Val
   resolved s c = resolveDeferred S (propagated s c)
 
-  -- Something tightened, was propagated, or an equality was dropped; else the screen is left alone.
+  -- Something tightened, a negation was read as bounds, something was propagated, or an equality was dropped; else the
+  -- screen is left alone.
   abbrev pub rewrites : Collected Val → Bool
   rewrites s =
       ltb (length (comparisons (s .order) (resolved s))) (s .boundConjuncts)
-      || (propagateEmitted S (length (s .order)) s.edges s.constraints || droppedEquality (propagated s) s.edges)
+      || (s.normalized
+      || (propagateEmitted S (length (s .order)) s.edges s.constraints || droppedEquality (propagated s) s.edges))
 
   -- Opaque conjuncts, kept equalities, comparisons by column.
   abbrev pub rebuilt : Collected Val → Outcome Val

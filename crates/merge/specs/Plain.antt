@@ -63,11 +63,24 @@ isEq LtEq = false
 isEq Gt = false
 isEq GtEq = false
 
--- "a column against a non-null literal under one of the six ordinary comparisons (..), either way round" and "column
--- Eq column"
+-- "a column against a non-null literal (..), either way round"
+abbrev pub besideLiteral : {Val : Type 0} → AExpr Val → AExpr Val → Bool
+besideLiteral x y = (isColumn x && isLiteral y) || (isLiteral x && isColumn y)
+
+-- Of these "under one of the six ordinary comparisons" (02, 2.1: "the Not of each").
+abbrev pub plainCompared : {Val : Type 0} → BinaryOp → AExpr Val → AExpr Val → Bool
+plainCompared (Compare c) x y = besideLiteral x y
+plainCompared EqValidity x y = false
+plainCompared NotEqValidity x y = false
+plainCompared And x y = false
+plainCompared Or x y = false
+plainCompared Xor x y = false
+plainCompared LogicalAnd x y = false
+plainCompared LogicalOr x y = false
+
+-- The same and "column Eq column".
 abbrev pub plainBinary : {Val : Type 0} → BinaryOp → AExpr Val → AExpr Val → Bool
-plainBinary (Compare c) x y =
-    (isColumn x && isLiteral y) || ((isLiteral x && isColumn y) || (isEq c && (isColumn x && isColumn y)))
+plainBinary (Compare c) x y = besideLiteral x y || (isEq c && (isColumn x && isColumn y))
 plainBinary EqValidity x y = false
 plainBinary NotEqValidity x y = false
 plainBinary And x y = false
@@ -77,12 +90,13 @@ plainBinary LogicalAnd x y = false
 plainBinary LogicalOr x y = false
 
 module _ {Val : Type 0} (R : ℕ → AExpr Val) where
-  -- "is_in of a column over a list (..), and Not of it; is_null, is_not_null and Not of either, on a column"
+  -- Not of a comparison with a literal; "is_in of a column over a list (..), and Not of it; is_null, is_not_null and
+  -- Not of either, on a column"
   abbrev pub plainNegation : AExpr Val → Bool
   plainNegation (Column c) = false
   plainNegation (Literal v) = false
   plainNegation Null = false
-  plainNegation (BinaryExpr op left right) = false
+  plainNegation (BinaryExpr op left right) = plainCompared op (R left) (R right)
   plainNegation (Not a) = false
   plainNegation (IsNull a) = isColumn (R a)
   plainNegation (IsNotNull a) = isColumn (R a)

@@ -1,4 +1,4 @@
--- `Operator` of the Rust (src/dsl/expr/mod.rs): the twenty variants in its order, their codes, and two of its methods.
+-- `Operator` of the Rust (src/dsl/expr/mod.rs): the twenty variants in its order, their codes, and three of its methods.
 use Prim.Native.Nat.{ℕ}
 use mathlib.Core.Bool.{Bool, true, false, _&&_}
 use mathlib.Core.List.{List, [], _∷_}
@@ -8,6 +8,8 @@ use Rattle.records.specs.declared.operator.Operator.{Operator}
 use Rattle.records.specs.declared.operator.Operator.the-variants.{Eq, EqValidity, NotEq, NotEqValidity, Lt, LtEq, Gt, GtEq, Plus, Minus, Multiply, RustDivide, TrueDivide, FloorDivide, Modulus, And, Or, Xor, LogicalAnd, LogicalOr}
 use Rattle.records.specs.declared.operator.Swapped.{Swapped}
 use Rattle.records.specs.declared.operator.Swapped.the-variants.{Nothing, To}
+use Rattle.records.specs.declared.operator.Negated.{Negated}
+use Rattle.records.specs.declared.operator.Negated.the-variants as negated
 
 -- the Rust's order; the code of an operator is its place here
 abbrev pub operators : List Operator
@@ -95,3 +97,26 @@ swapOperands Or = To Or
 swapOperands Xor = To Xor
 swapOperands LogicalAnd = To LogicalAnd
 swapOperands LogicalOr = To LogicalOr
+
+-- `a (negate o) b` is equivalent to `!(a o b)`, null or not; only the comparisons have such an operator
+abbrev pub negate : Operator → Negated
+negate Eq = negated.To NotEq
+negate EqValidity = negated.To NotEqValidity
+negate NotEq = negated.To Eq
+negate NotEqValidity = negated.To EqValidity
+negate Lt = negated.To GtEq
+negate LtEq = negated.To Gt
+negate Gt = negated.To LtEq
+negate GtEq = negated.To Lt
+negate Plus = negated.Nothing
+negate Minus = negated.Nothing
+negate Multiply = negated.Nothing
+negate RustDivide = negated.Nothing
+negate TrueDivide = negated.Nothing
+negate FloorDivide = negated.Nothing
+negate Modulus = negated.Nothing
+negate And = negated.Nothing
+negate Or = negated.Nothing
+negate Xor = negated.Nothing
+negate LogicalAnd = negated.Nothing
+negate LogicalOr = negated.Nothing

@@ -2,6 +2,7 @@
 ghost use mathlib.Core.Path.{_≡_};
 ghost use Prim.Native.Nat.{_<_};
 ghost use Rattle.records.specs.Operator.{codeOf, operatorAt, isComparison, isNullPropagatingComparison, isLeftOut, swapOperands};
+ghost use Rattle.records.specs.Operator as operator;
 
 pub enum Operator {
     Eq,
@@ -28,6 +29,12 @@ pub enum Operator {
 
 // What `swap_operands` answers: arithmetic that does not commute has no such operator.
 pub enum Swapped {
+    Nothing,
+    To(Operator),
+}
+
+// What `negate` answers: only a comparison has a complement.
+pub enum Negated {
     Nothing,
     To(Operator),
 }
@@ -157,5 +164,33 @@ pub fn swap_operands(o: Operator) -> Swapped
         Operator::Xor => Swapped::To(Operator::Xor),
         Operator::LogicalAnd => Swapped::To(Operator::LogicalAnd),
         Operator::LogicalOr => Swapped::To(Operator::LogicalOr),
+    }
+}
+
+// The operator such that `a op.negate() b` is equivalent to `!(a op b)`.
+pub fn negate(o: Operator) -> Negated
+    ensures { λ r. ⌜ r ≡ operator.negate o ⌝ }
+{
+    match o {
+        Operator::Eq => Negated::To(Operator::NotEq),
+        Operator::EqValidity => Negated::To(Operator::NotEqValidity),
+        Operator::NotEq => Negated::To(Operator::Eq),
+        Operator::NotEqValidity => Negated::To(Operator::EqValidity),
+        Operator::Lt => Negated::To(Operator::GtEq),
+        Operator::LtEq => Negated::To(Operator::Gt),
+        Operator::Gt => Negated::To(Operator::LtEq),
+        Operator::GtEq => Negated::To(Operator::Lt),
+        Operator::Plus => Negated::Nothing,
+        Operator::Minus => Negated::Nothing,
+        Operator::Multiply => Negated::Nothing,
+        Operator::RustDivide => Negated::Nothing,
+        Operator::TrueDivide => Negated::Nothing,
+        Operator::FloorDivide => Negated::Nothing,
+        Operator::Modulus => Negated::Nothing,
+        Operator::And => Negated::Nothing,
+        Operator::Or => Negated::Nothing,
+        Operator::Xor => Negated::Nothing,
+        Operator::LogicalAnd => Negated::Nothing,
+        Operator::LogicalOr => Negated::Nothing,
     }
 }

@@ -6,9 +6,11 @@ use Prim.Native.Nat.{ℕ, zero, suc, _≤_, _<_}
 use lib.Dec.{leb}
 use lib.ListN.{length}
 use borrow.Author.Tests.{le-leb, lt-leb}
+use Rattle.records.specs.Operator.{negate}
 use Rattle.records.specs.Record.{node, recordAt}
 use Rattle.records.specs.declared.operator.Operator.{Operator}
 use Rattle.records.specs.declared.operator.Operator.the-variants as operator
+use Rattle.records.specs.declared.operator.Negated.{Negated}
 use Rattle.records.specs.declared.record.Node.{Node}
 use Rattle.records.specs.declared.record.Record.{Record}
 use Rattle.records.specs.declared.record.Record.the-variants as kind
@@ -18,8 +20,8 @@ use Rattle.truth.specs.AExpr.{BinaryOp, Compare, EqValidity, NotEqValidity, And
 use Rattle.truth.specs.FromBytes.{valuesFrom, binaryExpr, toAExpr, aexprOf}
 use Rattle.merge.specs.Classify.{Operand, AColumn, ALiteral, AList, Other, operand, Conjunct, Opaque, asComparison}
 use Rattle.merge.specs.Classify.{classifyColumnLiteral, classifyColumnColumn, classifyComparison}
-use Rattle.merge.specs.Classify.{classifyNegation, swapOperands, classifyRecord, classify}
-use Rattle.rewrite.specs.Read.{operationOf, columnLiteral, columnColumn, swappedOperation, compared}
+use Rattle.merge.specs.Classify.{classifyNegation, normalized, swapOperands, classifyRecord, classify}
+use Rattle.rewrite.specs.Read.{operationOf, columnLiteral, columnColumn, swappedOperation, compared, negatedIn}
 use Rattle.rewrite.specs.declared.classify.Comparison as code
 use Rattle.rewrite.specs.declared.classify.Comparison.the-variants as comparison
 use Rattle.rewrite.specs.declared.classify.Operation.{Operation}
@@ -64,33 +66,6 @@ no-operand operator.LogicalOr x y = refl
 pub operand-binary : (p : List ℕ) (r : Record) (o : Operator) (x y : Node) → r ≡ kind.Binary o x y
     → Other ≡ operand (toAExpr p r)
 operand-binary p r o x y e = no-operand o (x .0) (y .0) ∙ ap (λ q. operand (toAExpr p q)) (sym e)
-
-no-negation : (R : ℕ → AExpr ℕ) (n : ℕ) (o : Operator) (x y : ℕ) → Opaque n ≡ classifyNegation R n (binaryExpr o x y)
-no-negation R n operator.Eq x y = refl
-no-negation R n operator.EqValidity x y = refl
-no-negation R n operator.NotEq x y = refl
-no-negation R n operator.NotEqValidity x y = refl
-no-negation R n operator.Lt x y = refl
-no-negation R n operator.LtEq x y = refl
-no-negation R n operator.Gt x y = refl
-no-negation R n operator.GtEq x y = refl
-no-negation R n operator.Plus x y = refl
-no-negation R n operator.Minus x y = refl
-no-negation R n operator.Multiply x y = refl
-no-negation R n operator.RustDivide x y = refl
-no-negation R n operator.TrueDivide x y = refl
-no-negation R n operator.FloorDivide x y = refl
-no-negation R n operator.Modulus x y = refl
-no-negation R n operator.And x y = refl
-no-negation R n operator.Or x y = refl
-no-negation R n operator.Xor x y = refl
-no-negation R n operator.LogicalAnd x y = refl
-no-negation R n operator.LogicalOr x y = refl
-
-pub negation-binary : (rs p : List ℕ) (n : ℕ) (r : Record) (o : Operator) (x y : Node) → r ≡ kind.Binary o x y
-    → Opaque n ≡ classifyNegation (aexprOf rs p) n (toAExpr p r)
-negation-binary rs p n r o x y e =
-    no-negation (aexprOf rs p) n o (x .0) (y .0) ∙ ap (λ q. classifyNegation (aexprOf rs p) n (toAExpr p q)) (sym e)
 
 pub negation-law : (rs p : List ℕ) (n : ℕ) (r s : Record) (x : Node) → r ≡ kind.Not x → s ≡ recordAt rs x
     → classifyNegation (aexprOf rs p) n (toAExpr p s) ≡ classifyRecord (aexprOf rs p) n (toAExpr p r)
@@ -230,3 +205,36 @@ binary-law rs p n r o x y k a b e f g h =
     ∙ ap (λ l. compared n (operationOf o) (operand (aexprOf rs p (x .0))) l) h
     ∙ binary-same (aexprOf rs p) n (x .0) (y .0) o
     ∙ ap (λ q. classifyRecord (aexprOf rs p) n (toAExpr p q)) (sym e)
+
+-- ---- A comparison below Not.
+negated-same : (R : ℕ → AExpr ℕ) (n x y : ℕ) (o : Operator)
+    → negatedIn n (negate o) (operand (R x)) (operand (R y)) ≡ classifyNegation R n (binaryExpr o x y)
+negated-same R n x y operator.Eq = ap normalized (compared-same n (Compare truth.NotEq) (operand (R x)) (operand (R y)))
+negated-same R n x y operator.EqValidity = ap normalized (compared-same n NotEqValidity (operand (R x)) (operand (R y)))
+negated-same R n x y operator.NotEq = ap normalized (compared-same n (Compare truth.Eq) (operand (R x)) (operand (R y)))
+negated-same R n x y operator.NotEqValidity = ap normalized (compared-same n EqValidity (operand (R x)) (operand (R y)))
+negated-same R n x y operator.Lt = ap normalized (compared-same n (Compare truth.GtEq) (operand (R x)) (operand (R y)))
+negated-same R n x y operator.LtEq = ap normalized (compared-same n (Compare truth.Gt) (operand (R x)) (operand (R y)))
+negated-same R n x y operator.Gt = ap normalized (compared-same n (Compare truth.LtEq) (operand (R x)) (operand (R y)))
+negated-same R n x y operator.GtEq = ap normalized (compared-same n (Compare truth.Lt) (operand (R x)) (operand (R y)))
+negated-same R n x y operator.Plus = refl
+negated-same R n x y operator.Minus = refl
+negated-same R n x y operator.Multiply = refl
+negated-same R n x y operator.RustDivide = refl
+negated-same R n x y operator.TrueDivide = refl
+negated-same R n x y operator.FloorDivide = refl
+negated-same R n x y operator.Modulus = refl
+negated-same R n x y operator.And = refl
+negated-same R n x y operator.Or = refl
+negated-same R n x y operator.Xor = refl
+negated-same R n x y operator.LogicalAnd = refl
+negated-same R n x y operator.LogicalOr = refl
+
+pub negation-binary : (rs p : List ℕ) (n : ℕ) (r : Record) (o : Operator) (x y : Node) (k : Negated) (a b : Operand ℕ)
+    → r ≡ kind.Binary o x y → k ≡ negate o → a ≡ operand (aexprOf rs p (x .0)) → b ≡ operand (aexprOf rs p (y .0))
+    → negatedIn n k a b ≡ classifyNegation (aexprOf rs p) n (toAExpr p r)
+negation-binary rs p n r o x y k a b e f g h =
+    ap (λ j. negatedIn n j a b) f ∙ ap (λ l. negatedIn n (negate o) l b) g
+    ∙ ap (λ l. negatedIn n (negate o) (operand (aexprOf rs p (x .0))) l) h
+    ∙ negated-same (aexprOf rs p) n (x .0) (y .0) o
+    ∙ ap (λ q. classifyNegation (aexprOf rs p) n (toAExpr p q)) (sym e)

@@ -56,6 +56,7 @@ module _ (ks vs ss cs p : List ℕ) (j : ℕ) where
   told-by : (n : ℕ) (k : Conjunct) → getD ks j 0 ≡ kindOf (saidBy k) → getD vs j 0 ≡ literalOf (saidBy k)
       → getD ss j 0 ≡ startOf (saidBy k) → getD cs j 0 ≡ countOf (saidBy k) → ToldConjunct here j (conjunctIn p n k)
   told-by n (conjunct.Bounds a s) = says-told s
+  told-by n (conjunct.Normalized a s) = says-told s
   told-by n (conjunct.Equality a b) = λ h i l m. tt
   told-by n (conjunct.Recorded stops a s) = says-told s
   told-by n (conjunct.NonNullPair a b) = λ h i l m. tt
@@ -82,6 +83,7 @@ module _ (ks vs ss cs p : List ℕ) (j : ℕ) where
 
     pub same-conjunct : (x : c.Conjunct ℕ) → ToldConjunct here j x → ToldConjunct (conjuncts ks′ vs′ ss′ cs′ p) j x
     same-conjunct (c.Bounds a l) h = same-told l h
+    same-conjunct (c.Normalized a l) h = same-told l h
     same-conjunct (c.Equality a b n) h = tt
     same-conjunct (c.Recorded stops n a l) h = same-told l h
     same-conjunct (c.NonNullPair n a b) h = tt

@@ -6,6 +6,8 @@ use mathlib.Core.List.{List, [], _∷_}
 use Prim.Native.Nat.{ℕ}
 use Rattle.records.specs.declared.operator.Operator.{Operator}
 use Rattle.records.specs.declared.operator.Operator.the-variants as operator
+use Rattle.records.specs.declared.operator.Negated.{Negated}
+use Rattle.records.specs.declared.operator.Negated.the-variants as negated
 use Rattle.truth.specs.Comparison as truth
 use Rattle.truth.specs.FromBytes.{closesLow, closesHigh, valuesFrom}
 use Rattle.constraints.specs.Column.{Constraint, Lower, Upper, Allow, Disallow, Require}
@@ -74,6 +76,7 @@ saysIn p (says.Require must) = Require must ∷ []
 
 abbrev pub conjunctIn : List ℕ → ℕ → Conjunct → c.Conjunct ℕ
 conjunctIn p n (conjunct.Bounds a l) = c.Bounds (a .0) (saysIn p l)
+conjunctIn p n (conjunct.Normalized a l) = c.Normalized (a .0) (saysIn p l)
 conjunctIn p n (conjunct.Equality a b) = c.Equality (a .0) (b .0) n
 conjunctIn p n (conjunct.Recorded stops a l) = c.Recorded stops n (a .0) (saysIn p l)
 conjunctIn p n (conjunct.NonNullPair a b) = c.NonNullPair n (a .0) (b .0)
@@ -120,3 +123,8 @@ compared n op (c.AColumn a) right = columnFirst n op a right
 compared n op (c.ALiteral v) right = literalFirst n op v right
 compared n op (c.AList l) right = c.Opaque n
 compared n op c.Other right = c.Opaque n
+
+-- ---- `classify_negation` of a comparison, by what matters of the complementary operator.
+abbrev pub negatedIn : ℕ → Negated → c.Operand ℕ → c.Operand ℕ → c.Conjunct ℕ
+negatedIn n negated.Nothing left right = c.Opaque n
+negatedIn n (negated.To o) left right = c.normalized (compared n (operationOf o) left right)

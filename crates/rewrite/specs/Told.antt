@@ -17,6 +17,7 @@ use Rattle.rewrite.specs.declared.classify.Conjunct.the-variants as conj
 -- What a conjunct says of its column, if it has one.
 abbrev pub saidBy : Conjunct → Says
 saidBy (conjunct.Bounds a s) = s
+saidBy (conjunct.Normalized a s) = s
 saidBy (conjunct.Equality a b) = says.Nothing
 saidBy (conjunct.Recorded stops a s) = s
 saidBy (conjunct.NonNullPair a b) = says.Nothing
@@ -78,6 +79,7 @@ Told t j (a ∷ l) = Holds t j a × Told t j l
 
 abbrev pub ToldConjunct : Conjuncts → ℕ → c.Conjunct ℕ → Type 0
 ToldConjunct t j (c.Bounds a l) = Told t j l
+ToldConjunct t j (c.Normalized a l) = Told t j l
 ToldConjunct t j (c.Equality a b n) = Unit {0}
 ToldConjunct t j (c.Recorded stops n a l) = Told t j l
 ToldConjunct t j (c.NonNullPair n a b) = Unit {0}

@@ -12,11 +12,13 @@ ghost use Rattle.truth.specs.FromBytes.{valuesFrom, toAExpr, aexprOf, closesLow
 ghost use Rattle.merge.specs.Classify as c;
 ghost use Rattle.rewrite.specs.Read.{operationOf, operandIn, listingIn, saysIn, conjunctIn, comparisonIn, swapped};
 ghost use Rattle.rewrite.specs.Read.{swappedOperation, columnLiteral, columnColumn, columnFirst, literalFirst};
-ghost use Rattle.rewrite.specs.Read.{compared};
+ghost use Rattle.rewrite.specs.Read.{compared, negatedIn};
 use constraints::column::Nullability;
 use records::bytes::value_in;
 use records::bytes::word_in;
+use records::operator::Negated;
 use records::operator::Operator;
+use records::operator::negate;
 use records::operator::operator_at;
 use records::record::ClosedInterval;
 use records::record::Column;
@@ -71,6 +73,8 @@ pub enum Says {
 pub enum Conjunct {
     /// Written anew from the merged constraints, so its node is dropped.
     Bounds(Column, Says),
+    /// The same of a negated comparison, which forces the rebuild.
+    Normalized(Column, Says),
     Equality(Column, Column),
     /// Kept, but the column learns of it; whether reading stops if the column became impossible.
     Recorded(bool, Column, Says),
@@ -363,6 +367,30 @@ fn classify_null(must: Nullability, a: Operand) -> Conjunct
 
 // ---- one record
 
+fn normalized(k: Conjunct) -> Conjunct
+    ensures { λ r. ⌜ ((p : List ℕ) (n : ℕ) → conjunctIn p n r ≡ c.normalized (conjunctIn p n k)) ⌝ }
+{
+    match k {
+        Conjunct::Bounds(a, s) => Conjunct::Normalized(a, s),
+        Conjunct::Normalized(a, s) => Conjunct::Normalized(a, s),
+        Conjunct::Equality(a, b) => Conjunct::Equality(a, b),
+        Conjunct::Recorded(stops, a, s) => Conjunct::Recorded(stops, a, s),
+        Conjunct::NonNullPair(a, b) => Conjunct::NonNullPair(a, b),
+        Conjunct::Opaque => Conjunct::Opaque,
+    }
+}
+
+// A comparison below Not, by its complementary operator.
+fn classify_negated(op: Negated, left: Operand, right: Operand) -> Conjunct
+    ensures { λ r. ⌜ ((p : List ℕ) (n : ℕ) → conjunctIn p n r ≡ negatedIn n op (operandIn p left)
+        (operandIn p right)) ⌝ }
+{
+    match op {
+        Negated::Nothing => Conjunct::Opaque,
+        Negated::To(o) => normalized(classify_comparison(operation_of(o), left, right)),
+    }
+}
+
 /// A negated is_in with nulls_equal keeps nulls, so it does not count as a value constraint.
 fn classify_negation(rs: &[u8], r: Record) -> Conjunct
     ensures { λ s. ⌜ ((p : List ℕ) (n : ℕ) → conjunctIn p n s ≡ c.classifyNegation (aexprOf (now (rs .entry)) p) n
@@ -373,7 +401,11 @@ fn classify_negation(rs: &[u8], r: Record) -> Conjunct
         Record::Column(_) => Conjunct::Opaque,
         Record::Literal(_, _) => Conjunct::Opaque,
         Record::Null(_) => Conjunct::Opaque,
-        Record::Binary(_, _, _) => Conjunct::Opaque,
+        Record::Binary(o, x, y) => classify_negated(
+            negate(o),
+            operand_at(rs, x),
+            operand_at(rs, y),
+        ),
         Record::Not(_) => Conjunct::Opaque,
         Record::IsNull(x) => classify_null(Nullability::NonNull, operand_at(rs, x)),
         Record::IsNotNull(x) => classify_null(Nullability::Null, operand_at(rs, x)),

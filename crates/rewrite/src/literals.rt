@@ -21,6 +21,7 @@ fn said_by(k: Conjunct) -> Says
 {
     match k {
         Conjunct::Bounds(_, s) => s,
+        Conjunct::Normalized(_, s) => s,
         Conjunct::Equality(_, _) => Says::Nothing,
         Conjunct::Recorded(_, _, s) => s,
         Conjunct::NonNullPair(_, _) => Says::Nothing,

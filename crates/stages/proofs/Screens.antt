@@ -52,7 +52,7 @@ module _ (R S : ℕ → AExpr ℕ) (n : ℕ) (same : (a : ℕ) → a < n → R a
   negation-agree m h (Column c) i = refl
   negation-agree m h (Literal v) i = refl
   negation-agree m h Null i = refl
-  negation-agree m h (BinaryExpr op x y) i = refl
+  negation-agree m h (BinaryExpr op x y) i = rw (same x (omega (arith, i .0)), same y (omega (arith, i .1)))
   negation-agree m h (Not x) i = refl
   negation-agree m h (IsNull x) i = rw (same x (omega (arith, i)))
   negation-agree m h (IsNotNull x) i = rw (same x (omega (arith, i)))
@@ -157,6 +157,7 @@ column-forms =
       opaque = λ n. tt;
       entered = λ n c h. h;
       compared = λ c o v h k. h;
+      normalized = λ c o v h k. h;
       between = λ c i j v w h k l. h;
       equal = λ a b n h k. (h, k);
       paired = λ n a b h k. (h, k);

@@ -12,7 +12,7 @@ use Rattle.records.specs.Shape.{knownType, inType, maxCode, uses, knownOk, zero
 use Rattle.records.specs.Shape.{literalOk}
 use Rattle.records.specs.Shape.{shapeOk}
 use Rattle.checking.specs.Fit.{allFit, listOk, reachOk, servedOk, typeOf, typeAt, sameType, binaryFits, betweenFits}
-use Rattle.checking.specs.Fit.{isBinary, memberFits, typesOk}
+use Rattle.checking.specs.Fit.{memberFits, typesOk}
 use Rattle.checking.specs.Check.{typesKnown, tableOk, sizesOk, meaningFault, recordFault, firstFault, recordsAnswer}
 use Rattle.checking.specs.Check.{checkAnswer}
 use Rattle.truth.specs.declared.logic.Truth.the-variants.{False, Unknown, True}
@@ -58,6 +58,12 @@ false-below-true =
     testRowAnswer (1 ∷ 1 ∷ [])
     (entry 1 0 0 0 0 0 ++ (entry 1 0 0 1 0 0 ++ (entry 4 0 0 0 1 0 ++ (entry 2 0 3 0 1 0 ++ entry 4 4 0 2 3 0)))) [] 5 4
     (int 3 ++ int 4) 0
+
+-- Not of a comparison of column 0 and column 1
+abbrev negated : ℕ → List ℕ → List ℕ → ℕ → RowAnswer
+negated o x y nulls =
+    testRowAnswer (1 ∷ 1 ∷ [])
+    (entry 1 0 0 0 0 0 ++ (entry 1 0 0 1 0 0 ++ (entry 4 o 0 0 1 0 ++ entry 5 0 0 2 0 0))) [] 4 3 (x ++ y) nulls
 
 -- is_between of column 0 and the literals 1 and 5; with a null for the high end and 7 for the low one
 abbrev between : ℕ → List ℕ → ℕ → RowAnswer
@@ -205,6 +211,11 @@ cases =
     ∷ is (member 0 1 2 (int 0) 1) (Tested Unknown)
     ∷ is (member 1 0 2 (int 0) 1) (Tested False)
     ∷ is (member 1 1 2 (int 0) 1) (Tested True)
+    -- Not of Lt: 3 and 5, 5 and 5, a null and 5; Not of EqValidity at two nulls
+    ∷ is (negated 4 (int 3) (int 5) 0) (Tested False)
+    ∷ is (negated 4 (int 5) (int 5) 0) (Tested True)
+    ∷ is (negated 4 (int 0) (int 5) 1) (Tested Unknown)
+    ∷ is (negated 1 (int 0) (int 0) 3) (Tested False)
     -- a literal, a null and a column as the root
     ∷ is (alone (entry 2 0 3 0 1 0) 0) (Tested True)
     ∷ is (alone (entry 2 0 3 0 0 0) 0) (Tested False)
@@ -220,7 +231,7 @@ cases =
     ∷ []
 
 all-hold : askedOf cases ≡ toldOf cases
-unfolding isBinary word valueAt all first upTo course operatorAt fieldsAt closedAt decode recordAt knownType
+unfolding word valueAt all first upTo course operatorAt fieldsAt closedAt decode recordAt knownType
     inType maxCode uses knownOk zeroOr unusedOk literalOk shapeOk allFit listOk reachOk
     servedOk typeOf typeAt sameType binaryFits betweenFits memberFits typesOk typesKnown tableOk sizesOk
     meaningFault recordFault firstFault recordsAnswer checkAnswer valuesFrom aexprOf aexprAt rowKeys columnOk

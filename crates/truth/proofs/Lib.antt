@@ -3,6 +3,7 @@ pub mod HalfPoints
 pub mod Keys
 pub mod Tables
 pub mod Cells
+pub mod Negations
 pub mod Agree
 pub mod Lists
 pub mod Evaluation

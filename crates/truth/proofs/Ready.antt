@@ -177,11 +177,11 @@ module _ (f : Fields) where
   binary-code k e =
       let h : f .code ≤ 19 = leb-true (f .code) 19 (rw k at (code-known e)) in omega arith
 
-  operator-fit : (rs : List ℕ) → f .kind ≡ 4 → shapeOk f ≡ true → servedOk rs (decode f) ≡ true → Served (f .code)
+  operator-fit : f .kind ≡ 4 → shapeOk f ≡ true → servedOk (decode f) ≡ true → Served (f .code)
   unfolding operatorAt servedOk
-  operator-fit rs k sh sv =
+  operator-fit k sh sv =
       each-at (λ k. not (isLeftOut (operatorAt k)) ≡ true → Served k) 20 (f .code) served-each (binary-code k sh)
-      (subst (λ r. servedOk rs r ≡ true) (decode-binary k) sv)
+      (subst (λ r. servedOk r ≡ true) (decode-binary k) sv)
 
   column-fit :
       (t p row : List ℕ) (n : ℕ) → length t ≤ 64 → length row ≡ 8 * length t → f .kind ≡ 1 →
@@ -236,7 +236,7 @@ module _ (t rs p row : List ℕ) (used root : ℕ) (ok : Checked t rs p used roo
       let c = ok .records n h in
       record {
         inputs = inputs-fit t rs p used root ok n h;
-        operator = λ k. operator-fit (fieldsAt rs (node n)) rs k (c .shape) (c .served);
+        operator = λ k. operator-fit (fieldsAt rs (node n)) k (c .shape) (c .served);
         column = λ k. column-fit (fieldsAt rs (node n)) t p row n (columns-small t rs p used root ok) long k (c .reach);
         list = λ k. list-fit (fieldsAt rs (node n)) t p n k (c .reach);
         member =

@@ -6,5 +6,6 @@ pub mod AExpr
 pub mod Membership
 pub mod Cell
 pub mod FromBytes
+pub mod Negation
 pub mod Evaluate
 pub mod RowTest

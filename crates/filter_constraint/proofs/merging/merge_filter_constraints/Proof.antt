@@ -228,7 +228,7 @@ returns-2 c =
     let if2 = c .before .before .before .before .if2 in
     let nothing-passes2 = c .before .before .nothing-passes2 in
     answered-as (st .args .t .now) _ (st .args .trees .now) _ _ _ _ _ (outcome-is _ _ _ ∙ conclude-dead _ _ _ _
-    _ _ _ _ _ _ _ _ _ _ _ _ _ _ _ _ _ (collect .ensures .0 .1) (if1 .left) _ _ (propagate-equalities .ensures
+    _ _ _ _ _ _ _ _ _ _ _ _ _ _ _ _ _ _ (collect .ensures .0 .1) (if1 .left) _ _ (propagate-equalities .ensures
     .0) _ (keep-equalities .ensures .0) _ _ (resolve-all .ensures .0) (if2 .taken)) (nothing-passes2 .ensures .0
     (st .args .trees .now), nothing-passes2 .ensures .1 (st .args .t .now))
 
@@ -241,46 +241,15 @@ same-length-6 : tie.Need-same-length-6
 same-length-6 c =
     let marks = c .before .before .before .before .before .before .before .before .before .before .before
         .before .before .before .before .before .before .before .before .before .before .before .before .before
-        .before .before .before .before .before .before .before .before .before .before .marks in
+        .before .before .before .before .before .before .before .before .before .before .before .marks in
     let marks2 = c .before .before .before .before .before .before .before .before .before .before .before
-        .before .before .before .before .before .before .before .before .before .marks2 in
-    let marks3 = c .before .before .before .before .before .before .before .marks3 in
+        .before .before .before .before .before .before .before .before .before .before .marks2 in
+    let marks3 = c .before .before .before .before .before .before .before .before .marks3 in
     marks3 .given ∙ marks2 .given ∙ marks .given
 
 -- src/merging.rt:111:9
 returns-3 : tie.Need-returns-3
 returns-3 c =
-    let st = c .before .before .before .before .before .before .before .before .before .before .before .before
-        .before .before .before .before .before .before .before .before .before .before .before .before .before
-        .before .before .before .before .before .before .before .before .before .before .before .before .before
-        .before .before .before .before .before .before .before .before .before .before .before .before .before
-        .before .before .before .before in
-    let collect = c .before .before .before .before .before .before .before .before .before .before .before
-        .before .before .before .before .before .before .before .before .before .before .before .before .before
-        .before .before .before .before .before .before .before .before .before .before .before .before .collect
-        in
-    let if1 = c .before .before .before .before .before .before .before .before .before .before .before .before
-        .before .before .before .before .before .before .before .before .before .before .before .before .before
-        .before .before .if1 in
-    let propagate-equalities = c .before .before .before .before .before .before .before .before .before .before
-        .before .before .before .before .before .before .before .before .before .before .before .before
-        .propagate-equalities in
-    let keep-equalities = c .before .before .before .before .before .before .before .before .before .before
-        .before .before .before .before .keep-equalities in
-    let resolve-all = c .before .before .before .before .before .before .before .before .before .resolve-all in
-    let if2 = c .before .before .before .before .before .if2 in
-    let if3 = c .if3 in
-    answered-as (st .args .t .now) _ (st .args .trees .now) _ _ _ _ _ (outcome-is _ _ _ ∙ conclude-same _ _ _ _
-    _ _ _ _ _ _ _ _ _ _ _ _ _ _ _ _ _ (collect .ensures .0 .1) (if1 .left) _ _ (propagate-equalities .ensures
-    .0) _ (keep-equalities .ensures .0) _ _ (resolve-all .ensures .0) (if2 .left) (if3 .taken)) (refl, refl)
-
--- src/merging.rt:113:50
-slice-aggregate-rebuilt-answer : tie.Need-slice-aggregate-rebuilt-answer
-slice-aggregate-rebuilt-answer c = search needs
-
--- src/merging.rt:113:9
-rebuilt-answer-requires : tie.Need-rebuilt-answer-requires
-rebuilt-answer-requires c κs =
     let st = c .before .before .before .before .before .before .before .before .before .before .before .before
         .before .before .before .before .before .before .before .before .before .before .before .before .before
         .before .before .before .before .before .before .before .before .before .before .before .before .before
@@ -301,6 +270,38 @@ rebuilt-answer-requires c κs =
     let resolve-all = c .before .before .before .before .before .before .before .before .before .before
         .resolve-all in
     let if2 = c .before .before .before .before .before .before .if2 in
+    let if3 = c .if3 in
+    answered-as (st .args .t .now) _ (st .args .trees .now) _ _ _ _ _ (outcome-is _ _ _ ∙ conclude-same _ _ _ _
+    _ _ _ _ _ _ _ _ _ _ _ _ _ _ _ _ _ _ (collect .ensures .0 .1) (if1 .left) _ _ (propagate-equalities .ensures
+    .0) _ (keep-equalities .ensures .0) _ _ (resolve-all .ensures .0) (if2 .left) (if3 .taken)) (refl, refl)
+
+-- src/merging.rt:113:50
+slice-aggregate-rebuilt-answer : tie.Need-slice-aggregate-rebuilt-answer
+slice-aggregate-rebuilt-answer c = search needs
+
+-- src/merging.rt:113:9
+rebuilt-answer-requires : tie.Need-rebuilt-answer-requires
+rebuilt-answer-requires c κs =
+    let st = c .before .before .before .before .before .before .before .before .before .before .before .before
+        .before .before .before .before .before .before .before .before .before .before .before .before .before
+        .before .before .before .before .before .before .before .before .before .before .before .before .before
+        .before .before .before .before .before .before .before .before .before .before .before .before .before
+        .before .before .before .before .before .before in
+    let collect = c .before .before .before .before .before .before .before .before .before .before .before
+        .before .before .before .before .before .before .before .before .before .before .before .before .before
+        .before .before .before .before .before .before .before .before .before .before .before .before .before
+        .before .collect in
+    let if1 = c .before .before .before .before .before .before .before .before .before .before .before .before
+        .before .before .before .before .before .before .before .before .before .before .before .before .before
+        .before .before .before .before .if1 in
+    let propagate-equalities = c .before .before .before .before .before .before .before .before .before .before
+        .before .before .before .before .before .before .before .before .before .before .before .before .before
+        .before .propagate-equalities in
+    let keep-equalities = c .before .before .before .before .before .before .before .before .before .before
+        .before .before .before .before .before .before .keep-equalities in
+    let resolve-all = c .before .before .before .before .before .before .before .before .before .before .before
+        .resolve-all in
+    let if2 = c .before .before .before .before .before .before .before .if2 in
     let if3 = c .before .if3 in
     let z = keep-equalities .ensures .0 _ _ _ _ [] (propagate-equalities .ensures .0 _ [] (collect .ensures .0
         .1 .shows) .shows) (collect .ensures .0 .1 .keeping) .keeping .size in
@@ -308,12 +309,12 @@ rebuilt-answer-requires c κs =
     .ensures .1 .2, st .pre .0 .0, st .pre .0 .1), omega (arith, keep-equalities .ensures .1, collect .ensures
     .1 .0, collect .ensures .1 .1, collect .ensures .1 .2, st .pre .0 .0, st .pre .0 .1), st .pre .0 .2, omega
     (arith, resolve-all .ensures .1 .1, collect .ensures .1 .0, collect .ensures .1 .1, collect .ensures .1 .2,
-    st .pre .0 .0, st .pre .0 .1), compared-some (aexprOf (st .args .rs .now) (st .args .p .now)) 
-    (st .args .nodes .now) (st .args .n) _ _ _ (outcome-is _ _ _ ∙ conclude-rebuilt _ _ _ _ _ _ _
-    _ _ _ _ _ _ _ _ _ _ _ _ _ _ (collect .ensures .0 .1) (if1 .left) _ _ (propagate-equalities .ensures .0) _
-    (keep-equalities .ensures .0) _ _ (resolve-all .ensures .0) (if2 .left) (if3 .left)) (total-is _ _ _ _ _ _ _
-    _ _ _ _ _ _ _ _ _ _ _ _ _ _ (collect .ensures .0 .1) (if1 .left) _ _ (propagate-equalities .ensures .0) _
-    (keep-equalities .ensures .0) _ _ (resolve-all .ensures .0)))
+    st .pre .0 .0, st .pre .0 .1), compared-some (aexprOf (st .args .rs .now) (st .args .p .now)) (st .args
+    .nodes .now) (st .args .n) _ _ _ (outcome-is _ _ _ ∙ conclude-rebuilt _ _ _ _ _ _ _ _ _ _ _ _ _ _ _ _ _ _ _
+    _ _ _ (collect .ensures .0 .1) (if1 .left) _ _ (propagate-equalities .ensures .0) _ (keep-equalities
+    .ensures .0) _ _ (resolve-all .ensures .0) (if2 .left) (if3 .left)) (total-is _ _ _ _ _ _ _ _ _ _ _ _ _ _ _
+    _ _ _ _ _ _ _ (collect .ensures .0 .1) (if1 .left) _ _ (propagate-equalities .ensures .0) _ (keep-equalities
+    .ensures .0) _ _ (resolve-all .ensures .0)))
 
 -- src/merging.rt:114:9
 is-rewritten-requires : tie.Need-is-rewritten-requires
@@ -329,12 +330,12 @@ same-length-8 c =
     let marks = c .before .before .before .before .before .before .before .before .before .before .before
         .before .before .before .before .before .before .before .before .before .before .before .before .before
         .before .before .before .before .before .before .before .before .before .before .before .before .before
-        .before .marks in
+        .before .before .marks in
     let marks2 = c .before .before .before .before .before .before .before .before .before .before .before
         .before .before .before .before .before .before .before .before .before .before .before .before .before
-        .marks2 in
+        .before .marks2 in
     let marks3 = c .before .before .before .before .before .before .before .before .before .before .before
-        .marks3 in
+        .before .marks3 in
     marks3 .given ∙ marks2 .given ∙ marks .given
 
 -- src/merging.rt:115:9
@@ -344,36 +345,36 @@ returns-4 c =
         .before .before .before .before .before .before .before .before .before .before .before .before .before
         .before .before .before .before .before .before .before .before .before .before .before .before .before
         .before .before .before .before .before .before .before .before .before .before .before .before .before
-        .before .before .before .before .before .before .before .before in
+        .before .before .before .before .before .before .before .before .before in
     let collect = c .before .before .before .before .before .before .before .before .before .before .before
         .before .before .before .before .before .before .before .before .before .before .before .before .before
         .before .before .before .before .before .before .before .before .before .before .before .before .before
-        .before .before .before .collect in
+        .before .before .before .before .collect in
     let if1 = c .before .before .before .before .before .before .before .before .before .before .before .before
         .before .before .before .before .before .before .before .before .before .before .before .before .before
-        .before .before .before .before .before .before .if1 in
+        .before .before .before .before .before .before .before .if1 in
     let propagate-equalities = c .before .before .before .before .before .before .before .before .before .before
         .before .before .before .before .before .before .before .before .before .before .before .before .before
-        .before .before .before .propagate-equalities in
+        .before .before .before .before .propagate-equalities in
     let keep-equalities = c .before .before .before .before .before .before .before .before .before .before
-        .before .before .before .before .before .before .before .before .keep-equalities in
+        .before .before .before .before .before .before .before .before .before .keep-equalities in
     let resolve-all = c .before .before .before .before .before .before .before .before .before .before .before
-        .before .before .resolve-all in
-    let if2 = c .before .before .before .before .before .before .before .before .before .if2 in
+        .before .before .before .resolve-all in
+    let if2 = c .before .before .before .before .before .before .before .before .before .before .if2 in
     let if3 = c .before .before .before .before .if3 in
     let rebuilt-answer = c .before .before .rebuilt-answer in
     let is-rewritten = c .before .is-rewritten in
     let if4 = c .if4 in
     answered-as (st .args .t .now) _ (st .args .trees .now) _ _ _ _ _ (outcome-is _ _ _ ∙ conclude-rebuilt _ _ _
-    _ _ _ _ _ _ _ _ _ _ _ _ _ _ _ _ _ _ (collect .ensures .0 .1) (if1 .left) _ _ (propagate-equalities .ensures
-    .0) _ (keep-equalities .ensures .0) _ _ (resolve-all .ensures .0) (if2 .left) (if3 .left)) (chain-refused
-    (st .args .t .now) (st .args .rs .now) (st .args .trees .now) (st .args .used) _ _ _ (comparisons payload
-    (firstOf (collect .last .1 .1 .1 .1 .1 .1 .1 .1 .1 .1 .0) (collect .result .columns)) (shown (conjuncts (st
-    .args .kinds .now) (st .args .values .now) (st .args .starts .now) (st .args .counts .now) (st .args .p
-    .now)) (columnsOf (resolve-all .last .1 .1 .1 .1 .1 .0)) (resolve-all .last .1 .1 .1 .1 .1 .1 .0))) _
-    (rebuilt-answer .ensures) (total-is _ _ _ _ _ _ _ _ _ _ _ _ _ _ _ _ _ _ _ _ _ (collect .ensures .0 .1) (if1
-    .left) _ _ (propagate-equalities .ensures .0) _ (keep-equalities .ensures .0) _ _ (resolve-all .ensures .0))
-    _ (is-rewritten .ensures) (if4 .taken))
+    _ _ _ _ _ _ _ _ _ _ _ _ _ _ _ _ _ _ _ (collect .ensures .0 .1) (if1 .left) _ _ (propagate-equalities
+    .ensures .0) _ (keep-equalities .ensures .0) _ _ (resolve-all .ensures .0) (if2 .left) (if3 .left))
+    (chain-refused (st .args .t .now) (st .args .rs .now) (st .args .trees .now) (st .args .used) _ _ _
+    (comparisons payload (firstOf (collect .last .1 .1 .1 .1 .1 .1 .1 .1 .1 .1 .0) (collect .result .columns))
+    (shown (conjuncts (st .args .kinds .now) (st .args .values .now) (st .args .starts .now) (st .args .counts
+    .now) (st .args .p .now)) (columnsOf (resolve-all .last .1 .1 .1 .1 .1 .0)) (resolve-all .last .1 .1 .1 .1
+    .1 .1 .0))) _ (rebuilt-answer .ensures) (total-is _ _ _ _ _ _ _ _ _ _ _ _ _ _ _ _ _ _ _ _ _ _ (collect
+    .ensures .0 .1) (if1 .left) _ _ (propagate-equalities .ensures .0) _ (keep-equalities .ensures .0) _ _
+    (resolve-all .ensures .0)) _ (is-rewritten .ensures) (if4 .taken))
 
 -- src/merging.rt:117:59
 slice-aggregate-write-comparisons : tie.Need-slice-aggregate-write-comparisons
@@ -385,7 +386,7 @@ slice-aggregate-write-comparisons-2 c =
     let collect = c .before .before .before .before .before .before .before .before .before .before .before
         .before .before .before .before .before .before .before .before .before .before .before .before .before
         .before .before .before .before .before .before .before .before .before .before .before .before .before
-        .before .before .before .before .before .before .before .collect in
+        .before .before .before .before .before .before .before .before .collect in
     search (needs, collect .ensures .0 .1 .entered .order-size)
 
 -- src/merging.rt:117:9
@@ -395,24 +396,25 @@ write-comparisons-requires c κs =
         .before .before .before .before .before .before .before .before .before .before .before .before .before
         .before .before .before .before .before .before .before .before .before .before .before .before .before
         .before .before .before .before .before .before .before .before .before .before .before .before .before
-        .before .before .before .before .before .before .before .before .before .before .before .before in
+        .before .before .before .before .before .before .before .before .before .before .before .before .before
+        in
     let collect = c .before .before .before .before .before .before .before .before .before .before .before
         .before .before .before .before .before .before .before .before .before .before .before .before .before
         .before .before .before .before .before .before .before .before .before .before .before .before .before
-        .before .before .before .before .before .before .before .collect in
+        .before .before .before .before .before .before .before .before .collect in
     let if1 = c .before .before .before .before .before .before .before .before .before .before .before .before
         .before .before .before .before .before .before .before .before .before .before .before .before .before
-        .before .before .before .before .before .before .before .before .before .before .if1 in
+        .before .before .before .before .before .before .before .before .before .before .before .if1 in
     let propagate-equalities = c .before .before .before .before .before .before .before .before .before .before
         .before .before .before .before .before .before .before .before .before .before .before .before .before
-        .before .before .before .before .before .before .before .propagate-equalities in
+        .before .before .before .before .before .before .before .before .propagate-equalities in
     let keep-equalities = c .before .before .before .before .before .before .before .before .before .before
-        .before .before .before .before .before .before .before .before .before .before .before .before
+        .before .before .before .before .before .before .before .before .before .before .before .before .before
         .keep-equalities in
     let resolve-all = c .before .before .before .before .before .before .before .before .before .before .before
-        .before .before .before .before .before .before .resolve-all in
+        .before .before .before .before .before .before .before .resolve-all in
     let if2 = c .before .before .before .before .before .before .before .before .before .before .before .before
-        .before .if2 in
+        .before .before .if2 in
     let if3 = c .before .before .before .before .before .before .before .before .if3 in
     let rebuilt-answer = c .before .before .before .before .before .before .rebuilt-answer in
     let is-rewritten = c .before .before .before .before .before .is-rewritten in
@@ -424,20 +426,20 @@ write-comparisons-requires c κs =
     λ s ek ev. room-asked (conjuncts (st .args .kinds .now) (st .args .values .now) (st .args .starts .now) (st
     .args .counts .now) (st .args .p .now)) s (columnsOf (resolve-all .last .1 .1 .1 .1 .1 .0)) (resolve-all
     .last .1 .1 .1 .1 .1 .1 .0) (collect .last .1 .1 .1 .1 .1 .1 .1 .1 .1 .1 .0) _ _ _ _ _ (total-is _ _ _ _ _ _
-    _ _ _ _ _ _ _ _ _ _ _ _ _ _ _ (collect .ensures .0 .1) (if1 .left) _ _ (propagate-equalities .ensures .0) _
-    (keep-equalities .ensures .0) _ _ (resolve-all .ensures .0)) (chain-room (st .args .t .now) (st .args .rs
+    _ _ _ _ _ _ _ _ _ _ _ _ _ _ _ _ (collect .ensures .0 .1) (if1 .left) _ _ (propagate-equalities .ensures .0)
+    _ (keep-equalities .ensures .0) _ _ (resolve-all .ensures .0)) (chain-room (st .args .t .now) (st .args .rs
     .now) (st .args .trees .now) (st .args .used) _ _ _ (comparisons payload (firstOf (collect .last .1 .1 .1 .1
     .1 .1 .1 .1 .1 .1 .0) (collect .result .columns)) (shown (conjuncts (st .args .kinds .now) (st .args .values
     .now) (st .args .starts .now) (st .args .counts .now) (st .args .p .now)) (columnsOf (resolve-all .last .1
     .1 .1 .1 .1 .0)) (resolve-all .last .1 .1 .1 .1 .1 .1 .0))) _ (rebuilt-answer .ensures) (total-is _ _ _ _ _
-    _ _ _ _ _ _ _ _ _ _ _ _ _ _ _ _ (collect .ensures .0 .1) (if1 .left) _ _ (propagate-equalities .ensures .0)
-    _ (keep-equalities .ensures .0) _ _ (resolve-all .ensures .0)) _ (is-rewritten .ensures) (if4 .left)
-    (compared-some (aexprOf (st .args .rs .now) (st .args .p .now)) 
-    (st .args .nodes .now) (st .args .n) _ _ _ (outcome-is _ _ _ ∙ conclude-rebuilt _ _ _ _ _ _ _ _ _ _ _ _ _ _ _ _ _ _ _ _ _
-    (collect .ensures .0 .1) (if1 .left) _ _ (propagate-equalities .ensures .0) _ (keep-equalities .ensures .0)
-    _ _ (resolve-all .ensures .0) (if2 .left) (if3 .left)) (total-is _ _ _ _ _ _ _ _ _ _ _ _ _ _ _ _ _ _ _ _ _
-    (collect .ensures .0 .1) (if1 .left) _ _ (propagate-equalities .ensures .0) _ (keep-equalities .ensures .0)
-    _ _ (resolve-all .ensures .0)))) ek ev))
+    _ _ _ _ _ _ _ _ _ _ _ _ _ _ _ _ _ (collect .ensures .0 .1) (if1 .left) _ _ (propagate-equalities .ensures
+    .0) _ (keep-equalities .ensures .0) _ _ (resolve-all .ensures .0)) _ (is-rewritten .ensures) (if4 .left)
+    (compared-some (aexprOf (st .args .rs .now) (st .args .p .now)) (st .args .nodes .now) (st .args .n) _ _ _
+    (outcome-is _ _ _ ∙ conclude-rebuilt _ _ _ _ _ _ _ _ _ _ _ _ _ _ _ _ _ _ _ _ _ _ (collect .ensures .0 .1)
+    (if1 .left) _ _ (propagate-equalities .ensures .0) _ (keep-equalities .ensures .0) _ _ (resolve-all .ensures
+    .0) (if2 .left) (if3 .left)) (total-is _ _ _ _ _ _ _ _ _ _ _ _ _ _ _ _ _ _ _ _ _ _ (collect .ensures .0 .1)
+    (if1 .left) _ _ (propagate-equalities .ensures .0) _ (keep-equalities .ensures .0) _ _ (resolve-all .ensures
+    .0)))) ek ev))
 
 -- src/merging.rt:118:20
 slice-aggregate-write-ands : tie.Need-slice-aggregate-write-ands
@@ -445,15 +447,15 @@ slice-aggregate-write-ands c =
     let collect = c .before .before .before .before .before .before .before .before .before .before .before
         .before .before .before .before .before .before .before .before .before .before .before .before .before
         .before .before .before .before .before .before .before .before .before .before .before .before .before
-        .before .before .before .before .before .before .before .before .before .before .before .before .collect
-        in
+        .before .before .before .before .before .before .before .before .before .before .before .before .before
+        .collect in
     let propagate-equalities = c .before .before .before .before .before .before .before .before .before .before
         .before .before .before .before .before .before .before .before .before .before .before .before .before
-        .before .before .before .before .before .before .before .before .before .before .before .before
+        .before .before .before .before .before .before .before .before .before .before .before .before .before
         .propagate-equalities in
     let keep-equalities = c .before .before .before .before .before .before .before .before .before .before
         .before .before .before .before .before .before .before .before .before .before .before .before .before
-        .before .before .before .before .keep-equalities in
+        .before .before .before .before .before .keep-equalities in
     search (needs, keep-equalities .ensures .0 _ _ _ _ [] (propagate-equalities .ensures .0 _ [] (collect
     .ensures .0 .1 .shows) .shows) (collect .ensures .0 .1 .keeping) .keeping .size)
 
@@ -465,18 +467,18 @@ add-write-ands c =
         .before .before .before .before .before .before .before .before .before .before .before .before .before
         .before .before .before .before .before .before .before .before .before .before .before .before .before
         .before .before .before .before .before .before .before .before .before .before .before .before .before
-        .before .before .before .before .before .before in
+        .before .before .before .before .before .before .before in
     let collect = c .before .before .before .before .before .before .before .before .before .before .before
         .before .before .before .before .before .before .before .before .before .before .before .before .before
         .before .before .before .before .before .before .before .before .before .before .before .before .before
         .before .before .before .before .before .before .before .before .before .before .before .before .before
-        .before .collect in
+        .before .before .collect in
     let keep-equalities = c .before .before .before .before .before .before .before .before .before .before
         .before .before .before .before .before .before .before .before .before .before .before .before .before
-        .before .before .before .before .before .before .keep-equalities in
+        .before .before .before .before .before .before .before .keep-equalities in
     let resolve-all = c .before .before .before .before .before .before .before .before .before .before .before
         .before .before .before .before .before .before .before .before .before .before .before .before .before
-        .resolve-all in
+        .before .resolve-all in
     omega (arith, keep-equalities .ensures .1, resolve-all .ensures .1 .1, collect .ensures .1 .0, collect
     .ensures .1 .1, collect .ensures .1 .2, st .pre .0 .0, st .pre .0 .1)
 
@@ -488,28 +490,28 @@ write-ands-requires c κs =
         .before .before .before .before .before .before .before .before .before .before .before .before .before
         .before .before .before .before .before .before .before .before .before .before .before .before .before
         .before .before .before .before .before .before .before .before .before .before .before .before .before
-        .before .before .before .before .before .before in
+        .before .before .before .before .before .before .before in
     let collect = c .before .before .before .before .before .before .before .before .before .before .before
         .before .before .before .before .before .before .before .before .before .before .before .before .before
         .before .before .before .before .before .before .before .before .before .before .before .before .before
         .before .before .before .before .before .before .before .before .before .before .before .before .before
-        .before .collect in
+        .before .before .collect in
     let if1 = c .before .before .before .before .before .before .before .before .before .before .before .before
         .before .before .before .before .before .before .before .before .before .before .before .before .before
         .before .before .before .before .before .before .before .before .before .before .before .before .before
-        .before .before .before .before .if1 in
+        .before .before .before .before .before .if1 in
     let propagate-equalities = c .before .before .before .before .before .before .before .before .before .before
         .before .before .before .before .before .before .before .before .before .before .before .before .before
         .before .before .before .before .before .before .before .before .before .before .before .before .before
-        .before .propagate-equalities in
+        .before .before .propagate-equalities in
     let keep-equalities = c .before .before .before .before .before .before .before .before .before .before
         .before .before .before .before .before .before .before .before .before .before .before .before .before
-        .before .before .before .before .before .before .keep-equalities in
+        .before .before .before .before .before .before .before .keep-equalities in
     let resolve-all = c .before .before .before .before .before .before .before .before .before .before .before
         .before .before .before .before .before .before .before .before .before .before .before .before .before
-        .resolve-all in
+        .before .resolve-all in
     let if2 = c .before .before .before .before .before .before .before .before .before .before .before .before
-        .before .before .before .before .before .before .before .before .if2 in
+        .before .before .before .before .before .before .before .before .before .if2 in
     let if3 = c .before .before .before .before .before .before .before .before .before .before .before .before
         .before .before .before .if3 in
     let rebuilt-answer = c .before .before .before .before .before .before .before .before .before .before
@@ -525,20 +527,21 @@ write-ands-requires c κs =
         .starts .now) (st .args .counts .now) (st .args .p .now)) (columnsOf (resolve-all .last .1 .1 .1 .1 .1
         .0)) (resolve-all .last .1 .1 .1 .1 .1 .1 .0))) _ _ _ _ _ (write-comparisons .ensures (conjuncts (st
         .args .kinds .now) (st .args .values .now) (st .args .starts .now) (st .args .counts .now) (st .args .p
-        .now)) refl refl) (total-is _ _ _ _ _ _ _ _ _ _ _ _ _ _ _ _ _ _ _ _ _ (collect .ensures .0 .1) (if1
+        .now)) refl refl) (total-is _ _ _ _ _ _ _ _ _ _ _ _ _ _ _ _ _ _ _ _ _ _ (collect .ensures .0 .1) (if1
         .left) _ _ (propagate-equalities .ensures .0) _ (keep-equalities .ensures .0) _ _ (resolve-all .ensures
         .0)) (chain-room (st .args .t .now) (st .args .rs .now) (st .args .trees .now) (st .args .used) _ _ _
         (comparisons payload (firstOf (collect .last .1 .1 .1 .1 .1 .1 .1 .1 .1 .1 .0) (collect .result
         .columns)) (shown (conjuncts (st .args .kinds .now) (st .args .values .now) (st .args .starts .now) (st
         .args .counts .now) (st .args .p .now)) (columnsOf (resolve-all .last .1 .1 .1 .1 .1 .0)) (resolve-all
         .last .1 .1 .1 .1 .1 .1 .0))) _ (rebuilt-answer .ensures) (total-is _ _ _ _ _ _ _ _ _ _ _ _ _ _ _ _ _ _
-        _ _ _ (collect .ensures .0 .1) (if1 .left) _ _ (propagate-equalities .ensures .0) _ (keep-equalities
-        .ensures .0) _ _ (resolve-all .ensures .0)) _ (is-rewritten .ensures) (if4 .left) (compared-some (aexprOf (st .args .rs .now) (st .args .p .now)) 
-    (st .args .nodes .now) (st .args .n) _ _ _ (outcome-is _ _ _ ∙ conclude-rebuilt _ _ _ _ _ _ _ _ _ _ _ _ _ _ _ _ _ _ _ _ _ (collect .ensures .0
+        _ _ _ _ (collect .ensures .0 .1) (if1 .left) _ _ (propagate-equalities .ensures .0) _ (keep-equalities
+        .ensures .0) _ _ (resolve-all .ensures .0)) _ (is-rewritten .ensures) (if4 .left) (compared-some
+        (aexprOf (st .args .rs .now) (st .args .p .now)) (st .args .nodes .now) (st .args .n) _ _ _ (outcome-is
+        _ _ _ ∙ conclude-rebuilt _ _ _ _ _ _ _ _ _ _ _ _ _ _ _ _ _ _ _ _ _ _ (collect .ensures .0 .1) (if1
+        .left) _ _ (propagate-equalities .ensures .0) _ (keep-equalities .ensures .0) _ _ (resolve-all .ensures
+        .0) (if2 .left) (if3 .left)) (total-is _ _ _ _ _ _ _ _ _ _ _ _ _ _ _ _ _ _ _ _ _ _ (collect .ensures .0
         .1) (if1 .left) _ _ (propagate-equalities .ensures .0) _ (keep-equalities .ensures .0) _ _ (resolve-all
-        .ensures .0) (if2 .left) (if3 .left)) (total-is _ _ _ _ _ _ _ _ _ _ _ _ _ _ _ _ _ _ _ _ _ (collect
-        .ensures .0 .1) (if1 .left) _ _ (propagate-equalities .ensures .0) _ (keep-equalities .ensures .0) _ _
-        (resolve-all .ensures .0)))) in
+        .ensures .0)))) in
     (omega (arith, z, keep-equalities .ensures .1, collect .ensures .1 .0, collect .ensures .1 .1, collect
     .ensures .1 .2, st .pre .0 .0, st .pre .0 .1), omega (arith, st .pre .0 .2), omega (arith, r .0), omega
     (arith, r .0), r .1)
@@ -554,14 +557,14 @@ same-length-10 c =
         .before .before .before .before .before .before .before .before .before .before .before .before .before
         .before .before .before .before .before .before .before .before .before .before .before .before .before
         .before .before .before .before .before .before .before .before .before .before .before .before .before
-        .before .before .marks in
+        .before .before .before .marks in
     let marks2 = c .before .before .before .before .before .before .before .before .before .before .before
         .before .before .before .before .before .before .before .before .before .before .before .before .before
         .before .before .before .before .before .before .before .before .before .before .before .before .before
-        .before .marks2 in
+        .before .before .marks2 in
     let marks3 = c .before .before .before .before .before .before .before .before .before .before .before
         .before .before .before .before .before .before .before .before .before .before .before .before .before
-        .before .marks3 in
+        .before .before .marks3 in
     marks3 .given ∙ marks2 .given ∙ marks .given
 
 -- src/merging.rt:32:1
@@ -572,28 +575,28 @@ returns-5 c =
         .before .before .before .before .before .before .before .before .before .before .before .before .before
         .before .before .before .before .before .before .before .before .before .before .before .before .before
         .before .before .before .before .before .before .before .before .before .before .before .before .before
-        .before .before .before .before .before .before .before .before .before in
+        .before .before .before .before .before .before .before .before .before .before in
     let collect = c .before .before .before .before .before .before .before .before .before .before .before
         .before .before .before .before .before .before .before .before .before .before .before .before .before
         .before .before .before .before .before .before .before .before .before .before .before .before .before
         .before .before .before .before .before .before .before .before .before .before .before .before .before
-        .before .before .before .before .collect in
+        .before .before .before .before .before .collect in
     let if1 = c .before .before .before .before .before .before .before .before .before .before .before .before
         .before .before .before .before .before .before .before .before .before .before .before .before .before
         .before .before .before .before .before .before .before .before .before .before .before .before .before
-        .before .before .before .before .before .before .before .if1 in
+        .before .before .before .before .before .before .before .before .if1 in
     let propagate-equalities = c .before .before .before .before .before .before .before .before .before .before
         .before .before .before .before .before .before .before .before .before .before .before .before .before
         .before .before .before .before .before .before .before .before .before .before .before .before .before
-        .before .before .before .before .propagate-equalities in
+        .before .before .before .before .before .propagate-equalities in
     let keep-equalities = c .before .before .before .before .before .before .before .before .before .before
         .before .before .before .before .before .before .before .before .before .before .before .before .before
-        .before .before .before .before .before .before .before .before .before .keep-equalities in
+        .before .before .before .before .before .before .before .before .before .before .keep-equalities in
     let resolve-all = c .before .before .before .before .before .before .before .before .before .before .before
         .before .before .before .before .before .before .before .before .before .before .before .before .before
-        .before .before .before .resolve-all in
+        .before .before .before .before .resolve-all in
     let if2 = c .before .before .before .before .before .before .before .before .before .before .before .before
-        .before .before .before .before .before .before .before .before .before .before .before .if2 in
+        .before .before .before .before .before .before .before .before .before .before .before .before .if2 in
     let if3 = c .before .before .before .before .before .before .before .before .before .before .before .before
         .before .before .before .before .before .before .if3 in
     let rebuilt-answer = c .before .before .before .before .before .before .before .before .before .before
@@ -606,19 +609,19 @@ returns-5 c =
         .write-comparisons in
     let write-ands = c .before .before .write-ands in
     answered-as (st .args .t .now) _ (st .args .trees .now) _ _ _ _ _ (outcome-is _ _ _ ∙ conclude-rebuilt _ _ _
-    _ _ _ _ _ _ _ _ _ _ _ _ _ _ _ _ _ _ (collect .ensures .0 .1) (if1 .left) _ _ (propagate-equalities .ensures
-    .0) _ (keep-equalities .ensures .0) _ _ (resolve-all .ensures .0) (if2 .left) (if3 .left)) (chain-answered
-    (st .args .t .now) (st .args .rs .now) (st .args .trees .now) (st .args .used) _ _ _ (comparisons payload
-    (firstOf (collect .last .1 .1 .1 .1 .1 .1 .1 .1 .1 .1 .0) (collect .result .columns)) (shown (conjuncts (st
-    .args .kinds .now) (st .args .values .now) (st .args .starts .now) (st .args .counts .now) (st .args .p
-    .now)) (columnsOf (resolve-all .last .1 .1 .1 .1 .1 .0)) (resolve-all .last .1 .1 .1 .1 .1 .1 .0))) _
-    (rebuilt-answer .ensures) (total-is _ _ _ _ _ _ _ _ _ _ _ _ _ _ _ _ _ _ _ _ _ (collect .ensures .0 .1) (if1
-    .left) _ _ (propagate-equalities .ensures .0) _ (keep-equalities .ensures .0) _ _ (resolve-all .ensures .0))
-    _ (is-rewritten .ensures) (if4 .left) (compared-some (aexprOf (st .args .rs .now) (st .args .p .now)) 
-    (st .args .nodes .now) (st .args .n) _ _ _ (outcome-is _ _ _ ∙ conclude-rebuilt _ _ _
+    _ _ _ _ _ _ _ _ _ _ _ _ _ _ _ _ _ _ _ (collect .ensures .0 .1) (if1 .left) _ _ (propagate-equalities
+    .ensures .0) _ (keep-equalities .ensures .0) _ _ (resolve-all .ensures .0) (if2 .left) (if3 .left))
+    (chain-answered (st .args .t .now) (st .args .rs .now) (st .args .trees .now) (st .args .used) _ _ _
+    (comparisons payload (firstOf (collect .last .1 .1 .1 .1 .1 .1 .1 .1 .1 .1 .0) (collect .result .columns))
+    (shown (conjuncts (st .args .kinds .now) (st .args .values .now) (st .args .starts .now) (st .args .counts
+    .now) (st .args .p .now)) (columnsOf (resolve-all .last .1 .1 .1 .1 .1 .0)) (resolve-all .last .1 .1 .1 .1
+    .1 .1 .0))) _ (rebuilt-answer .ensures) (total-is _ _ _ _ _ _ _ _ _ _ _ _ _ _ _ _ _ _ _ _ _ _ (collect
+    .ensures .0 .1) (if1 .left) _ _ (propagate-equalities .ensures .0) _ (keep-equalities .ensures .0) _ _
+    (resolve-all .ensures .0)) _ (is-rewritten .ensures) (if4 .left) (compared-some (aexprOf (st .args .rs .now)
+    (st .args .p .now)) (st .args .nodes .now) (st .args .n) _ _ _ (outcome-is _ _ _ ∙ conclude-rebuilt _ _ _ _
     _ _ _ _ _ _ _ _ _ _ _ _ _ _ _ _ _ _ (collect .ensures .0 .1) (if1 .left) _ _ (propagate-equalities .ensures
     .0) _ (keep-equalities .ensures .0) _ _ (resolve-all .ensures .0) (if2 .left) (if3 .left)) (total-is _ _ _ _
-    _ _ _ _ _ _ _ _ _ _ _ _ _ _ _ _ _ (collect .ensures .0 .1) (if1 .left) _ _ (propagate-equalities .ensures
+    _ _ _ _ _ _ _ _ _ _ _ _ _ _ _ _ _ _ (collect .ensures .0 .1) (if1 .left) _ _ (propagate-equalities .ensures
     .0) _ (keep-equalities .ensures .0) _ _ (resolve-all .ensures .0))) _ _ _ (write-comparisons .ensures
     (conjuncts (st .args .kinds .now) (st .args .values .now) (st .args .starts .now) (st .args .counts .now)
     (st .args .p .now)) refl refl) (write-ands .ensures))
