@@ -283,14 +283,14 @@ static unsigned compare(unsigned code, struct scalar a, struct scalar b)
 
 static unsigned member(const struct eval *e, struct fields f, unsigned nulls_equal, struct scalar x)
 {
-    if (f.b == 0)
-        return FALSE;
+    if (x.null && nulls_equal)
+        return of(f.code == 1);
     if (x.null)
-        return nulls_equal ? of(f.code == 1) : (unsigned)UNKNOWN;
+        return f.code == 1 || f.b != 0 ? UNKNOWN : FALSE;
     for (uint32_t i = 0; i < f.b; i++)
         if (value(e->s->pool + 8 * ((size_t)f.a + i)) == x.v)
             return TRUE;
-    return FALSE;
+    return f.code == 1 && !nulls_equal ? UNKNOWN : FALSE;
 }
 
 static unsigned truth_at(const struct eval *e, uint64_t node)

@@ -36,7 +36,8 @@
  *   SCREEN_KIND_LIST         1: holds a null   yes   start in pool  count        -
  *   SCREEN_KIND_IS_IN        1: nulls_equal    -     value input    list input   -
  *
- *   Start and count of a list are in values, not bytes. The code of a list or an is_in is otherwise 0.
+ *   Start and count of a list are in values, not bytes. The code of a list or an is_in is otherwise 0. A list of code 1
+ *   has a null beside its values: with count 0 that null is its one entry.
  *
  * ANSWERS
  *
@@ -303,6 +304,10 @@ enum screen_test_row_answer {
  *   row, row_len   for each column in the table's order its value, 8 bytes, two's complement, little-endian, within the
  *                  column's type; 8 zero bytes for a null. row_len is 8 times the number of columns
  *   nulls          the null marks: bit i, counted from the lowest, is set if column i is null
+ *
+ * is_in over the entries a, b, .. is "x = a Or x = b Or ..": true if a value is found; else unknown if x is null or the
+ * list holds a null; false of a list without an entry, whatever x is. With nulls_equal null is a value like another, so
+ * the answer is true or false: null is found exactly if the list holds one.
  *
  * The depth of the calls inside follows the depth of the screen; the deepest, a chain of 4,096 records, needs less than
  * 1.25 MB of stack.

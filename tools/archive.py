@@ -63,3 +63,12 @@ class Archive:
         out = [ctypes.c_uint64(mark) for mark in MARKS]
         answer, records = self._call("screen_rewrite", s, *map(ctypes.byref, out), writes_records=True)
         return answer, out[0].value, out[1].value, records
+
+
+def row_test(path):
+    """The archive if it is there and has the row test; else None, and a line that says so."""
+    lib = Archive(path) if os.path.exists(path) else None
+    if lib is not None and lib.has("screen_test_row"):
+        return lib
+    print("the archive has no row test: the model alone is compared")
+    return None

@@ -284,11 +284,14 @@ def between(code, x, low, high):
 
 
 def member(x, values, holds_null, nulls_equal):
-    if not values:
-        return 0
-    if x is None:
-        return int(holds_null) if nulls_equal else None
-    return int(x in values)
+    """With nulls_equal null is a value like another; else x = a Or x = b Or .., over all entries, a null among them."""
+    entries = [*values, None] if holds_null else values
+    if nulls_equal:
+        return int(x in entries)
+    found = 0
+    for entry in entries:
+        found = or3(found, compare(EQ, x, entry))
+    return found
 
 
 def evaluate(s, row, root=None):

@@ -359,14 +359,16 @@ static void test_between(void)
     one_line("is_between without a high end", U, values, no_high, 5);
 }
 
+/* The list rule: a list of 7 and 9, with a null or without, and a list without a value. */
 static void test_members(void)
 {
     static const int64_t values[] = {4, 7, 8, 9};
-    static const uint32_t found[] = {F, T, F, T};
-    static const uint32_t not_found[] = {F, F, F, F};
     for (unsigned holds_null = 0; holds_null < 2; holds_null++)
         for (unsigned nulls_equal = 0; nulls_equal < 2; nulls_equal++) {
+            uint32_t miss = holds_null && !nulls_equal ? U : F;
             uint32_t of_null = !nulls_equal ? U : holds_null ? T : F;
+            const uint32_t found[] = {miss, T, miss, T};
+            const uint32_t not_found[] = {miss, miss, miss, miss};
             begin_mixed();
             pool_value(4);
             pool_value(7);
@@ -376,7 +378,7 @@ static void test_members(void)
             begin_mixed();
             pool_value(7);
             is_in(nulls_equal, column(0), list(holds_null, INT, 1, 0));
-            one_line("is_in of an empty list", F, values, not_found, 4);
+            one_line("is_in of a list without a value", holds_null ? of_null : F, values, not_found, 4);
         }
 }
 

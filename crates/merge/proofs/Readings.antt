@@ -8,6 +8,7 @@ use Prim.Native.Nat.{ℕ}
 use lib.Dec.{leb}
 use lib.ListN.{length}
 use Rattle.truth.proofs.Cells.{and-is-true, cell-law}
+use Rattle.truth.proofs.Memberships.{in3-known, in3-null, isEmpty}
 use Rattle.truth.proofs.Negations.{negateComparison, compare-negate}
 use Rattle.truth.proofs.Orders.{cmp-eq, cmp-gt, cmp-lt}
 use Rattle.truth.specs.AExpr.{AExpr, BinaryExpr, Column, Compare, Inputs, IsBetween, IsIn, IsNotNull, IsNull, ListLiteral}
@@ -15,7 +16,7 @@ use Rattle.truth.specs.AExpr.{Literal, Missing, Not, Null}
 use Rattle.truth.specs.Cell.{Cell, TruthKeys, cellAt, compare3, highComparison, isNull, lowComparison, step}
 use Rattle.truth.specs.Comparison.{Comparison, Eq, Gt, GtEq, Lt, LtEq, NotEq, comparisonHolds}
 use Rattle.truth.specs.Logic.{and3, isTrue, not3, ofBool}
-use Rattle.truth.specs.Membership.{in3}
+use Rattle.truth.specs.Membership.{in3, knownIn3, nullIn3}
 use Rattle.truth.specs.Order.{View, is-equal, is-greater, is-less, isEqual}
 use Rattle.truth.specs.declared.logic.Truth.{Truth}
 use Rattle.truth.specs.declared.scalar.Ordering.{Ordering}
@@ -42,9 +43,28 @@ pub true-of : (b : Bool) → isTrue (ofBool b) ≡ b
 true-of true = refl
 true-of false = refl
 
-true-not : (b : Bool) → isTrue (not3 (ofBool b)) ≡ not b
-true-not true = refl
-true-not false = refl
+-- The list rule in a list without a null: whether a value passes is whether it is found; a null does not pass.
+null-untrue : (e b : Bool) → isTrue (nullIn3 e false b) ≡ false
+unfolding nullIn3
+null-untrue true b = refl
+null-untrue false true = refl
+null-untrue false false = refl
+
+not-null-untrue : isTrue (not3 (nullIn3 false false false)) ≡ false
+unfolding nullIn3
+not-null-untrue = refl
+
+known-true : (e b : Bool) → isTrue (knownIn3 e false b) ≡ b
+unfolding knownIn3
+known-true e true = refl
+known-true true false = refl
+known-true false false = refl
+
+not-known-true : (e b : Bool) → isTrue (not3 (knownIn3 e false b)) ≡ not b
+unfolding knownIn3
+not-known-true e true = refl
+not-known-true true false = refl
+not-known-true false false = refl
 
 abbrev flip : Ordering → Ordering
 flip Less = Greater
@@ -127,20 +147,18 @@ module _ {K Val : Type 0} (S : Scalars K Val) (tk : TruthKeys (S .order)) where
 
   pub in-mean : (e : Bool) (l : List Val) (x : Option K) → obeysAll S (Allow l ∷ []) x ≡
       isTrue (in3 (S .key) (S .order) e false l x)
-  in-mean e [] none = refl
-  in-mean e [] (some k) = refl
-  in-mean true (v ∷ l) none = refl
-  in-mean false (v ∷ l) none = refl
-  in-mean e (v ∷ l) (some k) = and-true (contains S k (v ∷ l)) ∙ sym (true-of (contains S k (v ∷ l)))
+  in-mean e l none = sym (ap isTrue (in3-null (S .key) (S .order) e false l) ∙ null-untrue e (isEmpty l))
+  in-mean e l (some k) = and-true (contains S k l) ∙
+      sym (ap isTrue (in3-known (S .key) (S .order) e false l k) ∙ known-true e (contains S k l))
 
   pub not-in-mean : (e : Bool) (l : List Val) (x : Option K) → obeysAll S (Disallow (not e) l ∷ []) x ≡
       isTrue (not3 (in3 (S .key) (S .order) e false l x))
-  not-in-mean true [] none = refl
+  not-in-mean true l none = refl
   not-in-mean false [] none = refl
-  not-in-mean e [] (some k) = refl
-  not-in-mean true (v ∷ l) none = refl
-  not-in-mean false (v ∷ l) none = refl
-  not-in-mean e (v ∷ l) (some k) = and-true (not (contains S k (v ∷ l))) ∙ sym (true-not (contains S k (v ∷ l)))
+  not-in-mean false (v ∷ l) none =
+      sym (ap (λ t. isTrue (not3 t)) (in3-null (S .key) (S .order) false false (v ∷ l)) ∙ not-null-untrue)
+  not-in-mean e l (some k) = and-true (not (contains S k l)) ∙
+      sym (ap (λ t. isTrue (not3 t)) (in3-known (S .key) (S .order) e false l k) ∙ not-known-true e (contains S k l))
 
   pub null-mean : (x : Option K) → obeysAll S (Require required.Null ∷ []) x ≡ isTrue (ofBool (isNull x))
   null-mean none = refl

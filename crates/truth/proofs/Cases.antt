@@ -199,13 +199,22 @@ cases =
     ∷ is (between 0 (int 0) 1) (Tested Unknown)
     -- false with one bound null
     ∷ is (between-null) (Tested False)
-    -- a list of count 0 is empty: a null is not in it, marked or not, nulls_equal or not
+    -- nothing is in the empty list, a null neither
     ∷ is (member 0 0 0 (int 0) 1) (Tested False)
-    ∷ is (member 1 1 0 (int 0) 1) (Tested False)
-    -- found; not found; not found though the list holds a null
+    ∷ is (member 0 0 0 (int 1) 0) (Tested False)
+    ∷ is (member 1 0 0 (int 0) 1) (Tested False)
+    -- a list whose only entry is null is not empty: a value, a null; with nulls_equal only a null is found
+    ∷ is (member 0 1 0 (int 1) 0) (Tested Unknown)
+    ∷ is (member 0 1 0 (int 0) 1) (Tested Unknown)
+    ∷ is (member 1 1 0 (int 1) 0) (Tested False)
+    ∷ is (member 1 1 0 (int 0) 1) (Tested True)
+    -- found; not found; found and not found in a list that holds a null, and with nulls_equal
     ∷ is (member 0 0 2 (int 2) 0) (Tested True)
     ∷ is (member 0 0 2 (int 9) 0) (Tested False)
-    ∷ is (member 0 1 2 (int 9) 0) (Tested False)
+    ∷ is (member 0 1 2 (int 2) 0) (Tested True)
+    ∷ is (member 0 1 2 (int 9) 0) (Tested Unknown)
+    ∷ is (member 1 1 2 (int 2) 0) (Tested True)
+    ∷ is (member 1 1 2 (int 9) 0) (Tested False)
     -- a null value: unknown, or with nulls_equal whether the list holds a null
     ∷ is (member 0 0 2 (int 0) 1) (Tested Unknown)
     ∷ is (member 0 1 2 (int 0) 1) (Tested Unknown)

@@ -5,6 +5,7 @@ pub mod Tables
 pub mod Cells
 pub mod Negations
 pub mod Agree
+pub mod Memberships
 pub mod Lists
 pub mod Evaluation
 pub mod Ready

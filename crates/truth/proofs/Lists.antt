@@ -6,6 +6,8 @@ use mathlib.Core.List.{List, [], _∷_, _++_}
 use Prim.Native.Nat.{ℕ, zero, suc, _+_, _-_, _<_, _≤_}
 use native.Mathlib.Numerals.{add-one}
 use native.Mathlib.Omega.{arith}
+use lib.Dec.{eqb}
+use borrow.Author.Tests.{ne-eqb}
 use lib.IntN.{ℤ}
 use mathlib.Core.Option.{Option, none, some}
 use Rattle.records.specs.Bytes as bytes
@@ -13,8 +15,8 @@ use Rattle.truth.specs.Order.{Order, isEqual}
 use Rattle.truth.specs.Halves.{ordZ, key}
 use Rattle.truth.specs.FromBytes.{valuesFrom}
 use Rattle.truth.specs.Evaluate.{holdsKey, memberTruth}
-use Rattle.truth.specs.Logic.{ofBool}
-use Rattle.truth.specs.Membership.{nullIn3}
+use Rattle.truth.specs.Membership.{nullIn3, knownIn3}
+use Rattle.truth.proofs.Memberships.{isEmpty, in3-null, in3-known}
 
 -- One value more, at the end.
 pub values-more :
@@ -50,17 +52,21 @@ pub list-start : (p : List ℕ) (k : ℤ) (start count : ℕ) → holdsKey k (va
     holdsKey k (valuesFrom p start count)
 list-start p k start count = let e : start + count - start ≡ count = omega arith in rw e
 
--- The list rule in a list that is not empty.
-pub member-null :
-    (p : List ℕ) (start count : ℕ) (equal holds : Bool) → (count ≡ 0 → ⊥) →
-    memberTruth equal holds (valuesFrom p start count) none ≡ nullIn3 equal holds
+-- The list rule, in the pool: a list without a value has count 0.
+values-empty : (p : List ℕ) (start count : ℕ) → isEmpty (valuesFrom p start count) ≡ eqb count 0
 unfolding valuesFrom
-member-null p start zero equal holds d = absurd (d refl)
-member-null p start (suc count) equal holds d = refl
+values-empty p start zero = refl
+values-empty p start (suc count) = sym (ne-eqb (suc count) 0 (λ e. omega (arith, e)))
+
+pub member-null :
+    (p : List ℕ) (start count : ℕ) (equal holds : Bool) →
+    nullIn3 equal holds (eqb count 0) ≡ memberTruth equal holds (valuesFrom p start count) none
+member-null p start count equal holds =
+    sym (in3-null key ordZ equal holds (valuesFrom p start count) ∙
+    ap (nullIn3 equal holds) (values-empty p start count))
 
 pub member-known :
-    (p : List ℕ) (start count : ℕ) (equal holds : Bool) (k : ℤ) → (count ≡ 0 → ⊥) →
-    memberTruth equal holds (valuesFrom p start count) (some k) ≡ ofBool (holdsKey k (valuesFrom p start count))
-unfolding valuesFrom
-member-known p start zero equal holds k d = absurd (d refl)
-member-known p start (suc count) equal holds k d = refl
+    (p : List ℕ) (start count : ℕ) (equal holds : Bool) (k : ℤ) →
+    knownIn3 equal holds (holdsKey k (valuesFrom p start count)) ≡
+    memberTruth equal holds (valuesFrom p start count) (some k)
+member-known p start count equal holds k = sym (in3-known key ordZ equal holds (valuesFrom p start count) k)

@@ -3,7 +3,8 @@ ghost use mathlib.Core.Path.{_≡_};
 ghost use Prim.Native.Nat.{_+_, _*_, _≤_};
 ghost use lib.ListN.{length};
 ghost use Rattle.truth.specs.Halves.{key};
-ghost use Rattle.truth.specs.Membership.{nullIn3};
+ghost use lib.Dec.{eqb};
+ghost use Rattle.truth.specs.Membership.{nullIn3, knownIn3};
 ghost use Rattle.truth.specs.FromBytes.{valuesFrom};
 ghost use Rattle.truth.specs.Evaluate.{keyed, holdsKey, memberOf};
 use crate::logic::Truth;
@@ -32,14 +33,30 @@ fn listed(pool: &[u8], start: u32, count: u32, v: Scalar) -> bool
     false
 }
 
-// A null in a list that is not empty.
-fn null_in(equal: bool, holds: bool) -> Truth
-    ensures { λ r. ⌜ r ≡ nullIn3 equal holds ⌝ }
+// A null in a list of `count` values; `holds` says whether it also holds a null, `equal` is nulls_equal.
+fn null_in(equal: bool, holds: bool, count: u32) -> Truth
+    ensures { λ r. ⌜ r ≡ nullIn3 equal holds (eqb count 0) ⌝ }
 {
     if equal {
         return truth_of_bool(holds);
     }
-    Truth::Unknown
+    if holds | (count != 0) {
+        return Truth::Unknown;
+    }
+    Truth::False
+}
+
+// A value: where it is not found, a null in the list may still be it.
+fn known_in(equal: bool, holds: bool, found: bool) -> Truth
+    ensures { λ r. ⌜ r ≡ knownIn3 equal holds found ⌝ }
+{
+    if found {
+        return Truth::True;
+    }
+    if !equal & holds {
+        return Truth::Unknown;
+    }
+    Truth::False
 }
 
 // is_in of the value `x` and the record of a list; `equal` is nulls_equal.
@@ -47,11 +64,8 @@ pub fn member(pool: &[u8], list: Fields, equal: bool, x: Value) -> Truth
     requires { ⌜ 8 * (list .a + list .b) ≤ length (now pool) ⌝ }
     ensures { λ r. ⌜ r ≡ memberOf (now (pool .entry)) list equal (keyed x) ⌝ }
 {
-    if list.b == 0 {
-        return Truth::False;
-    }
     match x {
-        Value::Null => null_in(equal, list.code == 1),
-        Value::Known(v) => truth_of_bool(listed(pool, list.a, list.b, v)),
+        Value::Null => null_in(equal, list.code == 1, list.b),
+        Value::Known(v) => known_in(equal, list.code == 1, listed(pool, list.a, list.b, v)),
     }
 }

@@ -1,0 +1,150 @@
+"""A screen as an SQL expression, for the engines that the row test is compared with; screens and rows to ask them of.
+
+How a record is written. A truth may stand wherever a value may, and false is below true: 0 and 1 in SQLite, FALSE and
+TRUE in PostgreSQL.
+  comparisons     = <> < <= > >=
+  EqValidity      IS NOT DISTINCT FROM, which takes null as a value (SQLite: IS); NotEqValidity: IS DISTINCT FROM
+  And, Or, Not    AND, OR, NOT; LogicalAnd and LogicalOr likewise
+  Xor             <> between two truths: the standard has no exclusive or, and a comparison is unknown if either side is
+  null tests      IS NULL, IS NOT NULL
+  is_between      BETWEEN where both ends belong to the range, else the AND of its two comparisons
+  is_in           IN (1, 2, NULL), the list's own null as NULL. The standard has no empty list: SQLite writes it IN (),
+                  PostgreSQL = ANY of an empty array
+  nulls_equal     the standard has no such IN: x IS NULL OR x IN .. if the list holds a null, else x IS NOT NULL AND
+                  x IN .., over the list's values without its null
+"""
+
+import collections
+
+import generate as g
+import model as m
+
+Dialect = collections.namedtuple("Dialect", "same different literal null no_value")
+SQLITE = Dialect("IS", "IS NOT", lambda type_, v: f"({v})", lambda type_: "NULL", lambda x, type_: f"({x} IN ())")
+NAMES = {m.INT: "bigint", m.DAY: "bigint", m.TRUTH: "boolean"}
+POSTGRES = Dialect("IS NOT DISTINCT FROM", "IS DISTINCT FROM",
+                   lambda type_, v: ("FALSE", "TRUE")[v] if type_ == m.TRUTH else f"({v})::bigint",
+                   lambda type_: f"NULL::{NAMES[type_]}", lambda x, type_: f"({x} = ANY('{{}}'::{NAMES[type_]}[]))")
+WORDS = {m.EQ: "=", m.NOT_EQ: "<>", m.LT: "<", m.LT_EQ: "<=", m.GT: ">", m.GT_EQ: ">=", m.AND: "AND",
+         m.LOGICAL_AND: "AND", m.OR: "OR", m.LOGICAL_OR: "OR", m.XOR: "<>"}
+
+
+def member(dialect, x, pool, list_, nulls_equal):
+    values = [dialect.literal(list_.type, v) for v in pool[list_.a:list_.a + list_.b]]
+    if list_.code == 1 and not nulls_equal:
+        values.append(dialect.null(list_.type))
+    found = f"({x} IN ({', '.join(values)}))" if values else dialect.no_value(x, list_.type)
+    if not nulls_equal:
+        return found
+    return f"({x} IS NULL OR {found})" if list_.code == 1 else f"({x} IS NOT NULL AND {found})"
+
+
+def expression(s, dialect):
+    """The root as an SQL expression over columns c0, c1, .."""
+    pool, records, texts = m.pool_of(s), m.records_of(s), []
+    words = {**WORDS, m.EQ_VALIDITY: dialect.same, m.NOT_EQ_VALIDITY: dialect.different}
+    for r in records:
+        got = [texts[i] for i in r.inputs()]
+        if r.kind == m.COLUMN:
+            text = f"c{r.a}"
+        elif r.kind == m.LITERAL:
+            text = dialect.literal(r.type, r.value)
+        elif r.kind == m.NULL:
+            text = dialect.null(r.type)
+        elif r.kind == m.BINARY:
+            text = f"({got[0]} {words[r.code]} {got[1]})"
+        elif r.kind == m.NOT:
+            text = f"(NOT {got[0]})"
+        elif r.kind == m.IS_NULL:
+            text = f"({got[0]} IS NULL)"
+        elif r.kind == m.IS_NOT_NULL:
+            text = f"({got[0]} IS NOT NULL)"
+        elif r.kind == m.IS_BETWEEN and r.code == m.BOTH:
+            text = f"({got[0]} BETWEEN {got[1]} AND {got[2]})"
+        elif r.kind == m.IS_BETWEEN:
+            low = ">=" if r.code == m.LEFT else ">"
+            high = "<=" if r.code == m.RIGHT else "<"
+            text = f"(({got[0]} {low} {got[1]}) AND ({got[0]} {high} {got[2]}))"
+        elif r.kind == m.LIST:
+            text = ""
+        else:
+            text = member(dialect, got[0], pool, records[r.b], r.code == 1)
+        texts.append(text)
+    return texts[s.root]
+
+
+def without_nulls(s):
+    """The same screen, no list of it marked for a null."""
+    records = bytearray(s.records)
+    for n in range(s.used):
+        if records[16 * n] == m.LIST:
+            records[16 * n + 1] = 0
+    return s.but(records=bytes(records))
+
+
+def decides(s, row):
+    """Whether a null in a list decides this row: without it the screen would say something else of it."""
+    return m.evaluate(s, row) != m.evaluate(without_nulls(s), row)
+
+
+def deep(rng):
+    """Nested logic without any line that is read by itself."""
+    b = g.Builder(rng, g.table_of(rng), 4, 0.3)
+    return b.screen(b.truth(7))
+
+
+def nulled(rng):
+    """Short lists, most of them holding a null, under And, Or, Not and Xor."""
+    b = g.Builder(rng, [m.INT, m.DAY, m.INT], 4, 0.3)
+
+    def line(depth):
+        if depth > 0 and rng.random() < 0.8:
+            return b.put(m.BINARY, rng.choice(g.LOGIC), 0, line(depth - 1), line(depth - 1))
+        number = rng.randrange(3)
+        list_ = b.list(b.table[number], rng.randrange(4), int(rng.random() < 0.8))
+        in_ = b.put(m.IS_IN, int(rng.random() < 0.2), 0, b.column(number), list_)
+        return in_ if rng.random() < 0.5 else b.put(m.NOT, a=in_)
+
+    return b.screen(line(rng.randrange(3)))
+
+
+def draw(rng):
+    """A screen, and rows to ask it of."""
+    while True:
+        kind = rng.choice((g.plain, g.mixed, deep, nulled))
+        s = kind(rng)
+        if m.tree_count(s) <= 250:  # an engine's parser has limits of its own
+            return s, [g.cells(rng, s) for _ in range(16 if kind is nulled else 4)]
+
+
+class Tally:
+    """Answers of an engine beside those of the model and, where there is an archive, of the library."""
+
+    def __init__(self, engine, lib):
+        self.engine, self.lib, self.passed, self.failed, self.seen = engine, lib, 0, 0, collections.Counter()
+
+    def compare(self, s, rows, truths, text):
+        for row, truth in zip(rows, truths, strict=True):
+            data = b"".join(g.value_bytes(v or 0) for v in row)
+            nulls = sum(1 << i for i, v in enumerate(row) if v is None)
+            got = [m.test_row(s, data, nulls)] + ([self.lib.test_row(s, data, nulls)] if self.lib else [])
+            self.seen[truth] += 1
+            self.seen["decided"] += decides(s, row)
+            if got == [truth] * len(got):
+                self.passed += 1
+                continue
+            self.failed += 1
+            if self.failed <= 5:
+                print(f"DIFFERENCE: {self.engine} {truth}, model and library {got}, row {row}\n  {text}")
+        records = m.records_of(s)
+        for n in m.reached(s):
+            self.seen["record", records[n].kind, records[n].code] += 1
+
+    def close(self):
+        print("answers:", {truth: self.seen[truth] for truth in (m.FALSE, m.UNKNOWN, m.TRUE)})
+        records = sorted((key[1:], n) for key, n in self.seen.items() if isinstance(key, tuple))
+        print("records by kind and code:", dict(records))
+        print("rows that a null in a list decides:", self.seen["decided"])
+        print(self.engine)
+        print(f"{self.passed} passed, {self.failed} failed")
+        return self.failed != 0
