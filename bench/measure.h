@@ -62,15 +62,38 @@ static inline void measure(struct taken *t, const work *works, unsigned n, unsig
             t->by[(i + r) % n][r] = measure_once(works[(i + r) % n], times);
 }
 
-/* Median times, and the median of the rounds' ratios: a round that the machine slows down slows down both. */
-static inline void print_ratio(const char *name, const double *ours, const double *other, unsigned rounds,
-                               const char *other_name)
+/* The median of the rounds' ratios: a round that the machine slows down slows down both. */
+static inline double measure_ratio(const double *ours, const double *other, unsigned rounds)
 {
     double ratios[ROUNDS];
     for (unsigned r = 0; r < rounds; r++)
         ratios[r] = ours[r] / other[r];
-    printf("%-60s %12.0f ns   %s %12.0f ns   ratio %.2f\n", name, measure_median(ours, rounds), other_name,
-           measure_median(other, rounds), measure_median(ratios, rounds));
+    return measure_median(ratios, rounds);
+}
+
+/* Median times, and the ratio; no line end. */
+static inline void print_times(const char *name, const double *ours, const double *other, unsigned rounds,
+                               const char *other_name)
+{
+    printf("%-52s %12.0f ns   %s %12.0f ns   ratio %7.2f", name, measure_median(ours, rounds), other_name,
+           measure_median(other, rounds), measure_ratio(ours, other, rounds));
+}
+
+static inline void print_ratio(const char *name, const double *ours, const double *other, unsigned rounds,
+                               const char *other_name)
+{
+    print_times(name, ours, other, rounds, other_name);
+    printf("\n");
+}
+
+/* The ratio beside its goal, at most which it should be; whether it is met. */
+static inline unsigned print_goal(const char *name, const double *ours, const double *other, unsigned rounds,
+                                  const char *other_name, double goal)
+{
+    unsigned met = measure_ratio(ours, other, rounds) <= goal;
+    print_times(name, ours, other, rounds, other_name);
+    printf("   goal %.2f %s\n", goal, met ? "met" : "missed");
+    return met;
 }
 
 #endif

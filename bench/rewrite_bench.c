@@ -1,11 +1,11 @@
 /*
  * Rewriting beside the Rust (tools/oracle): screen_rewrite with all its checks, from bytes to bytes, against the Rust's
- * merging alone, on nodes that are already in its arena. Goals: a third of the Rust's time on 3 to 12 lines, and never
- * more than its time. What of it screen_check takes by itself stands below each.
+ * merging alone, on nodes that are already in its arena. Each ratio stands beside its goal, the last line tells how many
+ * are met. What of it screen_check takes by itself stands below each.
  *
- * The last screens are slow ones: what is asked of two sets is quadratic in the lengths of their lists. The last of all
- * is the slowest known for this library. The Rust's sets are run here as vectors; polars hashes them, which is faster
- * for long ones.
+ * The last screens are slow ones: what is asked of two sets is quadratic in the lengths of their lists. The slowest of
+ * all are searched for by slowest.c. The Rust's sets are run here as vectors; polars hashes them, which is faster for
+ * long ones.
  */
 #define _POSIX_C_SOURCE 199309L
 #include "make.h"
@@ -212,11 +212,13 @@ static uint64_t rust(void)
     return oracle_merge(prepared, now.s.root);
 }
 
+static unsigned goals;
+static unsigned goals_met;
+
 static int beside(const char *name, double goal, unsigned rounds, unsigned times)
 {
     static struct taken taken;
     const work works[3] = {ours, rust, checks};
-    char title[100];
     uint64_t answer = ours();
     prepared = oracle_prepare(now.s.records, now.s.records_len, now.s.pool, now.s.pool_len);
     if (answer < SCREEN_UNCHANGED || (answer != SCREEN_UNCHANGED) != rust()) {
@@ -225,8 +227,8 @@ static int beside(const char *name, double goal, unsigned rounds, unsigned times
         return 1;
     }
     measure(&taken, works, 3, rounds, times);
-    snprintf(title, sizeof title, "%s, goal %.2f", name, goal);
-    print_ratio(title, taken.by[0], taken.by[1], rounds, "Rust");
+    goals++;
+    goals_met += print_goal(name, taken.by[0], taken.by[1], rounds, "Rust", goal);
     print_ratio("    checking alone", taken.by[2], taken.by[1], rounds, "Rust");
     oracle_free(prepared);
     return 0;
@@ -240,28 +242,29 @@ int main(void)
     for (unsigned i = 0; i < 4; i++) {
         make_bounds(counts[i]);
         snprintf(name, sizeof name, "rewriting, %u bounds", counts[i]);
-        differ |= beside(name, 0.33, ROUNDS, 100);
+        differ |= beside(name, i == 0 ? 0.55 : 0.5, ROUNDS, 100);
         make_typed(counts[i]);
         snprintf(name, sizeof name, "rewriting, %u lines", counts[i]);
-        differ |= beside(name, 0.33, ROUNDS, 100);
+        differ |= beside(name, i == 0 ? 0.55 : 0.5, ROUNDS, 100);
     }
     make_one_column();
-    differ |= beside("rewriting, 128 lines on one column", 1, ROUNDS, 50);
+    differ |= beside("rewriting, 128 lines on one column", 0.5, ROUNDS, 50);
     make_many_columns();
-    differ |= beside("rewriting, 128 lines on 64 columns", 1, ROUNDS, 50);
+    differ |= beside("rewriting, 128 lines on 64 columns", 0.5, ROUNDS, 50);
     make_chain(0);
-    differ |= beside("rewriting, 64 equalities", 1, ROUNDS, 50);
+    differ |= beside("rewriting, 64 equalities", 0.3, ROUNDS, 50);
     make_chain(1);
-    differ |= beside("rewriting, 64 equalities from the far end on", 1, ROUNDS, 5);
+    differ |= beside("rewriting, 64 equalities from the far end on", 0.3, ROUNDS, 5);
     make_two_lists();
-    differ |= beside("rewriting, two lists of 100 values", 1, ROUNDS, 50);
+    differ |= beside("rewriting, two lists of 100 values", 0.3, ROUNDS, 50);
     make_many_lists();
-    differ |= beside("rewriting, 60 lists of 100 values", 1, 21, 5);
+    differ |= beside("rewriting, 60 lists of 100 values", 0.3, 21, 5);
     make_exclusions();
     differ |= beside("rewriting, 14 exclusions, 63 equalities", 1, 21, 1);
     make_negated_lists();
     differ |= beside("rewriting, 8 negated lists, 63 equalities", 1, 3, 1);
     make_worst_allowed();
     differ |= beside("rewriting, 65 lists of 100 values, 63 equalities", 1, 3, 1);
+    printf("goals met: %u of %u\n", goals_met, goals);
     return differ;
 }

@@ -5,5 +5,6 @@ pub mod Bits
 pub mod Accepted
 pub mod Answers
 pub mod Lists
+pub mod Outsides
 mod Others
 mod Cases

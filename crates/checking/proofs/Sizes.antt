@@ -22,6 +22,13 @@ used-lent rs p used e =
     leb-true used (length rs / 16) (and-left (leb used (length rs / 16)) (eqb (length p % 8) 0 && leb (length p / 8) 8192) f) in
     omega arith
 
+pub pool-small : (rs p : List ℕ) (used : ℕ) → sizesOk rs p used ≡ true → length p / 8 ≤ 8192
+unfolding sizesOk
+pool-small rs p used e =
+    let f = and-right (leb used 4096) (leb used (length rs / 16) && (eqb (length p % 8) 0 && leb (length p / 8) 8192)) e in
+    let g = and-right (leb used (length rs / 16)) (eqb (length p % 8) 0 && leb (length p / 8) 8192) f in
+    leb-true (length p / 8) 8192 (and-right (eqb (length p % 8) 0) (leb (length p / 8) 8192) g)
+
 pub table-known : (t : List ℕ) → tableOk t ≡ true → typesKnown t ≡ true
 unfolding tableOk
 table-known t e = and-right (leb (length t) 64) (typesKnown t) e

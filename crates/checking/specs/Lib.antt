@@ -1,4 +1,5 @@
 pub mod Fit
+pub mod Outside
 pub mod Step
 pub mod Check
 pub mod Table

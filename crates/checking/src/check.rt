@@ -1,13 +1,15 @@
 // Checking a screen: limits and table, then records from 0 up, then the root's type. The first fault is the answer.
 ghost use mathlib.Core.Path.{_≡_};
-ghost use Prim.Native.Nat.{_*_, _≤_, _<_, min};
+ghost use Prim.Native.Nat.{_*_, _/_, _≤_, _<_, min};
 ghost use lib.ListN.{length};
 ghost use mathlib.Core.Bool.{true};
 ghost use Rattle.records.specs.Record.{node};
 ghost use Rattle.checking.specs.Check.{typesKnown, tableOk, sizesOk, firstFault, recordsAnswer, checkAnswer};
 ghost use Rattle.checking.specs.Step.{Entered};
+ghost use Rattle.checking.specs.Outside.{Counts};
 ghost use Rattle.checking.specs.Tree.{Counted};
 ghost use Rattle.checking.specs.declared.check.CheckAnswer.the-variants.{Accepted};
+use crate::outside::fill_outside;
 use crate::step::record_step;
 use records::record::Node;
 use records::record::fields_in;
@@ -65,7 +67,17 @@ fn cut(count: u32) -> u16
 
 // The number of the first fault among the records below `used`, or 0. Each record is read once; its entry and its tree
 // count stay in tables for the records that name it.
-fn fault_below(t: &[u8], rs: &[u8], p: &[u8], used: u32, types: &mut [u8], trees: &mut [u16]) -> u32
+fn fault_below(
+    t: &[u8],
+    rs: &[u8],
+    p: &[u8],
+    days: &[u16],
+    truths: &[u16],
+    used: u32,
+    types: &mut [u8],
+    trees: &mut [u16],
+) -> u32
+    requires { ⌜ Counts (now p) (now days) (now truths) ⌝ }
     requires { ⌜ used ≤ length (now types) ⌝ }
     requires { ⌜ used ≤ length (now trees) ⌝ }
     requires { ⌜ 16 * used ≤ length (now rs) ⌝ }
@@ -77,7 +89,7 @@ fn fault_below(t: &[u8], rs: &[u8], p: &[u8], used: u32, types: &mut [u8], trees
     let mut i: u32 = 0;
     while i < used {
         let f = fields_in(rs, Node(i));
-        let s = record_step(t, p, types, trees, f, Node(i));
+        let s = record_step(t, p, days, truths, types, trees, f, Node(i));
         if s.fault != 0 {
             return s.fault;
         }
@@ -92,11 +104,14 @@ fn records_answer(
     t: &[u8],
     rs: &[u8],
     p: &[u8],
+    days: &[u16],
+    truths: &[u16],
     used: u32,
     root: u32,
     types: &mut [u8],
     trees: &mut [u16],
 ) -> CheckAnswer
+    requires { ⌜ Counts (now p) (now days) (now truths) ⌝ }
     requires { ⌜ used ≤ length (now types) ⌝ }
     requires { ⌜ used ≤ length (now trees) ⌝ }
     requires { ⌜ 16 * used ≤ length (now rs) ⌝ }
@@ -105,7 +120,7 @@ fn records_answer(
     ensures { λ a. ⌜ a ≡ recordsAnswer (now (t .entry)) (now (rs .entry)) (now (p .entry)) used (node root) ⌝ }
     ensures { λ a. ⌜ (a ≡ Accepted → Counted (now (rs .entry)) (now (trees .exit)) used) ⌝ }
 {
-    let f = fault_below(t, rs, p, used, types, trees);
+    let f = fault_below(t, rs, p, days, truths, used, types, trees);
     if f != 0 {
         return CheckAnswer::Refused(f);
     }
@@ -113,6 +128,32 @@ fn records_answer(
         return CheckAnswer::Refused(7);
     }
     CheckAnswer::Accepted
+}
+
+// The same, where lists may share a long pool: a list then asks for two counts instead of looking at its values. A
+// function of its own with two callers, so that a short screen has no room for its tables on the stack.
+fn records_counted(
+    t: &[u8],
+    rs: &[u8],
+    p: &[u8],
+    used: u32,
+    root: u32,
+    types: &mut [u8],
+    trees: &mut [u16],
+) -> CheckAnswer
+    requires { ⌜ length (now p) / 8 ≤ 8192 ⌝ }
+    requires { ⌜ used ≤ length (now types) ⌝ }
+    requires { ⌜ used ≤ length (now trees) ⌝ }
+    requires { ⌜ 16 * used ≤ length (now rs) ⌝ }
+    requires { ⌜ typesKnown (now t) ≡ true ⌝ }
+    requires { ⌜ root < used ⌝ }
+    ensures { λ a. ⌜ a ≡ recordsAnswer (now (t .entry)) (now (rs .entry)) (now (p .entry)) used (node root) ⌝ }
+    ensures { λ a. ⌜ (a ≡ Accepted → Counted (now (rs .entry)) (now (trees .exit)) used) ⌝ }
+{
+    let mut days = [0u16; 8193];
+    let mut truths = [0u16; 8193];
+    fill_outside(p, &mut days, &mut truths);
+    records_answer(t, rs, p, &days, &truths, used, root, types, trees)
 }
 
 // Checking, and the tree counts of an accepted screen's records, each 4,097 if above 4,096. `types` is room to work in.
@@ -139,7 +180,37 @@ pub fn check_counted(
     if used <= root {
         return CheckAnswer::Refused(3);
     }
-    records_answer(t, rs, p, used as u32, root as u32, types, trees)
+    let none = [0u16; 0];
+    if used <= 64 {
+        return records_answer(
+            t,
+            rs,
+            p,
+            &none,
+            &none,
+            used as u32,
+            root as u32,
+            types,
+            trees,
+        );
+    }
+    if 512 < used {
+        return records_counted(t, rs, p, used as u32, root as u32, types, trees);
+    }
+    if p.len() <= 1024 {
+        return records_answer(
+            t,
+            rs,
+            p,
+            &none,
+            &none,
+            used as u32,
+            root as u32,
+            types,
+            trees,
+        );
+    }
+    records_counted(t, rs, p, used as u32, root as u32, types, trees)
 }
 
 // Most screens have few records, and small tables cost less to clear.

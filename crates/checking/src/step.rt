@@ -4,6 +4,7 @@ ghost use mathlib.Core.Path.{_≡_};
 ghost use Prim.Native.Nat.{_≤_, _<_};
 ghost use lib.ListN.{length};
 ghost use Rattle.checking.specs.Step.{bad, good, pairFits, columnStep, literalStep, nullStep, binaryStep, notStep};
+ghost use Rattle.checking.specs.Outside.{Counts};
 ghost use Rattle.checking.specs.Step.{nullTestStep, betweenStep, listStep, memberStep, recordStep};
 use crate::fit::list_ok;
 use records::record::Fields;
@@ -181,13 +182,14 @@ fn between_step(types: &[u8], trees: &[u16], f: Fields, n: Node) -> Step
     passed(3, 1 + (wide(trees[a]) + (wide(trees[b]) + wide(trees[c]))))
 }
 
-fn list_step(p: &[u8], f: Fields) -> Step
+fn list_step(p: &[u8], days: &[u16], truths: &[u16], f: Fields) -> Step
+    requires { ⌜ Counts (now p) (now days) (now truths) ⌝ }
     ensures { λ s. ⌜ s ≡ listStep (now (p .entry)) f ⌝ }
 {
     if !(((f.code <= 1) & known_type(f.ty)) & (f.c == 0)) {
         return refused(4);
     }
-    if !list_ok(p, f.ty, f.a, f.b) {
+    if !list_ok(p, days, truths, f.ty, f.a, f.b) {
         return refused(5);
     }
     passed(4 * (f.ty % 4), 1)
@@ -217,7 +219,17 @@ fn member_step(types: &[u8], trees: &[u16], f: Fields, n: Node) -> Step
 }
 
 // The record n with the fields f, from the entries and tree counts of the records below it.
-pub fn record_step(t: &[u8], p: &[u8], types: &[u8], trees: &[u16], f: Fields, n: Node) -> Step
+pub fn record_step(
+    t: &[u8],
+    p: &[u8],
+    days: &[u16],
+    truths: &[u16],
+    types: &[u8],
+    trees: &[u16],
+    f: Fields,
+    n: Node,
+) -> Step
+    requires { ⌜ Counts (now p) (now days) (now truths) ⌝ }
     requires { ⌜ n .0 < length (now types) ⌝ }
     requires { ⌜ n .0 < length (now trees) ⌝ }
     ensures { λ s. ⌜ s ≡ recordStep (now (t .entry)) (now (p .entry)) (now (types .entry)) (now (trees .entry)) f (n .0) ⌝ }
@@ -235,7 +247,7 @@ pub fn record_step(t: &[u8], p: &[u8], types: &[u8], trees: &[u16], f: Fields, n
         6 => null_test_step(types, trees, f, n),
         7 => null_test_step(types, trees, f, n),
         8 => between_step(types, trees, f, n),
-        9 => list_step(p, f),
+        9 => list_step(p, days, truths, f),
         10 => member_step(types, trees, f, n),
         _ => refused(4),
     }

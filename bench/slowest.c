@@ -1,0 +1,220 @@
+/*
+ * Searches for the screen that takes screen_rewrite longest, among those that the code's loops make slow: lists, negated
+ * lists and excluded values, on one column or on many, carried along equalities that a pass follows whole or by one step;
+ * lists on one column; lists that checking looks through. Prints the slowest of each family and the slowest of all, in
+ * processor time.
+ * Every screen here is accepted, or refused only when the room for its comparisons is reckoned, which is the last thing.
+ */
+#define _POSIX_C_SOURCE 199309L
+#include "make.h"
+
+#include <stdio.h>
+#include <time.h>
+
+enum { LINES = 128, LIST = 100, DESK_MS = 47, CEILING_MS = 5 };
+
+static struct made now;
+static uint32_t top;
+static unsigned lines;
+
+static void begin(unsigned columns, unsigned type)
+{
+    make(&now, columns, type);
+    lines = 0;
+}
+
+static void join(uint32_t next)
+{
+    top = lines == 0 ? next : and_of(&now, top, next);
+    lines++;
+}
+
+static uint32_t not_of(uint32_t input)
+{
+    return put(&now, SCREEN_KIND_NOT, 0, 0, input, 0, 0);
+}
+
+/* Equalities from column 0 to the last one, in order or from the far end on: then a pass carries a fact by one step. */
+static void join_chain(unsigned columns, int from_far_end)
+{
+    for (uint32_t n = 0; n + 1 < columns; n++) {
+        uint32_t left = from_far_end ? columns - 2 - n : n;
+        uint32_t a = column(&now, left);
+        uint32_t b = column(&now, left + 1);
+        join(put(&now, SCREEN_KIND_BINARY, SCREEN_OP_EQ, 0, a, b, 0));
+    }
+}
+
+/* The value at place i of list n: all lists alike, each apart, one value in common at the end or the start, overlapping,
+ * or the last of many lists leaving out what the others have. */
+enum { ALIKE, APART, COMMON_LAST, COMMON_FIRST, OVERLAPPING, LATE, PATTERNS };
+
+static int64_t value_of(int pattern, unsigned n, unsigned lists, unsigned i)
+{
+    switch (pattern) {
+    case ALIKE: return i;
+    case APART: return (int64_t)(LIST * n + i);
+    case COMMON_LAST: return i + 1 == LIST ? -1 : (int64_t)(LIST * n + i);
+    case COMMON_FIRST: return i == 0 ? -1 : (int64_t)(LIST * n + i);
+    case OVERLAPPING: return (int64_t)((n + i) % (2 * LIST));
+    default: return 2 * n < lists ? (i + 1 == LIST || n == 0 ? 7 : 8) : 2 * n == lists || 2 * n == lists + 1 ? 8 : 9;
+    }
+}
+
+static uint32_t list_line(unsigned number, int pattern, unsigned n, unsigned lists)
+{
+    uint32_t start = (uint32_t)(now.s.pool_len / 8);
+    uint32_t x = column(&now, number);
+    uint32_t values;
+    for (unsigned i = 0; i < LIST; i++)
+        store(now.pool + 8 * ((size_t)start + i), 8, (uint64_t)value_of(pattern, n, lists, i));
+    now.s.pool_len += (size_t)8 * LIST;
+    values = put(&now, SCREEN_KIND_LIST, 0, SCREEN_TYPE_INT, start, LIST, 0);
+    return put(&now, SCREEN_KIND_IS_IN, 0, 0, x, values, 0);
+}
+
+/* ---------------------------------------------------------------------------------------------------------- timing */
+
+static uint8_t scratch[16 * 4096];
+
+static uint64_t rewrite(void)
+{
+    uint64_t root = 0;
+    uint64_t used = 0;
+    memcpy(scratch, now.records, sizeof scratch);
+    return screen_rewrite(now.table, now.s.table_len, scratch, sizeof scratch, now.pool, now.s.pool_len, now.s.used,
+                          now.s.root, &root, &used);
+}
+
+static volatile uint64_t sink;
+static double slowest_of_all;
+static char slowest_name[160];
+static double slowest_here;
+static char here_name[120];
+
+/* Processor time of one call, in nanoseconds. */
+static double rewrite_time(void)
+{
+    struct timespec from, to;
+    clock_gettime(CLOCK_PROCESS_CPUTIME_ID, &from);
+    sink += rewrite();
+    clock_gettime(CLOCK_PROCESS_CPUTIME_ID, &to);
+    return (double)(to.tv_sec - from.tv_sec) * 1e9 + (double)(to.tv_nsec - from.tv_nsec);
+}
+
+/* The least of some runs, fewer of a slow screen: what else the machine does only adds. */
+static void time_screen(const char *name)
+{
+    double least = rewrite_time();
+    for (unsigned i = 0; i < 6 && least < 5e7; i++) {
+        double again = rewrite_time();
+        least = again < least ? again : least;
+    }
+    if (least > slowest_here) {
+        slowest_here = least;
+        snprintf(here_name, sizeof here_name, "%s", name);
+    }
+}
+
+static void close_family(const char *family)
+{
+    printf("%-24s %10.3f ms   %s\n", family, slowest_here / 1e6, here_name);
+    if (slowest_here > slowest_of_all) {
+        slowest_of_all = slowest_here;
+        snprintf(slowest_name, sizeof slowest_name, "%s: %s", family, here_name);
+    }
+    slowest_here = 0;
+}
+
+/* -------------------------------------------------------------------------------------------------------- families */
+
+static const char *const pattern_names[PATTERNS] = {"alike",        "apart",       "a common last",
+                                                    "a common first", "overlapping", "a late stranger"};
+
+static void search_lists(int negated, const char *family)
+{
+    static const unsigned chains[2] = {64, 32};
+    char name[120];
+    for (unsigned c = 0; c < 2; c++)
+        for (int pattern = 0; pattern < PATTERNS; pattern++)
+            for (int spread = 0; spread < 2; spread++)
+                for (int far = 0; far < 2; far++) {
+                    unsigned equalities = chains[c] - 1;
+                    unsigned lists = LINES - equalities > 81 ? 81 : LINES - equalities;
+                    begin(chains[c], SCREEN_TYPE_INT);
+                    for (unsigned n = 0; n < lists; n++) {
+                        uint32_t listed = list_line(spread ? n % chains[c] : 0, pattern, n, lists);
+                        join(negated == 2 ? (n % 2 ? not_of(listed) : listed) : negated ? not_of(listed) : listed);
+                    }
+                    join_chain(chains[c], far);
+                    snprintf(name, sizeof name, "%u lists, %s, %s, %u equalities%s", lists, pattern_names[pattern],
+                             spread ? "one a column" : "on one column", equalities, far ? " from the far end" : "");
+                    time_screen(name);
+                }
+    close_family(family);
+}
+
+static void search_exclusions(void)
+{
+    char name[120];
+    for (unsigned columns = 8; columns <= 64; columns *= 2)
+        for (int spread = 0; spread < 2; spread++)
+            for (int far = 0; far < 2; far++) {
+                unsigned count = LINES - (columns - 1);
+                begin(columns, SCREEN_TYPE_INT);
+                for (unsigned n = 0; n < count; n++)
+                    join(line(&now, SCREEN_OP_NOT_EQ, spread ? n % columns : 0, n));
+                join_chain(columns, far);
+                snprintf(name, sizeof name, "%u, %s, %u equalities%s", count, spread ? "on all columns" : "on one column",
+                         columns - 1, far ? " from the far end" : "");
+                time_screen(name);
+            }
+    close_family("exclusions");
+}
+
+static void search_one_column(void)
+{
+    char name[120];
+    for (int pattern = 0; pattern < PATTERNS; pattern++)
+        for (int negated = 0; negated < 3; negated++) {
+            begin(1, SCREEN_TYPE_INT);
+            for (unsigned n = 0; n < 81; n++) {
+                uint32_t listed = list_line(0, pattern, n, 81);
+                join(negated == 2 ? (n % 2 ? not_of(listed) : listed) : negated ? not_of(listed) : listed);
+            }
+            snprintf(name, sizeof name, "81 lists, %s, %s", pattern_names[pattern],
+                     negated == 2 ? "every other negated" : negated ? "negated" : "allowed");
+            time_screen(name);
+        }
+    close_family("lists on one column");
+}
+
+static void search_checking(void)
+{
+    static const char *const names[4] = {"", "Int", "Day", "Truth"};
+    char name[120];
+    for (unsigned type = SCREEN_TYPE_INT; type <= SCREEN_TYPE_TRUTH; type++) {
+        begin(1, SCREEN_TYPE_TRUTH);
+        now.s.pool_len = sizeof now.pool;
+        for (unsigned n = 0; n + 1 < 4096; n++)
+            put(&now, SCREEN_KIND_LIST, 0, type, 0, 8192, 0);
+        column(&now, 0);
+        snprintf(name, sizeof name, "4095 lists of %s over the whole pool", names[type]);
+        time_screen(name);
+    }
+    close_family("checking");
+}
+
+int main(void)
+{
+    search_checking();
+    search_one_column();
+    search_exclusions();
+    search_lists(0, "lists, equalities");
+    search_lists(1, "negated, equalities");
+    search_lists(2, "in turn, equalities");
+    printf("slowest screen found: %.3f ms (%s); ceiling %d ms %s, desk's %d ms %s\n", slowest_of_all / 1e6, slowest_name,
+           CEILING_MS, slowest_of_all <= CEILING_MS * 1e6 ? "met" : "missed", DESK_MS,
+           slowest_of_all <= DESK_MS * 1e6 ? "met" : "missed");
+    return 0;
+}
