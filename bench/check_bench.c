@@ -5,6 +5,7 @@
 #define _POSIX_C_SOURCE 199309L
 #include "make.h"
 #include "measure.h"
+#include "plain.h"
 
 static struct made full;
 static struct made worst;
@@ -24,13 +25,13 @@ static void make_full(void)
         else if (n % 4 == 0)
             next = range(&full, number, 1, 9);
         else if (n % 4 == 1)
-            next = put(&full, SCREEN_KIND_IS_NOT_NULL, 0, 0, column(&full, number), 0, 0);
+            next = screen_put_is_not_null(&full.s, screen_put_column(&full.s, number));
         else
             next = line(&full, SCREEN_OP_LT_EQ, number, n);
-        top = and_of(&full, top, next);
+        top = screen_put_and(&full.s, top, next);
     }
     while (full.s.used < 4096)
-        top = put(&full, SCREEN_KIND_IS_NULL, 0, 0, top, 0, 0);
+        top = screen_put_is_null(&full.s, top);
 }
 
 static void make_worst(void)
@@ -38,20 +39,20 @@ static void make_worst(void)
     make(&worst, 1, SCREEN_TYPE_DAY);
     worst.s.pool_len = sizeof worst.pool;
     while (worst.s.used < 4095)
-        put(&worst, SCREEN_KIND_LIST, 0, SCREEN_TYPE_DAY, 0, 8192, 0);
-    literal(&worst, SCREEN_TYPE_TRUTH, 1);
+        screen_put(&worst.s, SCREEN_KIND_LIST, 0, SCREEN_TYPE_DAY, 0, 8192, 0);
+    screen_put_truth(&worst.s, 1);
 }
 
-static uint64_t check_ours(void) { return screen_check(CALL(full)); }
+static uint64_t check_ours(void) { return screen_lent_check(&full.s); }
 static uint64_t check_plain(void) { return plain_check(&full.s); }
-static uint64_t worst_ours(void) { return screen_check(CALL(worst)); }
+static uint64_t worst_ours(void) { return screen_lent_check(&worst.s); }
 static uint64_t worst_plain(void) { return plain_check(&worst.s); }
 
 static uint64_t columns_ours(void)
 {
     uint64_t columns = 0;
     uint64_t count = 0;
-    return screen_columns_read(CALL(full), &columns, &count) + columns + count;
+    return screen_lent_columns_read(&full.s, &columns, &count) + columns + count;
 }
 
 static uint64_t columns_plain(void)

@@ -40,7 +40,7 @@ static int known_type(unsigned type)
     return type >= SCREEN_TYPE_INT && type <= SCREEN_TYPE_TRUTH;
 }
 
-static uint32_t outside(const struct plain_screen *s)
+static uint32_t outside(const struct screen_lent *s)
 {
     if (s->table_len > SCREEN_MAX_COLUMNS)
         return SCREEN_REFUSED_TABLE;
@@ -74,7 +74,7 @@ static int known(struct fields f, const uint8_t *at)
     }
 }
 
-static int list_fits(const struct plain_screen *s, struct fields f)
+static int list_fits(const struct screen_lent *s, struct fields f)
 {
     if ((uint64_t)f.a + f.b > s->pool_len / 8)
         return 0;
@@ -87,7 +87,7 @@ static int list_fits(const struct plain_screen *s, struct fields f)
 }
 
 /* 5: what it refers to. */
-static int refers(const struct plain_screen *s, struct fields f, uint64_t node)
+static int refers(const struct screen_lent *s, struct fields f, uint64_t node)
 {
     switch (f.kind) {
     case SCREEN_KIND_COLUMN: return f.a < s->table_len;
@@ -102,7 +102,7 @@ static int refers(const struct plain_screen *s, struct fields f, uint64_t node)
 }
 
 /* 6: what is left out. */
-static int left_out(const struct plain_screen *s, struct fields f)
+static int left_out(const struct screen_lent *s, struct fields f)
 {
     if (f.kind == SCREEN_KIND_BINARY)
         return f.code > SCREEN_OP_GT_EQ && f.code < SCREEN_OP_AND;
@@ -110,7 +110,7 @@ static int left_out(const struct plain_screen *s, struct fields f)
 }
 
 /* 7: the type of a record whose inputs fit, or 0. */
-static unsigned type_of(const struct plain_screen *s, struct fields f, const uint8_t *types)
+static unsigned type_of(const struct screen_lent *s, struct fields f, const uint8_t *types)
 {
     unsigned a;
     switch (f.kind) {
@@ -145,7 +145,7 @@ static unsigned type_of(const struct plain_screen *s, struct fields f, const uin
     return SCREEN_TYPE_TRUTH;
 }
 
-uint32_t plain_check(const struct plain_screen *s)
+uint32_t plain_check(const struct screen_lent *s)
 {
     uint8_t types[SCREEN_MAX_RECORDS];
     uint32_t fault = outside(s);
@@ -183,7 +183,7 @@ static unsigned inputs(unsigned kind)
     }
 }
 
-uint32_t plain_columns_read(const struct plain_screen *s, uint64_t *columns, uint64_t *count)
+uint32_t plain_columns_read(const struct screen_lent *s, uint64_t *columns, uint64_t *count)
 {
     uint8_t reached[SCREEN_MAX_RECORDS] = {0};
     uint64_t read = 0;
@@ -228,7 +228,7 @@ struct scalar {
 };
 
 struct eval {
-    const struct plain_screen *s;
+    const struct screen_lent *s;
     const uint8_t *row;
     uint64_t nulls;
 };
@@ -323,14 +323,14 @@ static unsigned truth_at(const struct eval *e, uint64_t node)
     }
 }
 
-unsigned plain_evaluate(const struct plain_screen *s, const uint8_t *row, uint64_t nulls)
+unsigned plain_evaluate(const struct screen_lent *s, const uint8_t *row, uint64_t nulls)
 {
     struct eval e = {s, row, nulls};
     return truth_at(&e, s->root);
 }
 
 /* Records of the root's tree, shared ones each time they are reached, stopped at one above the limit. */
-static uint32_t tree_count(const struct plain_screen *s)
+static uint32_t tree_count(const struct screen_lent *s)
 {
     uint16_t counts[SCREEN_MAX_RECORDS];
     for (uint64_t node = 0; node <= s->root; node++) {
@@ -348,7 +348,7 @@ static uint32_t tree_count(const struct plain_screen *s)
     return counts[s->root];
 }
 
-uint32_t plain_test_row(const struct plain_screen *s, const uint8_t *row, size_t row_len, uint64_t nulls)
+uint32_t plain_test_row(const struct screen_lent *s, const uint8_t *row, size_t row_len, uint64_t nulls)
 {
     uint32_t answer = plain_check(s);
     if (answer != SCREEN_ACCEPTED)

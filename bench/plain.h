@@ -5,31 +5,18 @@
 #ifndef PLAIN_H
 #define PLAIN_H
 
-#include <stddef.h>
-#include <stdint.h>
-
-/* A lent screen, as the calls of screen.h take it. */
-struct plain_screen {
-    const uint8_t *table;
-    size_t table_len;
-    const uint8_t *records;
-    size_t records_len;
-    const uint8_t *pool;
-    size_t pool_len;
-    uint64_t used;
-    uint64_t root;
-};
+#include "screen_build.h"
 
 /* As screen_check. */
-uint32_t plain_check(const struct plain_screen *s);
+uint32_t plain_check(const struct screen_lent *s);
 
 /* As screen_columns_read. */
-uint32_t plain_columns_read(const struct plain_screen *s, uint64_t *columns, uint64_t *count);
+uint32_t plain_columns_read(const struct screen_lent *s, uint64_t *columns, uint64_t *count);
 
 /* As screen_test_row. */
-uint32_t plain_test_row(const struct plain_screen *s, const uint8_t *row, size_t row_len, uint64_t nulls);
+uint32_t plain_test_row(const struct screen_lent *s, const uint8_t *row, size_t row_len, uint64_t nulls);
 
 /* The evaluation alone, of a screen and a row that were checked: 0 false, 1 unknown, 2 true. */
-unsigned plain_evaluate(const struct plain_screen *s, const uint8_t *row, uint64_t nulls);
+unsigned plain_evaluate(const struct screen_lent *s, const uint8_t *row, uint64_t nulls);
 
 #endif

@@ -31,7 +31,7 @@ static void begin(unsigned columns)
 
 static void join(uint32_t next)
 {
-    top = lines == 0 ? next : and_of(&now, top, next);
+    top = lines == 0 ? next : screen_put_and(&now.s, top, next);
     lines++;
 }
 
@@ -42,22 +42,17 @@ static void compare(unsigned code, uint32_t number, int64_t value)
 
 static void equal_columns(uint32_t left, uint32_t right)
 {
-    uint32_t a = column(&now, left);
-    uint32_t b = column(&now, right);
-    join(put(&now, SCREEN_KIND_BINARY, SCREEN_OP_EQ, 0, a, b, 0));
-}
-
-static uint32_t not_of(uint32_t input)
-{
-    return put(&now, SCREEN_KIND_NOT, 0, 0, input, 0, 0);
+    uint32_t a = screen_put_column(&now.s, left);
+    uint32_t b = screen_put_column(&now.s, right);
+    join(screen_put_binary(&now.s, SCREEN_OP_EQ, a, b));
 }
 
 /* is_in of a column over values of the pool that stand there already. */
 static uint32_t listed(uint32_t number, uint32_t start, uint32_t count)
 {
-    uint32_t x = column(&now, number);
-    uint32_t values = put(&now, SCREEN_KIND_LIST, 0, SCREEN_TYPE_INT, start, count, 0);
-    return put(&now, SCREEN_KIND_IS_IN, 0, 0, x, values, 0);
+    uint32_t x = screen_put_column(&now.s, number);
+    uint32_t values = screen_put(&now.s, SCREEN_KIND_LIST, 0, SCREEN_TYPE_INT, start, count, 0);
+    return screen_put_is_in(&now.s, x, values, 0);
 }
 
 /* Appends `count` times a value to the pool and answers where they start. */
@@ -65,8 +60,7 @@ static uint32_t repeated(int64_t value, uint32_t count)
 {
     uint32_t start = (uint32_t)(now.s.pool_len / 8);
     for (uint32_t i = 0; i < count; i++)
-        store(now.pool + now.s.pool_len + 8 * (size_t)i, 8, (uint64_t)value);
-    now.s.pool_len += (size_t)8 * count;
+        screen_put_pool(&now.s, value);
     return start;
 }
 
@@ -93,10 +87,10 @@ static void make_typed(unsigned count)
         case 4: join(member(&now, 4, 1, 5)); break;
         case 5: compare(SCREEN_OP_GT, 0, 90); break;
         case 6: compare(SCREEN_OP_GT, 2, 7); break;
-        case 7: join(put(&now, SCREEN_KIND_IS_NOT_NULL, 0, 0, column(&now, 4), 0, 0)); break;
+        case 7: join(screen_put_is_not_null(&now.s, screen_put_column(&now.s, 4))); break;
         case 8: compare(SCREEN_OP_NOT_EQ, 0, 100); break;
         case 9: join(range(&now, 5, 1, 9)); break;
-        case 10: join(not_of(member(&now, 4, 3, 3))); break;
+        case 10: join(screen_put_not(&now.s, member(&now, 4, 3, 3))); break;
         default: compare(SCREEN_OP_GT, 5, 2); break;
         }
 }
@@ -145,7 +139,7 @@ static void make_many_lists(void)
 {
     begin(60);
     for (uint32_t n = 0; n < 60; n++) {
-        join(n % 2 ? not_of(member(&now, n, 0, 100)) : member(&now, n, 0, 100));
+        join(n % 2 ? screen_put_not(&now.s, member(&now, n, 0, 100)) : member(&now, n, 0, 100));
         compare(SCREEN_OP_GT, n, 5);
     }
 }
@@ -178,7 +172,7 @@ static void make_negated_lists(void)
 {
     begin(64);
     for (uint32_t n = 0; n < 8; n++)
-        join(not_of(member(&now, 0, 100 * n, 100)));
+        join(screen_put_not(&now.s, member(&now, 0, 100 * n, 100)));
     join_chain(0);
 }
 
@@ -195,16 +189,13 @@ static void make_exclusions(void)
 
 static uint64_t ours(void)
 {
-    uint64_t new_root = 0;
-    uint64_t new_used = 0;
-    return screen_rewrite(now.s.table, now.s.table_len, now.records, sizeof now.records, now.s.pool, now.s.pool_len,
-                          now.s.used, now.s.root, &new_root, &new_used);
+    struct screen_lent returned = now.s;
+    return screen_lent_rewrite(&returned);
 }
 
 static uint64_t checks(void)
 {
-    return screen_check(now.s.table, now.s.table_len, now.records, sizeof now.records, now.s.pool, now.s.pool_len,
-                        now.s.used, now.s.root);
+    return screen_lent_check(&now.s);
 }
 
 static uint64_t rust(void)
@@ -220,7 +211,7 @@ static int beside(const char *name, double goal, unsigned rounds, unsigned times
     static struct taken taken;
     const work works[3] = {ours, rust, checks};
     uint64_t answer = ours();
-    prepared = oracle_prepare(now.s.records, now.s.records_len, now.s.pool, now.s.pool_len);
+    prepared = oracle_prepare(now.s.records, 16 * (size_t)now.s.used, now.s.pool, now.s.pool_len);
     if (answer < SCREEN_UNCHANGED || (answer != SCREEN_UNCHANGED) != rust()) {
         printf("%s: the answers differ\n", name);
         oracle_free(prepared);

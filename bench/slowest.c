@@ -25,13 +25,13 @@ static void begin(unsigned columns, unsigned type)
 
 static void join(uint32_t next)
 {
-    top = lines == 0 ? next : and_of(&now, top, next);
+    top = lines == 0 ? next : screen_put_and(&now.s, top, next);
     lines++;
 }
 
 static uint32_t not_of(uint32_t input)
 {
-    return put(&now, SCREEN_KIND_NOT, 0, 0, input, 0, 0);
+    return screen_put_not(&now.s, input);
 }
 
 /* Equalities from column 0 to the last one, in order or from the far end on: then a pass carries a fact by one step. */
@@ -39,9 +39,9 @@ static void join_chain(unsigned columns, int from_far_end)
 {
     for (uint32_t n = 0; n + 1 < columns; n++) {
         uint32_t left = from_far_end ? columns - 2 - n : n;
-        uint32_t a = column(&now, left);
-        uint32_t b = column(&now, left + 1);
-        join(put(&now, SCREEN_KIND_BINARY, SCREEN_OP_EQ, 0, a, b, 0));
+        uint32_t a = screen_put_column(&now.s, left);
+        uint32_t b = screen_put_column(&now.s, left + 1);
+        join(screen_put_binary(&now.s, SCREEN_OP_EQ, a, b));
     }
 }
 
@@ -63,14 +63,11 @@ static int64_t value_of(int pattern, unsigned n, unsigned lists, unsigned i)
 
 static uint32_t list_line(unsigned number, int pattern, unsigned n, unsigned lists)
 {
-    uint32_t start = (uint32_t)(now.s.pool_len / 8);
-    uint32_t x = column(&now, number);
-    uint32_t values;
+    int64_t values[LIST];
+    uint32_t x = screen_put_column(&now.s, number);
     for (unsigned i = 0; i < LIST; i++)
-        store(now.pool + 8 * ((size_t)start + i), 8, (uint64_t)value_of(pattern, n, lists, i));
-    now.s.pool_len += (size_t)8 * LIST;
-    values = put(&now, SCREEN_KIND_LIST, 0, SCREEN_TYPE_INT, start, LIST, 0);
-    return put(&now, SCREEN_KIND_IS_IN, 0, 0, x, values, 0);
+        values[i] = value_of(pattern, n, lists, i);
+    return screen_put_is_in(&now.s, x, screen_put_list(&now.s, SCREEN_TYPE_INT, values, LIST, 0), 0);
 }
 
 /* ---------------------------------------------------------------------------------------------------------- timing */
@@ -197,8 +194,8 @@ static void search_checking(void)
         begin(1, SCREEN_TYPE_TRUTH);
         now.s.pool_len = sizeof now.pool;
         for (unsigned n = 0; n + 1 < 4096; n++)
-            put(&now, SCREEN_KIND_LIST, 0, type, 0, 8192, 0);
-        column(&now, 0);
+            screen_put(&now.s, SCREEN_KIND_LIST, 0, type, 0, 8192, 0);
+        screen_put_column(&now.s, 0);
         snprintf(name, sizeof name, "4095 lists of %s over the whole pool", names[type]);
         time_screen(name);
     }

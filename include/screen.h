@@ -15,9 +15,14 @@
  *   used     how many records, from record 0 on, belong to the screen. At most 4,096, and no more than were lent.
  *   root     the number of the record that the screen means, below used. Records count from 0.
  *
- * Records, the pool and all other slices are a pointer and a length IN BYTES. A slice of length 0 may come with any
- * pointer, NULL too. A slice of another length must point to that many bytes. Lent buffers and out-parameters must not
+ * Records, the pool and all other slices are a pointer and a length IN BYTES. Lent buffers and out-parameters must not
  * overlap each other: nothing can check that, and the answer is not stated if they do. Byte slices need no alignment.
+ *
+ * NULL: a slice of length 0 may come with any pointer, NULL too; it is not looked at. A slice of another length must
+ * point to that many bytes, and an out-parameter to its number. NULL there is not checked and no refusal: the program
+ * is ended by the system at the first byte read or written, as with any other bad pointer.
+ *
+ * screen_build.h, beside this file, puts the bytes together and takes them as one struct in each call.
  *
  * THE 16 BYTES OF A RECORD
  *
@@ -41,8 +46,8 @@
  *
  * ANSWERS
  *
- * An answer below 256 is a refusal: the number says why (enum screen_refusal, screen_refusal_text), and nothing was
- * written. 256 and above is an answer of the call, named where the call is declared.
+ * An answer below 256 is a refusal (screen_refused): the number says why (enum screen_refusal, screen_refusal_text),
+ * and nothing was written. 256 and above is an answer of the call, named where the call is declared.
  *
  * WHAT IS PROVED, AND WHAT IS NOT
  *
@@ -54,20 +59,33 @@
  *
  * Each call checks every used record first, whether the root reaches it or not, so its time grows with `used`: a screen
  * that is kept for many calls should hold no record that its root does not reach. Checking a short screen takes some 50
- * ns, a full one some 15 us; the slowest to check, 4,095 lists of Day values that all span a full pool, some 12 ms. The
- * slowest screen known to rewrite, 65 lists of 100 values carried from column to column by 63 equalities, about a
- * second.
+ * ns, a full one 15 to 30 us, whatever its lists. The slowest screen known to rewrite, 65 lists of 100 values carried from
+ * column to column by 63 equalities, takes about a second.
  *
  * PLATFORM
  *
  * x86-64 Linux, two's complement. The archive needs nothing but memcpy and memset, has some 32 KB of code, keeps no
  * state and opens no file. MIT licence: LICENSE, and NOTICE for the Rust sources that it follows.
+ *
+ * "Document 01" in this file and in the sources is docs/01-scope.md, the paper that the library is made from.
  */
 #ifndef SCREEN_H
 #define SCREEN_H
 
 #include <stddef.h>
 #include <stdint.h>
+
+/* Of this interface: the major number rises if a host must be changed to compile, the minor one if something is new. */
+#define SCREEN_VERSION_MAJOR 1
+#define SCREEN_VERSION_MINOR 0
+#define SCREEN_VERSION "1.0"
+
+/* A host that leaves an answer unread is warned, by compilers that can. */
+#if defined(__GNUC__)
+#define SCREEN_MUST_USE __attribute__((warn_unused_result))
+#else
+#define SCREEN_MUST_USE
+#endif
 
 #ifdef __cplusplus
 extern "C" {
@@ -178,6 +196,12 @@ enum screen_refusal {
     SCREEN_REFUSED_ROW = 13
 };
 
+/* Is the answer of a call a refusal? */
+static inline int screen_refused(uint32_t answer)
+{
+    return answer < 256;
+}
+
 /* The plain sentence for a refusal number, for those who look numbers up. Never NULL. */
 static inline const char *screen_refusal_text(uint32_t answer)
 {
@@ -212,7 +236,7 @@ static inline const char *screen_refusal_text(uint32_t answer)
         return "The row has a null mark beyond its columns, a value outside its column's type, or a null whose value "
                "is not zero.";
     default:
-        return answer < 256 ? "No refusal has this number." : "Not refused.";
+        return screen_refused(answer) ? "No refusal has this number." : "Not refused.";
     }
 }
 
@@ -232,6 +256,7 @@ enum screen_check_answer {
  *   used                  how many of the records belong to the screen; any number, one too large is refused
  *   root                  the record that the screen means; any number, one not below used is refused
  */
+SCREEN_MUST_USE
 uint32_t screen_check(const uint8_t *table, size_t table_len, const uint8_t *records, size_t records_len,
                       const uint8_t *pool, size_t pool_len, uint64_t used, uint64_t root);
 
@@ -256,6 +281,9 @@ enum screen_rewrite_answer {
  *
  * The screen returned is the one sent with the records as they are after the call, *new_root and *new_used; with
  * SCREEN_UNCHANGED it is the one sent. It keeps its table and its pool.
+ *
+ * Before it runs on many rows it should be copied out: each call checks all used records, and those of the screen sent
+ * are still among them. screen_copy_reached of screen_build.h does so; it takes what the root reaches.
  *
  * What is written: with SCREEN_NOTHING_PASSES and SCREEN_REWRITTEN the records from number `used` up to, not including,
  * number *new_used, each whole; with SCREEN_REWRITTEN *new_root is one of them, never a record that was sent. Those
@@ -283,6 +311,7 @@ enum screen_rewrite_answer {
  *   is_in of a column over a list of at most 100 values that holds no null; Not of that
  *   is_null or is_not_null of a column; Not of that
  */
+SCREEN_MUST_USE
 uint32_t screen_rewrite(const uint8_t *table, size_t table_len, uint8_t *records, size_t records_len,
                         const uint8_t *pool, size_t pool_len, uint64_t used, uint64_t root,
                         uint64_t *new_root, uint64_t *new_used);
@@ -312,6 +341,7 @@ enum screen_test_row_answer {
  * The depth of the calls inside follows the depth of the screen; the deepest, a chain of 4,096 records, needs less than
  * 1.25 MB of stack.
  */
+SCREEN_MUST_USE
 uint32_t screen_test_row(const uint8_t *table, size_t table_len, const uint8_t *records, size_t records_len,
                          const uint8_t *pool, size_t pool_len, uint64_t used, uint64_t root,
                          const uint8_t *row, size_t row_len, uint64_t nulls);
@@ -332,6 +362,7 @@ enum screen_columns_read_answer {
  *   count          not NULL, and not the same as columns. Written with SCREEN_COLUMNS: the number of ones in *columns.
  *                  Keeps its value with a refusal
  */
+SCREEN_MUST_USE
 uint32_t screen_columns_read(const uint8_t *table, size_t table_len, const uint8_t *records, size_t records_len,
                              const uint8_t *pool, size_t pool_len, uint64_t used, uint64_t root,
                              uint64_t *columns, uint64_t *count);

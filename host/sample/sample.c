@@ -1,5 +1,5 @@
 /*
- * A trader's screen over a small option chain, checked, merged and run row by row:
+ * A trader's screen over a small option chain, checked, merged, copied out and run row by row:
  *
  *     strike at least 90
  *     strike at most 110
@@ -7,43 +7,38 @@
  *     expiry not after 2026-12-18
  *     surface_build == spot_build
  */
-#include "record.h"
-#include "screen.h"
+#include "screen_build.h"
 
 #include <stdio.h>
 
 enum { STRIKE, EXPIRY, SURFACE_BUILD, SPOT_BUILD, COLUMNS };
 
 static const char *const NAMES[COLUMNS] = {"strike", "expiry", "surface_build", "spot_build"};
-static const uint8_t TABLE[COLUMNS] = {SCREEN_TYPE_INT, SCREEN_TYPE_DAY, SCREEN_TYPE_INT, SCREEN_TYPE_INT};
+static const uint8_t TYPES[COLUMNS] = {SCREEN_TYPE_INT, SCREEN_TYPE_DAY, SCREEN_TYPE_INT, SCREEN_TYPE_INT};
 
-enum { USED = 18, ROOT = 17, LENT = 64 }; /* records behind the used ones are room for the merged screen */
-
-/* Records name only earlier ones; the last one joins the lines and is the root. */
-static void write_screen(uint8_t *records)
+/* Column against column or value; a record is put after those that it names. */
+static uint32_t compare(struct screen_lent *s, unsigned op, uint32_t column, uint32_t other)
 {
-    write_record(records, SCREEN_KIND_COLUMN, 0, 0, STRIKE, 0, 0);
-    write_record(records + 16, SCREEN_KIND_LITERAL, 0, SCREEN_TYPE_INT, 0, 90, 0);
-    write_record(records + 32, SCREEN_KIND_BINARY, SCREEN_OP_GT_EQ, 0, 0, 1, 0);
-    write_record(records + 48, SCREEN_KIND_LITERAL, 0, SCREEN_TYPE_INT, 0, 110, 0);
-    write_record(records + 64, SCREEN_KIND_BINARY, SCREEN_OP_LT_EQ, 0, 0, 3, 0);
-    write_record(records + 80, SCREEN_KIND_LITERAL, 0, SCREEN_TYPE_INT, 0, 95, 0);
-    write_record(records + 96, SCREEN_KIND_LITERAL, 0, SCREEN_TYPE_INT, 0, 105, 0);
-    write_record(records + 112, SCREEN_KIND_IS_BETWEEN, SCREEN_CLOSED_BOTH, 0, 0, 5, 6);
-    write_record(records + 128, SCREEN_KIND_COLUMN, 0, 0, EXPIRY, 0, 0);
-    write_record(records + 144, SCREEN_KIND_LITERAL, 0, SCREEN_TYPE_DAY, 0, 20805, 0); /* days since 1970-01-01 */
-    write_record(records + 160, SCREEN_KIND_BINARY, SCREEN_OP_LT_EQ, 0, 8, 9, 0);
-    write_record(records + 176, SCREEN_KIND_COLUMN, 0, 0, SURFACE_BUILD, 0, 0);
-    write_record(records + 192, SCREEN_KIND_COLUMN, 0, 0, SPOT_BUILD, 0, 0);
-    write_record(records + 208, SCREEN_KIND_BINARY, SCREEN_OP_EQ, 0, 11, 12, 0);
-    write_record(records + 224, SCREEN_KIND_BINARY, SCREEN_OP_AND, 0, 2, 4, 0);
-    write_record(records + 240, SCREEN_KIND_BINARY, SCREEN_OP_AND, 0, 14, 7, 0);
-    write_record(records + 256, SCREEN_KIND_BINARY, SCREEN_OP_AND, 0, 15, 10, 0);
-    write_record(records + 272, SCREEN_KIND_BINARY, SCREEN_OP_AND, 0, 16, 13, 0);
+    return screen_put_binary(s, op, screen_put_column(s, column), other);
+}
+
+/* The record put last joins the lines and is the root. */
+static void put_screen(struct screen_lent *s)
+{
+    for (unsigned c = 0; c < COLUMNS; c++)
+        screen_declare(s, TYPES[c]);
+    uint32_t low = compare(s, SCREEN_OP_GT_EQ, STRIKE, screen_put_int(s, 90));
+    uint32_t high = compare(s, SCREEN_OP_LT_EQ, STRIKE, screen_put_int(s, 110));
+    uint32_t from = screen_put_int(s, 95), to = screen_put_int(s, 105);
+    uint32_t range = screen_put_between(s, SCREEN_CLOSED_BOTH, screen_put_column(s, STRIKE), from, to);
+    uint32_t day = compare(s, SCREEN_OP_LT_EQ, EXPIRY, screen_put_day(s, screen_day(2026, 12, 18)));
+    uint32_t builds = compare(s, SCREEN_OP_EQ, SURFACE_BUILD, screen_put_column(s, SPOT_BUILD));
+    uint32_t strikes = screen_put_and(s, screen_put_and(s, low, high), range);
+    screen_put_and(s, screen_put_and(s, strikes, day), builds);
 }
 
 struct option {
-    uint64_t values[COLUMNS];
+    int64_t values[COLUMNS];
     uint64_t nulls; /* bit i: column i is null, and its value zero */
 };
 
@@ -70,53 +65,52 @@ static const char *truth_text(uint32_t answer)
     }
 }
 
-/* Merges the screen where it stands; *used and *root follow. */
-static void merge(uint8_t *records, size_t records_len, uint64_t *used, uint64_t *root)
+/* A sentence for each answer of screen_rewrite that is no refusal. */
+static const char *rewrite_text(uint32_t answer)
 {
-    uint64_t new_root, new_used;
-    uint32_t answer = screen_rewrite(TABLE, sizeof TABLE, records, records_len, NULL, 0, *used, *root, &new_root,
-                                     &new_used);
     switch (answer) {
     case SCREEN_UNCHANGED:
-        printf("nothing to merge\n");
-        return;
+        return "nothing to merge";
     case SCREEN_NOTHING_PASSES:
-    case SCREEN_REWRITTEN:
-        *used = new_used;
-        *root = new_root;
-        printf("%s; the root is now record %u of %u\n", answer == SCREEN_REWRITTEN ? "merged" : "no row can pass",
-               (unsigned)new_root, (unsigned)new_used);
-        return;
+        return "no row can pass";
     default:
-        printf("not merged, number %u: %s\n", (unsigned)answer, screen_refusal_text(answer));
+        return "merged";
     }
+}
+
+static int refuse(uint32_t answer)
+{
+    printf("refused, number %u: %s\n", (unsigned)answer, screen_refusal_text(answer));
+    return 1;
 }
 
 int main(void)
 {
-    uint8_t records[16 * LENT] = {0};
-    uint64_t used = USED, root = ROOT;
+    uint8_t table[COLUMNS], records[16 * 64], reached[16 * 64]; /* with room for the merged screen */
+    struct screen_lent s;
     uint64_t columns = 0, count = 0;
-    write_screen(records);
-    uint32_t answer = screen_check(TABLE, sizeof TABLE, records, sizeof records, NULL, 0, used, root);
-    if (answer != SCREEN_ACCEPTED) {
-        printf("refused, number %u: %s\n", (unsigned)answer, screen_refusal_text(answer));
-        return 1;
-    }
-    screen_columns_read(TABLE, sizeof TABLE, records, sizeof records, NULL, 0, used, root, &columns, &count);
+    screen_begin(&s, table, sizeof table, records, sizeof records, NULL, 0);
+    put_screen(&s);
+    uint32_t answer = screen_lent_columns_read(&s, &columns, &count);
+    if (screen_refused(answer))
+        return refuse(answer);
     printf("accepted; it reads %u columns:", (unsigned)count);
     for (unsigned c = 0; c < COLUMNS; c++)
         if (columns >> c & 1)
             printf(" %s", NAMES[c]);
-    printf("\n");
-    merge(records, sizeof records, &used, &root);
+    answer = screen_lent_rewrite(&s);
+    if (screen_refused(answer))
+        return refuse(answer);
+    printf("\n%s; %u records are used\n", rewrite_text(answer), (unsigned)s.used);
+    answer = screen_copy_reached(&s, reached, sizeof reached, &s);
+    if (screen_refused(answer))
+        return refuse(answer);
+    printf("copied out; %u records are used\n", (unsigned)s.used);
     for (unsigned i = 0; i < sizeof CHAIN / sizeof *CHAIN; i++) {
         uint8_t row[8 * COLUMNS];
         for (unsigned c = 0; c < COLUMNS; c++)
-            store(row + 8 * c, 8, CHAIN[i].values[c]);
-        answer = screen_test_row(TABLE, sizeof TABLE, records, sizeof records, NULL, 0, used, root, row, sizeof row,
-                                 CHAIN[i].nulls);
-        printf("row %u: %s\n", i, truth_text(answer));
+            screen_store_value(row + 8 * c, CHAIN[i].values[c]);
+        printf("row %u: %s\n", i, truth_text(screen_lent_test_row(&s, row, sizeof row, CHAIN[i].nulls)));
     }
     return 0;
 }

@@ -321,7 +321,7 @@ static void test_inputs(void)
         const uint32_t far[] = {inputs[i].record, inputs[i].record + 1, 4096, UINT32_MAX};
         for (size_t j = 0; j < sizeof far / sizeof far[0]; j++) {
             one_of_each();
-            store(sent.records + 16 * inputs[i].record + inputs[i].at, 4, far[j]);
+            screen_store(sent.records + 16 * inputs[i].record + inputs[i].at, 4, far[j]);
             refuse("an input not below its record", SCREEN_REFUSED_REFERENCE);
         }
     }

@@ -7,8 +7,7 @@
 #ifndef LEND_H
 #define LEND_H
 
-#include "record.h"
-#include "screen.h"
+#include "screen_build.h"
 
 #include <stdio.h>
 #include <stdlib.h>
@@ -16,19 +15,19 @@
 
 enum { LEND_TABLE = 128, LEND_RECORDS = 5000 * 16, LEND_POOL = 8200 * 8 };
 
-/* The screen under construction. Root and lengths follow what is put; a test may change any of them afterwards. */
-struct sent {
+/* The bytes of a screen. */
+struct store {
     uint8_t table[LEND_TABLE];
-    size_t table_len;
     uint8_t records[LEND_RECORDS];
-    size_t records_len;
     uint8_t pool[LEND_POOL];
-    size_t pool_len;
-    uint64_t used;
-    uint64_t root;
 };
 
-static struct sent sent;
+/*
+ * The screen under construction. Root and lengths follow what is put, so that no record is lent but the used ones; a
+ * test may change any of them afterwards.
+ */
+static struct screen_lent sent;
+static struct store sent_store;
 static unsigned passed;
 static unsigned failed;
 
@@ -48,13 +47,21 @@ static inline int finish(void)
     return failed != 0;
 }
 
+/* An empty screen in a store. */
+static inline void begin_in(struct screen_lent *s, struct store *bytes)
+{
+    memset(bytes, 0, sizeof *bytes);
+    screen_begin(s, bytes->table, sizeof bytes->table, bytes->records, sizeof bytes->records, bytes->pool,
+                 sizeof bytes->pool);
+    s->records_len = 0;
+}
+
 /* A new screen with this table, one byte a column. */
 static inline void begin(const uint8_t *table, size_t columns)
 {
-    memset(&sent, 0, sizeof sent);
-    if (columns > 0)
-        memcpy(sent.table, table, columns);
-    sent.table_len = columns;
+    begin_in(&sent, &sent_store);
+    for (size_t i = 0; i < columns; i++)
+        screen_declare(&sent, table[i]);
 }
 
 /* Columns of all three types: c0 Int, c1 Day, c2 Truth, c3 Int. */
@@ -64,73 +71,67 @@ static inline void begin_mixed(void)
     begin(table, sizeof table);
 }
 
-/* Appends a record, which becomes the root, and answers its number. */
+/* The records of screen_build.h, put into `sent`. */
+
 static inline uint32_t put(unsigned kind, unsigned code, unsigned type, uint32_t a, uint32_t b, uint32_t c)
 {
-    write_record(sent.records + 16 * sent.used, kind, code, type, a, b, c);
-    sent.root = sent.used;
-    sent.used++;
-    sent.records_len = 16 * (size_t)sent.used;
-    return (uint32_t)sent.root;
+    return screen_put(&sent, kind, code, type, a, b, c);
 }
 
 static inline uint32_t column(uint32_t number)
 {
-    return put(SCREEN_KIND_COLUMN, 0, 0, number, 0, 0);
+    return screen_put_column(&sent, number);
 }
 
 static inline uint32_t literal(unsigned type, int64_t value)
 {
-    uint64_t bits = (uint64_t)value;
-    return put(SCREEN_KIND_LITERAL, 0, type, 0, (uint32_t)bits, (uint32_t)(bits >> 32));
+    return screen_put_literal(&sent, type, value);
 }
 
 static inline uint32_t null_of(unsigned type)
 {
-    return put(SCREEN_KIND_NULL, 0, type, 0, 0, 0);
+    return screen_put_null(&sent, type);
 }
 
 static inline uint32_t binary(unsigned operator_code, uint32_t left, uint32_t right)
 {
-    return put(SCREEN_KIND_BINARY, operator_code, 0, left, right, 0);
+    return screen_put_binary(&sent, operator_code, left, right);
 }
 
 static inline uint32_t not_of(uint32_t input)
 {
-    return put(SCREEN_KIND_NOT, 0, 0, input, 0, 0);
+    return screen_put_not(&sent, input);
 }
 
 static inline uint32_t is_null(uint32_t input)
 {
-    return put(SCREEN_KIND_IS_NULL, 0, 0, input, 0, 0);
+    return screen_put_is_null(&sent, input);
 }
 
 static inline uint32_t is_not_null(uint32_t input)
 {
-    return put(SCREEN_KIND_IS_NOT_NULL, 0, 0, input, 0, 0);
+    return screen_put_is_not_null(&sent, input);
 }
 
 static inline uint32_t is_between(unsigned closed, uint32_t value, uint32_t low, uint32_t high)
 {
-    return put(SCREEN_KIND_IS_BETWEEN, closed, 0, value, low, high);
+    return screen_put_between(&sent, closed, value, low, high);
 }
 
+/* A list of values that the pool has, or has not. */
 static inline uint32_t list(unsigned holds_null, unsigned type, uint32_t start, uint32_t count)
 {
-    return put(SCREEN_KIND_LIST, holds_null, type, start, count, 0);
+    return screen_put(&sent, SCREEN_KIND_LIST, holds_null, type, start, count, 0);
 }
 
 static inline uint32_t is_in(unsigned nulls_equal, uint32_t value, uint32_t list_record)
 {
-    return put(SCREEN_KIND_IS_IN, nulls_equal, 0, value, list_record, 0);
+    return screen_put(&sent, SCREEN_KIND_IS_IN, nulls_equal, 0, value, list_record, 0);
 }
 
-/* Appends a value to the pool and answers its number. */
 static inline uint32_t pool_value(int64_t value)
 {
-    store(sent.pool + sent.pool_len, 8, (uint64_t)value);
-    sent.pool_len += 8;
-    return (uint32_t)(sent.pool_len / 8 - 1);
+    return screen_put_pool(&sent, value);
 }
 
 /* `column op literal`, three records. */

@@ -105,7 +105,8 @@ static uint32_t opaque_tree(uint32_t size)
 
 /* ------------------------------------------------------------------------------------------------ running the call */
 
-static struct sent before;                /* as it was sent, its room filled with marks */
+static struct screen_lent before; /* as it was sent, its room filled with marks */
+static struct store before_store;
 static uint8_t records_after[LEND_RECORDS];
 static uint32_t answer;
 static uint64_t new_root;
@@ -124,7 +125,11 @@ static void room(size_t records, size_t bytes)
 static void run(void)
 {
     struct slices s = lend();
+    before_store = sent_store;
     before = sent;
+    before.table = before_store.table;
+    before.records = before_store.records;
+    before.pool = before_store.pool;
     new_root = MARK_ROOT;
     new_used = MARK_USED;
     answer = screen_rewrite(s.table, sent.table_len, s.records, sent.records_len, s.pool, sent.pool_len, sent.used,
@@ -149,27 +154,19 @@ static void try_value(int64_t value)
         values[values_len++] = value;
 }
 
-static int64_t value_at(const uint8_t *at)
-{
-    uint64_t value = 0;
-    for (unsigned i = 8; i-- > 0;)
-        value = value << 8 | at[i];
-    return (int64_t)value;
-}
-
 /* The values of the screen sent and their neighbours, those of the last lines first. */
 static void gather_values(void)
 {
     values_len = 0;
     for (size_t n = before.used; n-- > 0;)
         if (before.records[16 * n] == SCREEN_KIND_LITERAL) {
-            int64_t value = value_at(before.records + 16 * n + 8);
+            int64_t value = screen_fetch_value(before.records + 16 * n + 8);
             try_value(value);
             try_value(value == INT64_MAX ? value : value + 1);
             try_value(value == INT64_MIN ? value : value - 1);
         }
     for (size_t at = 0; at < before.pool_len; at += 8)
-        try_value(value_at(before.pool + at));
+        try_value(screen_fetch_value(before.pool + at));
 }
 
 /* Even columns hold the first value, odd ones the second; values_len stands for null. */
@@ -183,7 +180,7 @@ static uint64_t make_row(uint8_t *row, size_t even, size_t odd)
             value = 0;
         if (before.table[c] == TRUTH)
             value = value > 0;
-        store(row + 8 * c, 8, (uint64_t)value);
+        screen_store_value(row + 8 * c, value);
         if (choice == values_len)
             nulls |= UINT64_C(1) << c;
     }

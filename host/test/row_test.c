@@ -21,7 +21,7 @@ static void zero_row(void)
 
 static void cell(unsigned number, int64_t value)
 {
-    store(row + 8 * number, 8, (uint64_t)value);
+    screen_store_value(row + 8 * number, value);
 }
 
 static void null_cell(unsigned number)

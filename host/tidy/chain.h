@@ -1,33 +1,49 @@
 /*
- * A chain of options as a CSV file: a line of column names, then a row a line. Every column of the screen must be there
- * once; other columns of the file are not read. An empty cell is null; a line without any text is no row.
+ * A chain of options as a CSV file: a line of column names, then a row a line. Every column that the screen reads must
+ * be there once; other columns of the file are not read. An empty cell is null; a line without any text is no row.
  */
 #ifndef CHAIN_H
 #define CHAIN_H
 
-#include "print.h"
+#include "tidy.h"
 
 struct chain {
     size_t columns;  /* of the screen */
     uint8_t *values; /* row after row, eight bytes a column, as the library takes them */
     size_t values_room;
-    uint64_t *nulls; /* a word of marks a row */
+    uint64_t *nulls; /* a word of marks a row; a column that the screen does not read may be missing, and is null */
     size_t nulls_room;
     size_t *lines; /* where a row stands in the file */
     size_t lines_room;
     size_t rows;
 };
 
-bool chain_read(struct slice text, const struct build *build, struct chain *chain, struct fault *fault);
+bool chain_read(struct slice text, const struct build *build, uint64_t read, struct chain *chain,
+                struct faults *faults);
 
 void chain_free(struct chain *chain);
 
+/* The bytes of a row, and how many. */
+const uint8_t *chain_row(const struct chain *chain, size_t row);
+size_t chain_row_len(const struct chain *chain);
+
+/* The answers of one screen on all rows. */
 struct run {
-    size_t passed;
+    uint8_t *truths;  /* a row each: 0 false, 1 unknown, 2 true */
+    size_t counts[3]; /* of each */
     uint32_t refusal; /* of the last row refused; 0 if none was */
 };
 
-/* Tests every row, and writes to passes[i] whether row i passes. */
-struct run chain_run(const struct chain *chain, struct view view, bool *passes);
+/* What a chain says of a screen as typed, as returned and as copied out. */
+struct outcome {
+    struct run typed, returned, copied;
+    bool same;                              /* rows pass as typed, as returned and as copied */
+    size_t unknown_by[SCREEN_MAX_COLUMNS];  /* rows that are unknown as typed for a null in this column */
+    double typed_ns, returned_ns, copied_ns; /* a row */
+};
+
+void chain_run(struct outcome *outcome, const struct chain *chain, const struct tidied *tidied);
+
+void outcome_free(struct outcome *outcome);
 
 #endif

@@ -1,5 +1,7 @@
 #include "day.h"
 
+#include "screen_build.h"
+
 /* Years are counted from 1 March, so that the day that leap years add is a year's last. */
 enum { DAYS_OF_400_YEARS = 146097, FROM_YEAR_0_TO_1970 = 719468 };
 
@@ -23,13 +25,6 @@ static int64_t digits(const char *at, size_t count)
     return value;
 }
 
-static int64_t days_of_month(int64_t year, int64_t month)
-{
-    static const int64_t DAYS[12] = {31, 28, 31, 30, 31, 30, 31, 31, 30, 31, 30, 31};
-    bool leap = (year % 4 == 0 && year % 100 != 0) || year % 400 == 0;
-    return DAYS[month - 1] + (month == 2 && leap);
-}
-
 static int64_t floor_divide(int64_t a, int64_t b)
 {
     return a / b - (a % b < 0);
@@ -39,15 +34,11 @@ bool day_read(struct slice part, int64_t *day)
 {
     if (!looks_like_day(part))
         return false;
-    int64_t year = digits(part.at, 4), month = digits(part.at + 5, 2), of_month = digits(part.at + 8, 2);
-    if (month < 1 || month > 12 || of_month < 1 || of_month > days_of_month(year, month))
+    int64_t days = screen_day((int32_t)digits(part.at, 4), (unsigned)digits(part.at + 5, 2),
+                              (unsigned)digits(part.at + 8, 2));
+    if (days == INT64_MIN)
         return false;
-    int64_t from_march = month > 2 ? month - 3 : month + 9;
-    int64_t counted = month > 2 ? year : year - 1;
-    int64_t era = floor_divide(counted, 400);
-    int64_t of_era = counted - 400 * era;
-    int64_t of_year = (153 * from_march + 2) / 5 + of_month - 1;
-    *day = era * DAYS_OF_400_YEARS + of_era * 365 + of_era / 4 - of_era / 100 + of_year - FROM_YEAR_0_TO_1970;
+    *day = days;
     return true;
 }
 

@@ -42,6 +42,8 @@ static const struct sign {
     {">", TOKEN_COMPARISON, SCREEN_OP_GT},
     {"(", TOKEN_OPEN, 0},
     {")", TOKEN_CLOSE, 0},
+    {"[", TOKEN_OPEN_LIST, 0},
+    {"]", TOKEN_CLOSE_LIST, 0},
     {",", TOKEN_COMMA, 0},
 };
 
@@ -101,7 +103,7 @@ static void read_number(struct lexer *lexer, struct token *token)
         expected = "a whole number within 64 bits";
     }
     token->kind = TOKEN_FAULT;
-    fault_set(lexer->fault, lexer->number, token->place, "expected %s, found '%.*s'", expected,
+    fault_add(lexer->faults, lexer->number, token->place, "expected %s, found '%.*s'", expected,
               token->text.len > 60 ? 60 : (int)token->text.len, token->text.at);
 }
 
@@ -121,9 +123,9 @@ static void read_sign(struct lexer *lexer, struct slice rest, struct token *toke
     unsigned char c = (unsigned char)rest.at[0];
     const char *expected = "a name, a number, a day or a sign";
     if (c > ' ' && c < 127)
-        fault_set(lexer->fault, lexer->number, token->place, "expected %s, found '%c'", expected, c);
+        fault_add(lexer->faults, lexer->number, token->place, "expected %s, found '%c'", expected, c);
     else
-        fault_set(lexer->fault, lexer->number, token->place, "expected %s, found the byte %u", expected, (unsigned)c);
+        fault_add(lexer->faults, lexer->number, token->place, "expected %s, found the byte %u", expected, (unsigned)c);
 }
 
 struct token lex_next(struct lexer *lexer)

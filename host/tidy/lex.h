@@ -23,6 +23,8 @@ enum token_kind {
     TOKEN_COLUMN,
     TOKEN_OPEN,
     TOKEN_CLOSE,
+    TOKEN_OPEN_LIST, /* [ */
+    TOKEN_CLOSE_LIST,
     TOKEN_COMMA,
     TOKEN_FAULT /* fits nowhere, so a parser that meets it finds its way out */
 };
@@ -39,7 +41,7 @@ struct lexer {
     struct slice line;
     size_t number; /* of the line, from 1 */
     size_t at;
-    struct fault *fault;
+    struct faults *faults;
 };
 
 /* A comment, from # to the end of the line, is no token. A character that begins none is a fault. */

@@ -9,11 +9,17 @@ struct parser {
     struct lexer lexer;
     struct token token;
     struct build *build;
-    struct fault *fault;
+    struct faults *faults;
     unsigned depth;
 };
 
-static uint32_t parse_logic(struct parser *p);
+/* A record and where its text begins. */
+struct operand {
+    uint32_t record;
+    struct token at;
+};
+
+static struct operand parse_logic(struct parser *p);
 
 static void take(struct parser *p)
 {
@@ -21,15 +27,35 @@ static void take(struct parser *p)
         p->token = lex_next(&p->lexer);
 }
 
+/* As much of a token as a message shows. */
+static int shown(struct token token)
+{
+    return token.text.len > 60 ? 60 : (int)token.text.len;
+}
+
+/* The token by which a message names an operand; parentheses are not repeated. */
+static struct token named(struct operand operand)
+{
+    struct slice parentheses = {"(..)", 4};
+    if (operand.at.kind == TOKEN_OPEN)
+        operand.at.text = parentheses;
+    return operand.at;
+}
+
 /* What stands at `token` is not what was expected; from here on nothing fits, so every caller returns. */
 static void refuse(struct parser *p, struct token token, const char *expected)
 {
     if (token.kind == TOKEN_END)
-        fault_set(p->fault, p->lexer.number, token.place, "expected %s, found the end of the line", expected);
+        fault_add(p->faults, p->lexer.number, token.place, "expected %s, found the end of the line", expected);
     else
-        fault_set(p->fault, p->lexer.number, token.place, "expected %s, found '%.*s'", expected,
-                  token.text.len > 60 ? 60 : (int)token.text.len, token.text.at);
+        fault_add(p->faults, p->lexer.number, token.place, "expected %s, found '%.*s'", expected, shown(token),
+                  token.text.at);
     p->token.kind = TOKEN_FAULT;
+}
+
+static bool faulty(const struct parser *p)
+{
+    return p->token.kind == TOKEN_FAULT;
 }
 
 static void expect(struct parser *p, enum token_kind kind, const char *expected)
@@ -53,6 +79,89 @@ static void expect_word(struct parser *p, const char *word, const char *expected
         refuse(p, p->token, expected);
 }
 
+/* ----------------------------------------------------------------------------------- what fits, in the desk's words */
+
+static const char *const A_TYPE[4] = {"", "an Int", "a Day", "a Truth"};
+
+/* What is written for a value of the type. */
+static const char *const EXAMPLE[4] = {"", "a whole number, as 100", "a day, as 2026-12-18", "true or false"};
+
+static unsigned kind_of(const struct parser *p, struct operand operand)
+{
+    return screen_record_at(&p->build->lent, operand.record).kind;
+}
+
+static bool is_column(const struct parser *p, struct operand operand)
+{
+    return kind_of(p, operand) == SCREEN_KIND_COLUMN;
+}
+
+/* `other` is compared with `column`, whose type it has not. */
+static void refuse_type(struct parser *p, struct operand column, struct operand other)
+{
+    unsigned type = type_of(p->build, column.record), found = type_of(p->build, other.record);
+    struct token left = named(column), right = named(other);
+    if (is_column(p, column) && !is_column(p, other))
+        fault_add(p->faults, p->lexer.number, right.place, "%.*s is %s: write %s", shown(left), left.text.at,
+                  A_TYPE[type], EXAMPLE[type]);
+    else
+        fault_add(p->faults, p->lexer.number, right.place, "%.*s is %s and %.*s %s: only values of one type compare",
+                  shown(left), left.text.at, A_TYPE[type], shown(right), right.text.at, A_TYPE[found]);
+    p->token.kind = TOKEN_FAULT;
+}
+
+/*
+ * The operands of a comparison have one type; nulls take it. A fault if all of them are null: 01 has a null of each
+ * type, and nothing says which one is meant.
+ */
+static void fit(struct parser *p, const struct operand *operands, size_t count)
+{
+    uint32_t inputs[3] = {0, 0, 0};
+    for (size_t i = 0; i < count; i++)
+        inputs[i] = operands[i].record;
+    if (faulty(p))
+        return;
+    if (!fit_types(p->build, inputs, count, 0)) {
+        refuse(p, operands[0].at, "a column or a value that gives null its type");
+        return;
+    }
+    for (size_t i = 1; i < count && !faulty(p); i++)
+        if (type_of(p->build, inputs[i]) != type_of(p->build, inputs[0])) {
+            bool swapped = is_column(p, operands[i]) && !is_column(p, operands[0]);
+            refuse_type(p, operands[swapped ? i : 0], operands[swapped ? 0 : i]);
+        }
+}
+
+/* What stands in a line, in logic or below a not is true or false. */
+static void need_truth(struct parser *p, struct operand operand)
+{
+    if (faulty(p))
+        return;
+    fit_types(p->build, &operand.record, 1, SCREEN_TYPE_TRUTH);
+    unsigned type = type_of(p->build, operand.record);
+    if (type == SCREEN_TYPE_TRUTH)
+        return;
+    fault_add(p->faults, p->lexer.number, operand.at.place, "%.*s is %s, where true or false is needed: %s",
+              shown(operand.at), operand.at.text.at, A_TYPE[type],
+              is_column(p, operand) ? "compare it with a value" : "compare a column with it");
+    p->token.kind = TOKEN_FAULT;
+}
+
+/* A comparison with null is unknown for every row. */
+static void warn_of_null(struct parser *p, unsigned code, const struct operand *sides)
+{
+    int null = kind_of(p, sides[0]) == SCREEN_KIND_NULL ? 0 : 1;
+    struct token other = named(sides[1 - null]);
+    if (faulty(p) || kind_of(p, sides[null]) != SCREEN_KIND_NULL || code == SCREEN_OP_EQ_VALIDITY ||
+        code == SCREEN_OP_NOT_EQ_VALIDITY)
+        return;
+    warning_add(p->faults, p->lexer.number, sides[null].at.place,
+                "a comparison with null is never true: write %.*s is %snull", shown(other), other.text.at,
+                code == SCREEN_OP_EQ ? "" : "not ");
+}
+
+/* -------------------------------------------------------------------------------------------------- what is written */
+
 static uint8_t literal_type(enum token_kind kind)
 {
     switch (kind) {
@@ -67,63 +176,73 @@ static uint8_t literal_type(enum token_kind kind)
     }
 }
 
+static void refuse_name(struct parser *p)
+{
+    const struct build *build = p->build;
+    size_t near = nearest_column(build, p->token.text);
+    if (near < build->lent.table_len)
+        fault_add(p->faults, p->lexer.number, p->token.place, "there is no column %.*s: did you mean %s?",
+                  shown(p->token), p->token.text.at, build->columns[near].name);
+    else
+        fault_add(p->faults, p->lexer.number, p->token.place, "no line above declares a column %.*s", shown(p->token),
+                  p->token.text.at);
+    p->token.kind = TOKEN_FAULT;
+}
+
 static uint32_t parse_column(struct parser *p)
 {
-    struct fields fields = {SCREEN_KIND_COLUMN, 0, 0, 0, 0, 0};
     size_t column = find_column(p->build, p->token.text);
-    if (column == p->build->columns) {
-        refuse(p, p->token, "a column that a line above names");
+    if (column == p->build->lent.table_len) {
+        refuse_name(p);
         return 0;
     }
-    fields.a = (uint32_t)column;
     take(p);
-    return add_record(p->build, fields);
+    return screen_put_column(&p->build->lent, (uint32_t)column);
 }
 
 static uint32_t parse_parentheses(struct parser *p)
 {
     take(p);
-    uint32_t inside = parse_logic(p);
+    uint32_t inside = parse_logic(p).record;
     expect(p, TOKEN_CLOSE, "')' or an operator");
     return inside;
 }
 
-static uint32_t parse_operand(struct parser *p)
+static struct operand parse_operand(struct parser *p)
 {
-    struct token token = p->token;
-    struct fields null = {SCREEN_KIND_NULL, 0, 0, 0, 0, 0};
-    switch (token.kind) {
+    struct operand operand = {0, p->token};
+    switch (p->token.kind) {
     case TOKEN_NAME:
-        return parse_column(p);
+        operand.record = parse_column(p);
+        break;
     case TOKEN_OPEN:
-        return parse_parentheses(p);
+        operand.record = parse_parentheses(p);
+        break;
     case TOKEN_NULL:
         take(p);
-        return add_record(p->build, null);
+        operand.record = screen_put_null(&p->build->lent, 0);
+        break;
     case TOKEN_INT:
     case TOKEN_DAY:
     case TOKEN_TRUTH:
         take(p);
-        return add_literal(p->build, literal_type(token.kind), token.value);
+        operand.record = screen_put_literal(&p->build->lent, literal_type(operand.at.kind), operand.at.value);
+        break;
     default:
-        refuse(p, token, "a column, a whole number, a day, true, false, null or '('");
-        return 0;
+        refuse(p, p->token, "a column, a whole number, a day, true, false, null or '('");
     }
+    return operand;
 }
 
-/* A fault if all of the inputs are null: 01 has a null of each type, and nothing says which one is meant. */
-static void fit(struct parser *p, struct token first, const uint32_t *inputs, size_t count)
+static uint32_t compare(struct parser *p, unsigned code, struct operand left)
 {
-    if (p->token.kind != TOKEN_FAULT && !fit_types(p->build, inputs, count, 0))
-        refuse(p, first, "a column or a value that gives null its type");
-}
-
-static uint32_t compare(struct parser *p, struct token first, unsigned code, uint32_t left)
-{
-    uint32_t inputs[2] = {left, parse_operand(p)};
-    fit(p, first, inputs, 2);
-    struct fields fields = {SCREEN_KIND_BINARY, code, 0, inputs[0], inputs[1], 0};
-    return add_record(p->build, fields);
+    struct operand sides[2] = {left, {0, p->token}};
+    sides[1] = parse_operand(p);
+    fit(p, sides, 2);
+    if (faulty(p))
+        return 0;
+    warn_of_null(p, code, sides);
+    return screen_put_binary(&p->build->lent, code, sides[0].record, sides[1].record);
 }
 
 static unsigned parse_closed(struct parser *p)
@@ -141,69 +260,80 @@ static unsigned parse_closed(struct parser *p)
     return 0;
 }
 
-static uint32_t parse_between(struct parser *p, struct token first, uint32_t value)
+static uint32_t parse_between(struct parser *p, struct operand value)
 {
-    uint32_t inputs[3] = {value, 0, 0};
+    struct operand operands[3] = {value, value, value};
     take(p);
-    inputs[1] = parse_operand(p);
+    operands[1] = parse_operand(p);
     if (p->token.kind == TOKEN_LOGIC && p->token.code == SCREEN_OP_AND)
         take(p);
     else
         refuse(p, p->token, "'and' with the upper end");
-    inputs[2] = parse_operand(p);
+    operands[2] = parse_operand(p);
     unsigned code = parse_closed(p);
-    fit(p, first, inputs, 3);
-    struct fields fields = {SCREEN_KIND_IS_BETWEEN, code, 0, inputs[0], inputs[1], inputs[2]};
-    return add_record(p->build, fields);
+    fit(p, operands, 3);
+    return faulty(p) ? 0 : screen_put_between(&p->build->lent, code, value.record, operands[1].record,
+                                              operands[2].record);
 }
 
+/* A list's record before it is put, and the type that its first value gave it. */
+struct list {
+    unsigned type, holds_null;
+    uint32_t start, count;
+};
+
 /* One entry of a list: a value goes to the pool, a null is marked in the list's code. */
-static void parse_entry(struct parser *p, struct fields *list)
+static void parse_entry(struct parser *p, struct list *list)
 {
     static const char *const EXPECTED[4] = {"a value of the list, or ')'", "a whole number, as the list began",
                                             "a day, as the list began", "true or false, as the list began"};
     unsigned type = literal_type(p->token.kind);
     if (p->token.kind == TOKEN_NULL) {
-        list->code = 1;
+        list->holds_null = 1;
     } else if (type == 0 || (list->type != 0 && type != list->type)) {
         refuse(p, p->token, EXPECTED[list->type]);
     } else {
         list->type = type;
-        list->b++;
-        add_pool_value(p->build, p->token.value);
+        list->count++;
+        screen_put_pool(&p->build->lent, p->token.value);
     }
     take(p);
 }
 
-static uint32_t parse_list(struct parser *p)
+static struct operand parse_list(struct parser *p)
 {
-    struct fields list = {SCREEN_KIND_LIST, 0, 0, p->build->pool_values, 0, 0};
-    expect(p, TOKEN_OPEN, "'(' and the values of a list");
-    if (p->token.kind != TOKEN_CLOSE)
+    struct list list = {0, 0, (uint32_t)(p->build->lent.pool_len / SCREEN_VALUE_BYTES), 0};
+    bool bracket = p->token.kind == TOKEN_OPEN_LIST;
+    enum token_kind close = bracket ? TOKEN_CLOSE_LIST : TOKEN_CLOSE;
+    expect(p, bracket ? TOKEN_OPEN_LIST : TOKEN_OPEN, "'(' and the values of a list");
+    struct operand operand = {0, p->token};
+    if (p->token.kind != close)
         parse_entry(p, &list);
     while (p->token.kind == TOKEN_COMMA) {
         take(p);
         parse_entry(p, &list);
     }
-    expect(p, TOKEN_CLOSE, "',' or ')'");
-    return add_record(p->build, list);
+    expect(p, close, bracket ? "',' or ']'" : "',' or ')'");
+    if (!faulty(p))
+        operand.record = screen_put(&p->build->lent, SCREEN_KIND_LIST, list.holds_null, list.type, list.start,
+                                    list.count, 0);
+    return operand;
 }
 
-static uint32_t parse_in(struct parser *p, struct token first, uint32_t value)
+static uint32_t parse_in(struct parser *p, struct operand value)
 {
     take(p);
-    uint32_t inputs[2] = {value, parse_list(p)};
-    struct fields fields = {SCREEN_KIND_IS_IN, 0, 0, inputs[0], inputs[1], 0};
-    if (at_word(p, "nulls")) {
+    struct operand operands[2] = {value, parse_list(p)};
+    bool nulls_equal = at_word(p, "nulls");
+    if (nulls_equal) {
         take(p);
         expect_word(p, "equal", "'equal'");
-        fields.code = 1;
     }
-    fit(p, first, inputs, 2);
-    return add_record(p->build, fields);
+    fit(p, operands, 2);
+    return faulty(p) ? 0 : screen_put_is_in(&p->build->lent, value.record, operands[1].record, nulls_equal);
 }
 
-static uint32_t parse_is(struct parser *p, struct token first, uint32_t value)
+static uint32_t parse_is(struct parser *p, struct operand value)
 {
     take(p);
     bool negated = p->token.kind == TOKEN_NOT;
@@ -212,54 +342,57 @@ static uint32_t parse_is(struct parser *p, struct token first, uint32_t value)
     if (at_word(p, "distinct")) {
         take(p);
         expect_word(p, "from", "'from'");
-        return compare(p, first, negated ? SCREEN_OP_EQ_VALIDITY : SCREEN_OP_NOT_EQ_VALIDITY, value);
+        return compare(p, negated ? SCREEN_OP_EQ_VALIDITY : SCREEN_OP_NOT_EQ_VALIDITY, value);
     }
     expect(p, TOKEN_NULL, negated ? "'null' or 'distinct from'" : "'null', 'not null' or 'distinct from'");
-    fit(p, first, &value, 1);
-    struct fields fields = {negated ? SCREEN_KIND_IS_NOT_NULL : SCREEN_KIND_IS_NULL, 0, 0, value, 0, 0};
-    return add_record(p->build, fields);
+    fit(p, &value, 1);
+    if (faulty(p))
+        return 0;
+    return negated ? screen_put_is_not_null(&p->build->lent, value.record)
+                   : screen_put_is_null(&p->build->lent, value.record);
 }
 
-static uint32_t add_not(struct parser *p, uint32_t input)
+static uint32_t add_not(struct parser *p, struct operand input)
 {
-    struct fields fields = {SCREEN_KIND_NOT, 0, 0, input, 0, 0};
-    fit_types(p->build, &input, 1, SCREEN_TYPE_TRUTH);
-    return add_record(p->build, fields);
+    need_truth(p, input);
+    return faulty(p) ? 0 : screen_put_not(&p->build->lent, input.record);
 }
 
-static uint32_t parse_test(struct parser *p)
+static struct operand parse_test(struct parser *p)
 {
-    struct token first = p->token;
-    uint32_t value = parse_operand(p);
-    bool negated = p->token.kind == TOKEN_NOT;
+    struct operand value = parse_operand(p);
+    struct token not = p->token;
+    bool negated = not.kind == TOKEN_NOT;
     if (negated)
         take(p);
     struct token tail = p->token;
     if (tail.kind == TOKEN_BETWEEN)
-        value = parse_between(p, first, value);
+        value.record = parse_between(p, value);
     else if (tail.kind == TOKEN_IN)
-        value = parse_in(p, first, value);
+        value.record = parse_in(p, value);
     else if (negated)
         refuse(p, tail, "'between' or 'in'");
     else if (tail.kind == TOKEN_IS)
-        value = parse_is(p, first, value);
+        value.record = parse_is(p, value);
     else if (tail.kind == TOKEN_COMPARISON) {
         take(p);
-        value = compare(p, first, tail.code, value);
+        value.record = compare(p, tail.code, value);
     }
-    return negated && p->token.kind != TOKEN_FAULT ? add_not(p, value) : value;
+    if (negated && !faulty(p))
+        value.record = add_not(p, value);
+    return value;
 }
 
-static uint32_t parse_not(struct parser *p)
+static struct operand parse_not(struct parser *p)
 {
-    uint32_t value = 0;
+    struct operand value = {0, p->token};
     if (++p->depth > MAX_DEPTH) {
         refuse(p, p->token, "at most 500 parentheses and nots inside each other");
     } else if (p->token.kind == TOKEN_NOT) {
         take(p);
-        value = parse_not(p);
-        if (p->token.kind != TOKEN_FAULT)
-            value = add_not(p, value);
+        struct operand input = parse_not(p);
+        if (!faulty(p))
+            value.record = add_not(p, input);
     } else {
         value = parse_test(p);
     }
@@ -267,19 +400,18 @@ static uint32_t parse_not(struct parser *p)
     return value;
 }
 
-static uint32_t parse_logic(struct parser *p)
+static struct operand parse_logic(struct parser *p)
 {
-    uint32_t left = parse_not(p);
+    struct operand left = parse_not(p);
     unsigned code = p->token.code;
     while (p->token.kind == TOKEN_LOGIC && p->token.code == code) {
         take(p);
-        uint32_t inputs[2] = {left, parse_not(p)};
-        if (p->token.kind == TOKEN_FAULT)
-            return 0;
-        fit_types(p->build, &inputs[0], 1, SCREEN_TYPE_TRUTH);
-        fit_types(p->build, &inputs[1], 1, SCREEN_TYPE_TRUTH);
-        struct fields fields = {SCREEN_KIND_BINARY, code, 0, inputs[0], inputs[1], 0};
-        left = add_record(p->build, fields);
+        struct operand right = parse_not(p);
+        need_truth(p, left);
+        need_truth(p, right);
+        if (faulty(p))
+            return left;
+        left.record = screen_put_binary(&p->build->lent, code, left.record, right.record);
     }
     if (p->token.kind == TOKEN_LOGIC)
         refuse(p, p->token, "parentheses around one of two different operators");
@@ -305,41 +437,40 @@ static void parse_declaration(struct parser *p)
     expect(p, TOKEN_NAME, "a column's name");
     if (name.text.len > NAME_MAX_LENGTH)
         refuse(p, name, "a name of at most 40 letters");
-    if (p->token.kind != TOKEN_FAULT && find_column(p->build, name.text) != p->build->columns)
+    if (!faulty(p) && find_column(p->build, name.text) != p->build->lent.table_len)
         refuse(p, name, "a name that no line above has");
     uint8_t type = parse_type(p);
-    if (p->token.kind != TOKEN_FAULT && p->token.kind != TOKEN_END)
+    if (!faulty(p) && p->token.kind != TOKEN_END)
         refuse(p, p->token, "the end of the line");
     if (p->token.kind == TOKEN_END)
-        add_column(p->build, name.text, type);
+        add_column(p->build, name.text, type, p->lexer.number);
 }
 
-static void parse_conjunct(struct parser *p)
+static void parse_line(struct parser *p)
 {
-    uint32_t root = parse_logic(p);
-    if (p->token.kind != TOKEN_FAULT && p->token.kind != TOKEN_END)
+    struct operand root = parse_logic(p);
+    if (!faulty(p) && p->token.kind != TOKEN_END)
         refuse(p, p->token, "an operator or the end of the line");
-    if (p->token.kind != TOKEN_END)
-        return;
-    fit_types(p->build, &root, 1, SCREEN_TYPE_TRUTH);
-    add_line(p->build, p->lexer.number, without_comment(p->lexer.line), root);
+    need_truth(p, root);
+    if (!faulty(p))
+        add_line(p->build, p->lexer.number, without_comment(p->lexer.line), root.record);
 }
 
-bool parse_screen(struct slice text, struct build *build, struct fault *fault)
+bool parse_screen(struct slice text, struct build *build, struct faults *faults)
 {
     struct slice line;
     size_t number = 0;
-    while (!fault_is_set(fault) && next_line(&text, &line)) {
-        struct parser p = {{line, ++number, 0, fault}, {TOKEN_END, {NULL, 0}, 0, 0, 0}, build, fault, 0};
-        fault->text = line.at;
-        fault->text_len = line.len;
+    while (next_line(&text, &line)) {
+        struct parser p = {{line, ++number, 0, faults}, {TOKEN_END, {NULL, 0}, 0, 0, 0}, build, faults, 0};
+        faults->text = line;
+        build_room(build, line.len);
         take(&p);
         if (p.token.kind == TOKEN_COLUMN)
             parse_declaration(&p);
         else if (p.token.kind != TOKEN_END && p.token.kind != TOKEN_FAULT)
-            parse_conjunct(&p);
+            parse_line(&p);
     }
-    if (build->line_count == 0)
-        fault_set(fault, number, 0, "expected a line of the screen, found the end of the file");
-    return !fault_is_set(fault);
+    if (build->line_count == 0 && faults->count == 0)
+        fault_add(faults, number, 0, "expected a line of the screen, found the end of the file");
+    return faults->count == 0;
 }

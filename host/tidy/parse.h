@@ -11,10 +11,13 @@
  *             | OPERAND is [not] null
  *             | OPERAND is [not] distinct from OPERAND
  *             | OPERAND [not] between OPERAND and OPERAND [closed both | left | right | none]
- *             | OPERAND [not] in ( VALUES ) [nulls equal]
+ *             | OPERAND [not] in ( VALUES ) [nulls equal]         or [ VALUES ]
  *     OPERAND = a column, a whole number, a day (YYYY-MM-DD), true, false, null, or ( LINE )
  *
  * Different logic on one level needs parentheses: no trader should have to know which of and, or binds closer.
+ *
+ * What the library would refuse with 6 or 7 is told here, in the desk's words and with its place. Each line is read,
+ * so that all that is wrong is told in one run.
  */
 #ifndef PARSE_H
 #define PARSE_H
@@ -22,6 +25,6 @@
 #include "build.h"
 #include "fault.h"
 
-bool parse_screen(struct slice text, struct build *build, struct fault *fault);
+bool parse_screen(struct slice text, struct build *build, struct faults *faults);
 
 #endif

@@ -1,11 +1,8 @@
 #include "print.h"
 
 #include "day.h"
-#include "screen.h"
 
-static void add_test(struct text *text, const struct build *build, uint64_t record);
-
-static void add_value(struct text *text, unsigned type, int64_t value)
+void add_value(struct text *text, unsigned type, int64_t value)
 {
     if (type == SCREEN_TYPE_DAY)
         day_add(text, value);
@@ -20,7 +17,7 @@ static bool is_atom(unsigned kind)
     return kind == SCREEN_KIND_COLUMN || kind == SCREEN_KIND_LITERAL || kind == SCREEN_KIND_NULL;
 }
 
-static bool is_logic(struct fields fields)
+static bool is_logic(struct screen_record fields)
 {
     return fields.kind == SCREEN_KIND_BINARY && fields.code >= SCREEN_OP_AND;
 }
@@ -28,14 +25,14 @@ static bool is_logic(struct fields fields)
 /* A comparison's side: whatever is not one word stands in parentheses. Logic brings its own. */
 static void add_operand(struct text *text, const struct build *build, uint64_t record)
 {
-    struct fields fields = fields_at(build->records, record);
+    struct screen_record fields = screen_record_at(&build->lent, record);
     bool bare = is_atom(fields.kind) || is_logic(fields);
     text_add(text, "%s", bare ? "" : "(");
     add_test(text, build, record);
     text_add(text, "%s", bare ? "" : ")");
 }
 
-static const char *operator_text(unsigned code)
+const char *operator_text(unsigned code)
 {
     static const char *const TEXTS[] = {
         [SCREEN_OP_EQ] = "==",         [SCREEN_OP_EQ_VALIDITY] = "is not distinct from",
@@ -50,9 +47,9 @@ static const char *operator_text(unsigned code)
 }
 
 /* Logic of one operator leans to the left, as it is read: (a or b or c). */
-static void add_logic(struct text *text, const struct build *build, struct fields fields)
+static void add_logic(struct text *text, const struct build *build, struct screen_record fields)
 {
-    struct fields left = fields_at(build->records, fields.a);
+    struct screen_record left = screen_record_at(&build->lent, fields.a);
     if (is_logic(left) && left.code == fields.code)
         add_logic(text, build, left);
     else
@@ -61,7 +58,7 @@ static void add_logic(struct text *text, const struct build *build, struct field
     add_test(text, build, fields.b);
 }
 
-static void add_binary(struct text *text, const struct build *build, struct fields fields)
+static void add_binary(struct text *text, const struct build *build, struct screen_record fields)
 {
     if (is_logic(fields)) {
         text_add(text, "(");
@@ -74,16 +71,16 @@ static void add_binary(struct text *text, const struct build *build, struct fiel
     }
 }
 
-static void add_not(struct text *text, const struct build *build, struct fields fields)
+static void add_not(struct text *text, const struct build *build, struct screen_record fields)
 {
     text_add(text, "not ");
-    if (fields_at(build->records, fields.a).kind == SCREEN_KIND_BINARY)
+    if (screen_record_at(&build->lent, fields.a).kind == SCREEN_KIND_BINARY)
         add_operand(text, build, fields.a);
     else
         add_test(text, build, fields.a);
 }
 
-static void add_between(struct text *text, const struct build *build, struct fields fields)
+static void add_between(struct text *text, const struct build *build, struct screen_record fields)
 {
     static const char *const CLOSED[] = {"", " closed left", " closed right", " closed none"};
     add_operand(text, build, fields.a);
@@ -94,35 +91,35 @@ static void add_between(struct text *text, const struct build *build, struct fie
     text_add(text, "%s", CLOSED[fields.code]);
 }
 
-static void add_list(struct text *text, const struct build *build, struct fields list)
+static void add_list(struct text *text, const struct build *build, struct screen_record list)
 {
     text_add(text, "(");
     for (uint32_t i = 0; i < list.b; i++) {
         text_add(text, "%s", i > 0 ? ", " : "");
-        add_value(text, list.type, value_at(build->pool + SCREEN_VALUE_BYTES * ((size_t)list.a + i)));
+        add_value(text, list.type, screen_fetch_value(build->lent.pool + SCREEN_VALUE_BYTES * ((size_t)list.a + i)));
     }
     if (list.code == 1)
         text_add(text, "%snull", list.b > 0 ? ", " : "");
     text_add(text, ")");
 }
 
-static void add_is_in(struct text *text, const struct build *build, struct fields fields)
+static void add_is_in(struct text *text, const struct build *build, struct screen_record fields)
 {
     add_operand(text, build, fields.a);
     text_add(text, " in ");
-    add_list(text, build, fields_at(build->records, fields.b));
+    add_list(text, build, screen_record_at(&build->lent, fields.b));
     text_add(text, "%s", fields.code == 1 ? " nulls equal" : "");
 }
 
-static void add_test(struct text *text, const struct build *build, uint64_t record)
+void add_test(struct text *text, const struct build *build, uint64_t record)
 {
-    struct fields fields = fields_at(build->records, record);
+    struct screen_record fields = screen_record_at(&build->lent, record);
     switch (fields.kind) {
     case SCREEN_KIND_COLUMN:
-        text_add(text, "%s", build->names[fields.a]);
+        text_add(text, "%s", build->columns[fields.a].name);
         break;
     case SCREEN_KIND_LITERAL:
-        add_value(text, fields.type, literal_value(fields));
+        add_value(text, fields.type, screen_literal_at(&build->lent, record));
         break;
     case SCREEN_KIND_NULL:
         text_add(text, "null");
@@ -141,27 +138,25 @@ static void add_test(struct text *text, const struct build *build, uint64_t reco
         break;
     default:
         add_operand(text, build, fields.a);
-        text_add(text, fields.kind == SCREEN_KIND_IS_NULL ? " is null" : " is not null");
+        text_add(text, "%s", fields.kind == SCREEN_KIND_IS_NULL ? " is null" : " is not null");
     }
 }
 
-size_t add_conjuncts(struct text *text, struct view view)
+void add_conjuncts(struct conjuncts *conjuncts, const struct screen_lent *screen, uint64_t root)
 {
     uint64_t waiting[SCREEN_MAX_TREE]; /* each holds a record of the tree, so they are never more */
-    size_t count = 1, conjuncts = 0;
-    waiting[0] = view.root;
+    size_t count = 1;
+    waiting[0] = root;
     while (count > 0) {
         uint64_t record = waiting[--count];
-        struct fields fields = fields_at(view.build->records, record);
+        struct screen_record fields = screen_record_at(screen, record);
         bool joins = fields.code == SCREEN_OP_AND || fields.code == SCREEN_OP_LOGICAL_AND;
         if (fields.kind == SCREEN_KIND_BINARY && joins) {
             waiting[count++] = fields.b;
             waiting[count++] = fields.a;
-        } else {
-            add_test(text, view.build, record);
-            text_add(text, "\n");
-            conjuncts++;
+            continue;
         }
+        conjuncts->records = grown(conjuncts->records, &conjuncts->room, conjuncts->count + 1, sizeof record);
+        conjuncts->records[conjuncts->count++] = record;
     }
-    return conjuncts;
 }

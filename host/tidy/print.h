@@ -4,14 +4,22 @@
 
 #include "build.h"
 
-/* The screen that the root means among the records of `build`. */
-struct view {
-    const struct build *build;
-    uint64_t used;
-    uint64_t root;
+/* One record's text. */
+void add_test(struct text *text, const struct build *build, uint64_t record);
+
+void add_value(struct text *text, unsigned type, int64_t value);
+
+/* The sign of a comparison, or the word of logic. */
+const char *operator_text(unsigned code);
+
+/* A row of conjuncts: the records that a root joins by And and LogicalAnd, from left to right. */
+struct conjuncts {
+    uint64_t *records;
+    size_t room;
+    size_t count;
 };
 
-/* Adds the conjuncts of a screen that the library accepted, one a line, and answers how many they are. */
-size_t add_conjuncts(struct text *text, struct view view);
+/* Adds those of a root that the library accepted. */
+void add_conjuncts(struct conjuncts *conjuncts, const struct screen_lent *screen, uint64_t root);
 
 #endif

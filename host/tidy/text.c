@@ -16,13 +16,13 @@ void *grown(void *array, size_t *room, size_t needed, size_t size)
     void *moved = realloc(array, more * size);
     if (moved == NULL) {
         fputs("tidy: out of memory\n", stderr);
-        exit(2);
+        exit(EXIT_FAILURE);
     }
     *room = more;
     return moved;
 }
 
-static void read_open(struct text *text, FILE *file, struct fault *fault)
+static void read_open(struct text *text, FILE *file, struct faults *faults)
 {
     size_t got;
     do {
@@ -31,21 +31,33 @@ static void read_open(struct text *text, FILE *file, struct fault *fault)
         text->len += got;
     } while (got > 0 && text->len <= TEXT_MAX_FILE);
     if (ferror(file))
-        fault_set(fault, 0, 0, "cannot be read: %s", strerror(errno));
+        fault_add(faults, 0, 0, "cannot be read: %s", strerror(errno));
     else if (text->len > TEXT_MAX_FILE)
-        fault_set(fault, 0, 0, "expected a file of at most %d bytes, found a larger one", TEXT_MAX_FILE);
+        fault_add(faults, 0, 0, "expected a file of at most %d bytes, found a larger one", TEXT_MAX_FILE);
 }
 
-bool text_read(struct text *text, const char *path, struct fault *fault)
+bool text_read(struct text *text, const char *path, struct faults *faults)
 {
-    FILE *file = fopen(path, "rb");
+    bool standard = strcmp(path, "-") == 0;
+    FILE *file = standard ? stdin : fopen(path, "rb");
     if (file == NULL) {
-        fault_set(fault, 0, 0, "cannot be opened: %s", strerror(errno));
+        fault_add(faults, 0, 0, "cannot be opened: %s", strerror(errno));
         return false;
     }
-    read_open(text, file, fault);
-    fclose(file);
-    return !fault_is_set(fault);
+    read_open(text, file, faults);
+    if (!standard)
+        fclose(file);
+    return faults->count == 0;
+}
+
+struct slice text_read_part(const struct text *text)
+{
+    struct slice part = {text->bytes, text->len};
+    if (part.len >= 3 && memcmp(part.at, "\xEF\xBB\xBF", 3) == 0) {
+        part.at += 3;
+        part.len -= 3;
+    }
+    return part;
 }
 
 bool next_line(struct slice *rest, struct slice *line)
@@ -98,18 +110,44 @@ struct slice trimmed(struct slice part)
     return part;
 }
 
+static char small(char c)
+{
+    return c >= 'A' && c <= 'Z' ? (char)(c - 'A' + 'a') : c;
+}
+
 bool is_word(struct slice part, const char *word)
 {
     if (part.len != strlen(word))
         return false;
-    for (size_t i = 0; i < part.len; i++) {
-        char c = part.at[i];
-        if (c >= 'A' && c <= 'Z')
-            c = (char)(c - 'A' + 'a');
-        if (c != word[i])
+    for (size_t i = 0; i < part.len; i++)
+        if (small(part.at[i]) != word[i])
             return false;
-    }
     return true;
+}
+
+static size_t least(size_t a, size_t b)
+{
+    return a < b ? a : b;
+}
+
+size_t edits(struct slice one, struct slice other)
+{
+    enum { LONGEST = 64 }; /* longer than any name */
+    size_t row[LONGEST + 1];
+    if (one.len > LONGEST || other.len > LONGEST)
+        return LONGEST;
+    for (size_t j = 0; j <= other.len; j++)
+        row[j] = j;
+    for (size_t i = 0; i < one.len; i++) {
+        size_t diagonal = row[0];
+        row[0] = i + 1;
+        for (size_t j = 0; j < other.len; j++) {
+            size_t changed = diagonal + (small(one.at[i]) != small(other.at[j]));
+            diagonal = row[j + 1];
+            row[j + 1] = least(changed, least(row[j], diagonal) + 1);
+        }
+    }
+    return row[other.len];
 }
 
 bool is_decimal(struct slice part)

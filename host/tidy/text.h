@@ -7,12 +7,6 @@
 #include <stdbool.h>
 #include <stddef.h>
 
-/* A part of some text, not ended by a zero byte. */
-struct slice {
-    const char *at;
-    size_t len;
-};
-
 /* Text of the program's own; always ended by a zero byte once something was added. */
 struct text {
     char *bytes;
@@ -20,18 +14,27 @@ struct text {
     size_t room;
 };
 
+#if defined(__GNUC__)
+#define TEXT_FORMAT __attribute__((format(printf, 2, 3)))
+#else
+#define TEXT_FORMAT
+#endif
+
 enum { TEXT_MAX_FILE = 4 << 20 }; /* bytes: above any listed chain, and small enough to hold in memory */
 
 /* Room for `needed` elements of `size` bytes; ends the program if there is no memory. */
 void *grown(void *array, size_t *room, size_t needed, size_t size);
 
-/* The whole file at `path`; a fault if it cannot be read or has over TEXT_MAX_FILE bytes. */
-bool text_read(struct text *text, const char *path, struct fault *fault);
+/* The whole file at `path`, - for standard input; a fault if it cannot be read or has over TEXT_MAX_FILE bytes. */
+bool text_read(struct text *text, const char *path, struct faults *faults);
+
+/* What was read, without the three bytes that some programs put before a text in UTF-8. */
+struct slice text_read_part(const struct text *text);
 
 /* Cuts the next line off `rest`, without its end (byte 10, or 13 and 10). False if nothing is left. */
 bool next_line(struct slice *rest, struct slice *line);
 
-void text_add(struct text *text, const char *format, ...);
+TEXT_FORMAT void text_add(struct text *text, const char *format, ...);
 
 void text_free(struct text *text);
 
@@ -42,6 +45,9 @@ bool is_blank(char c);
 
 /* Is the part this word, in small or capital letters? */
 bool is_word(struct slice part, const char *word);
+
+/* How many letters are to be put in, taken out or changed to make one of the other, small and capital ones alike. */
+size_t edits(struct slice one, struct slice other);
 
 /* Digits, after a minus or not. */
 bool is_decimal(struct slice part);

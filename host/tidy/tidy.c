@@ -1,140 +1,151 @@
 #include "tidy.h"
 
-#include "screen.h"
-#include "side.h"
+#include "fate.h"
 
-#include <stdio.h>
 #include <stdlib.h>
 #include <string.h>
 
-struct tidied tidy(struct build *build)
+void numbers_add(struct numbers *numbers, size_t number)
 {
-    struct view typed = {build, build->used, build->root};
-    struct tidied tidied = {0, typed, typed};
-    add_room(build);
-    tidied.answer = screen_rewrite(build->table, build->columns, build->records, lent_records(build), build->pool,
-                                   lent_pool(build), build->used, build->root, &tidied.after.root, &tidied.after.used);
-    return tidied;
+    size_t at = numbers->count;
+    while (at > 0 && numbers->at[at - 1] > number)
+        at--;
+    if (at > 0 && numbers->at[at - 1] == number)
+        return;
+    numbers->at = grown(numbers->at, &numbers->room, numbers->count + 1, sizeof number);
+    memmove(numbers->at + at + 1, numbers->at + at, (numbers->count - at) * sizeof number);
+    numbers->at[at] = number;
+    numbers->count++;
 }
 
-/* The first line that, with those before it, is refused with this number; NULL if it is about no single line. */
-static const struct typed_line *refused_line(const struct build *build, uint32_t answer)
+static void add_lines(struct tidied *tidied)
 {
-    for (size_t i = 0; i < build->line_count; i++) {
-        const struct typed_line *line = &build->lines[i];
-        if (answer >= SCREEN_REFUSED_RECORD &&
-            screen_check(build->table, build->columns, build->records, lent_records(build), build->pool,
-                         lent_pool(build), line->used, line->root) == answer)
-            return line;
+    struct conjuncts conjuncts = {NULL, 0, 0};
+    size_t room = 0;
+    add_conjuncts(&conjuncts, &tidied->returned, tidied->returned.root);
+    tidied->lines = grown(NULL, &room, conjuncts.count, sizeof *tidied->lines);
+    memset(tidied->lines, 0, conjuncts.count * sizeof *tidied->lines);
+    for (size_t i = 0; i < conjuncts.count; i++) {
+        tidied->lines[i].record = conjuncts.records[i];
+        add_test(&tidied->lines[i].text, tidied->build, conjuncts.records[i]);
     }
-    return NULL;
+    tidied->line_count = conjuncts.count;
+    free(conjuncts.records);
 }
 
-void report_refusal(const struct tidied *tidied)
+/* What runs on every tick: every call checks all used records, and those of the typed screen are not needed. */
+static uint32_t copy_out(struct tidied *tidied)
 {
-    const struct typed_line *line = refused_line(tidied->before.build, tidied->answer);
-    printf("Refused, number %u: %s\n", (unsigned)tidied->answer, screen_refusal_text(tidied->answer));
-    if (line != NULL)
-        printf("    line %zu: %.*s\n", line->number, (int)line->text.len, line->text.at);
+    size_t room = 0, len = SCREEN_RECORD_BYTES * SCREEN_MAX_RECORDS;
+    return screen_copy_reached(&tidied->returned, grown(NULL, &room, len, 1), len, &tidied->copied);
 }
 
-static void report_answer(const struct tidied *tidied, size_t conjuncts)
-{
-    size_t lines = tidied->before.build->line_count;
-    switch (tidied->answer) {
-    case SCREEN_UNCHANGED:
-        printf("Unchanged: there is nothing to merge; the screen stays as typed.\n");
-        break;
-    case SCREEN_NOTHING_PASSES:
-        printf("Nothing passes: no row of any chain can pass these lines together.\n");
-        break;
-    default:
-        printf("Rewritten: %zu line%s as typed, %zu as tidied. The same rows pass.\n", lines, lines == 1 ? "" : "s",
-               conjuncts);
-    }
-}
-
-static void report_columns(struct view view)
-{
-    const struct build *build = view.build;
-    uint64_t columns = 0, count = 0;
-    const char *before = "";
-    screen_columns_read(build->table, build->columns, build->records, lent_records(build), build->pool,
-                        lent_pool(build), view.used, view.root, &columns, &count);
-    printf("Columns read: ");
-    for (size_t i = 0; i < build->columns; i++)
-        if (columns >> i & 1) {
-            printf("%s%s", before, build->names[i]);
-            before = ", ";
-        }
-    printf("%s (%u of %zu).\n", count == 0 ? "none" : "", (unsigned)count, build->columns);
-}
-
-void report_screen(const struct tidied *tidied)
-{
-    struct text other = {NULL, 0, 0};
-    size_t conjuncts = add_conjuncts(&other, tidied->after);
-    print_sides(tidied->before.build, &other);
-    putchar('\n');
-    report_answer(tidied, conjuncts);
-    report_columns(tidied->before);
-    text_free(&other);
-}
-
-/* Rows by their line in the file, which is the number that a spreadsheet shows; neighbours as 12-15. */
-static void add_rows(struct text *text, const struct chain *chain, const bool *passes)
-{
-    const char *separator = "";
-    for (size_t i = 0; i < chain->rows; i++) {
-        if (!passes[i])
-            continue;
-        text_add(text, "%s%zu", separator, chain->lines[i]);
-        size_t last = i;
-        while (last + 1 < chain->rows && passes[last + 1] && chain->lines[last + 1] == chain->lines[last] + 1)
-            last++;
-        if (last > i)
-            text_add(text, "-%zu", chain->lines[last]);
-        separator = ", ";
-        i = last;
-    }
-    text_add(text, "%s", separator[0] == '\0' ? "none" : "");
-}
-
-/* The rows of one screen, listed under what it is. */
-static void print_rows(const char *title, const struct chain *chain, const bool *passes)
-{
-    struct text rows = {NULL, 0, 0};
-    text_add(&rows, "%s ", title);
-    add_rows(&rows, chain, passes);
-    print_wrapped(&rows);
-    text_free(&rows);
-}
-
-/* Row by row and not only their number: a row lost and another gained would be two faults, not none. */
-static enum tidy_status report_rows(const struct chain *chain, const bool *before, const bool *after)
-{
-    if (memcmp(before, after, chain->rows * sizeof *before) == 0) {
-        printf("equal, and the same rows.\n");
-        print_rows("Rows that pass, by their line in the file:", chain, before);
-        return TIDY_DONE;
-    }
-    printf("NOT THE SAME ROWS.\n");
-    print_rows("Rows that pass as typed, by their line in the file:", chain, before);
-    print_rows("Rows that pass as tidied:", chain, after);
-    return TIDY_DIFFERS;
-}
-
-enum tidy_status report_chain(const struct tidied *tidied, const struct chain *chain, const char *name)
+void tidy(struct tidied *tidied, struct build *build)
 {
     size_t room = 0;
-    bool *before = grown(NULL, &room, 2 * chain->rows + 1, sizeof *before), *after = before + chain->rows;
-    struct run typed = chain_run(chain, tidied->before, before), rewritten = chain_run(chain, tidied->after, after);
-    uint32_t refusal = typed.refusal != 0 ? typed.refusal : rewritten.refusal;
-    printf("\n%s: of %zu row%s %zu pass as typed, %zu as tidied: ", name, chain->rows, chain->rows == 1 ? "" : "s",
-           typed.passed, rewritten.passed);
-    enum tidy_status status = report_rows(chain, before, after);
-    if (refusal != 0)
-        printf("A row was refused, number %u: %s\n", (unsigned)refusal, screen_refusal_text(refusal));
-    free(before);
-    return refusal != 0 ? TIDY_REFUSED : status;
+    memset(tidied, 0, sizeof *tidied);
+    build_lend(build);
+    tidied->build = build;
+    tidied->typed = tidied->returned = build->lent;
+    tidied->answer = screen_lent_rewrite(&tidied->returned);
+    if (screen_refused(tidied->answer))
+        return;
+    uint32_t read = screen_lent_columns_read(&tidied->typed, &tidied->columns, &tidied->column_count);
+    uint32_t copied = copy_out(tidied);
+    if (screen_refused(read) || screen_refused(copied))
+        abort(); /* both are promised of a screen that rewriting accepts */
+    add_lines(tidied);
+    tidied->fates = grown(NULL, &room, build->line_count, sizeof *tidied->fates);
+    memset(tidied->fates, 0, build->line_count * sizeof *tidied->fates);
+    fates_told(tidied);
+}
+
+void tidied_free(struct tidied *tidied)
+{
+    for (size_t i = 0; i < tidied->line_count; i++) {
+        text_free(&tidied->lines[i].text);
+        free(tidied->lines[i].typed.at);
+    }
+    for (size_t i = 0; tidied->fates != NULL && i < tidied->build->line_count; i++)
+        free(tidied->fates[i].lines.at);
+    free(tidied->lines);
+    free(tidied->fates);
+    free(tidied->copied.records);
+}
+
+const char *answer_text(uint32_t answer)
+{
+    switch (answer) {
+    case SCREEN_UNCHANGED:
+        return "unchanged";
+    case SCREEN_NOTHING_PASSES:
+        return "nothing passes";
+    default:
+        return "rewritten";
+    }
+}
+
+/* ------------------------------------------------------------------------------------------------------- refusals */
+
+static size_t conjunct_count(const struct build *build, uint32_t root)
+{
+    struct conjuncts conjuncts = {NULL, 0, 0};
+    add_conjuncts(&conjuncts, &build->lent, root);
+    free(conjuncts.records);
+    return conjuncts.count;
+}
+
+/* The first line that, with those before it, is too much; the number of lines if none is. */
+static size_t line_too_many(const struct build *build, uint32_t answer)
+{
+    size_t i = 0, conjuncts = 0;
+    for (; i < build->line_count; i++) {
+        const struct typed_line *line = &build->lines[i];
+        struct screen_lent part = build->lent;
+        part.used = line->used;
+        part.root = line->root;
+        if (answer == SCREEN_REFUSED_SIZE && (line->used > SCREEN_MAX_RECORDS ||
+                                              line->pool_len > SCREEN_VALUE_BYTES * SCREEN_MAX_POOL_VALUES))
+            break;
+        if (answer == SCREEN_REFUSED_CONJUNCTS &&
+            (conjuncts += conjunct_count(build, line->root)) > SCREEN_MAX_CONJUNCTS)
+            break;
+        if (answer >= SCREEN_REFUSED_RECORD && answer <= SCREEN_REFUSED_TYPES && screen_lent_check(&part) == answer)
+            break;
+    }
+    return i;
+}
+
+/* In the desk's words where the numbers of the header speak of records. */
+static const char *sentence(const struct tidied *tidied)
+{
+    bool pool = tidied->typed.pool_len > SCREEN_VALUE_BYTES * SCREEN_MAX_POOL_VALUES;
+    switch (tidied->answer) {
+    case SCREEN_REFUSED_TABLE:
+        return "more than 64 columns: this is the 65th";
+    case SCREEN_REFUSED_SIZE:
+        return pool ? "the lists have more than 8,192 values together, from this line on"
+                    : "the lines have more than 4,096 columns, values and operators together, from this line on";
+    case SCREEN_REFUSED_CONJUNCTS:
+        return "more than 128 conditions, from this line on; those joined by and count each";
+    case SCREEN_REFUSED_ROOM:
+        return "the screen is too long to be tidied: typed and tidied it would have more than 4,096 columns, values "
+               "and operators together";
+    default:
+        return screen_refusal_text(tidied->answer);
+    }
+}
+
+void refusal_told(const struct tidied *tidied, struct faults *faults)
+{
+    const struct build *build = tidied->build;
+    size_t line = line_too_many(build, tidied->answer), number = 0, place = 0;
+    if (line < build->line_count) {
+        number = build->lines[line].number;
+        faults->text = build->lines[line].text;
+        place = 1;
+    } else if (tidied->answer == SCREEN_REFUSED_TABLE) {
+        number = build->columns[SCREEN_MAX_COLUMNS].line;
+    }
+    fault_add(faults, number, place, "refused, number %u: %s", (unsigned)tidied->answer, sentence(tidied));
 }

@@ -1,33 +1,59 @@
-/* The library's calls on a screen, and what is said of their answers. */
+/* The library's calls on a screen, and what became of each line. What is printed of it: report.h, json.h, html.h. */
 #ifndef TIDY_H
 #define TIDY_H
 
-#include "chain.h"
+#include "print.h"
 
-/* Exit statuses. */
-enum tidy_status {
-    TIDY_DONE = 0,
-    TIDY_REFUSED = 1,  /* the library refused the screen */
-    TIDY_BAD_FILE = 2, /* a file, its text or the command line */
-    TIDY_DIFFERS = 3   /* a row's fate changed, which is promised never to happen */
+/* Numbers of lines, rising. */
+struct numbers {
+    size_t *at;
+    size_t room;
+    size_t count;
 };
 
-/* What rewriting answered, and the screen that it left. */
+void numbers_add(struct numbers *numbers, size_t number);
+
+enum fate {
+    FATE_KEPT,       /* it stands among the tidied lines */
+    FATE_MERGED,     /* tidied lines that say more hold its value, or another typed line says the same */
+    FATE_DROPPED,    /* because of tidied lines that say more */
+    FATE_CONTRADICTS /* nothing passes: it and others cannot be true together */
+};
+
+/* What became of a typed line. */
+struct typed_fate {
+    enum fate fate;
+    struct numbers lines; /* the tidied lines that it became, from 1; of a contradiction the other typed lines */
+};
+
+/* A line of the tidied screen. */
+struct tidied_line {
+    uint64_t record;
+    struct text text;
+    struct numbers typed; /* the typed lines on its columns, by their number in the file */
+};
+
+/* What rewriting answered, and the screens. */
 struct tidied {
+    const struct build *build;
     uint32_t answer; /* SCREEN_.., or a refusal */
-    struct view before;
-    struct view after;
+    struct screen_lent typed, returned;
+    struct screen_lent copied; /* what the root of `returned` reaches, in a buffer of its own: the screen to run */
+    struct tidied_line *lines; /* of a screen that is not refused */
+    size_t line_count;
+    struct typed_fate *fates; /* one a typed line */
+    uint64_t columns;         /* that are read, a bit each */
+    uint64_t column_count;
 };
 
-struct tidied tidy(struct build *build);
+void tidy(struct tidied *tidied, struct build *build);
 
-/* The refusal in words, and the line that it is about, if it is about one. */
-void report_refusal(const struct tidied *tidied);
+void tidied_free(struct tidied *tidied);
 
-/* Both screens side by side, what happened, and the columns read. */
-void report_screen(const struct tidied *tidied);
+/* The word for an answer that is no refusal: unchanged, nothing passes, rewritten. */
+const char *answer_text(uint32_t answer);
 
-/* The rows that pass before and after; answers TIDY_DONE if they are the same. */
-enum tidy_status report_chain(const struct tidied *tidied, const struct chain *chain, const char *name);
+/* Tells why the library refused the screen: with the line that is about it, if it is about one. */
+void refusal_told(const struct tidied *tidied, struct faults *faults);
 
 #endif

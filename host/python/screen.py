@@ -1,0 +1,316 @@
+"""Option screens from Python: put together, checked, merged and run on rows by the proved library libscreen.so.
+
+    import datetime, screen
+    s = screen.Screen(strike="Int", expiry="Day", halted="Truth")
+    s.add(s.strike > 3, s.strike >= 5, s.expiry <= datetime.date(2026, 12, 18), ~s.halted)
+    s.rewrite()                                     # 'rewritten'
+    s.test_row({"strike": 7, "expiry": None, "halted": False})   # True, False, or None for unknown
+
+Columns are attributes of the screen (or s["strike"]); comparisons of them, joined by & and |, are lines. A value is an
+int, a datetime.date, a bool, or None for null. A refusal raises Refused, which has the library's number; then nothing
+is changed. include/screen.h says of each call what is promised.
+"""
+
+import ctypes
+import datetime
+import os
+
+VERSION = (1, 0)  # of include/screen.h
+
+INT, DAY, TRUTH = 1, 2, 3
+TYPES = {"Int": INT, "Day": DAY, "Truth": TRUTH}
+(COLUMN, LITERAL, NULL, BINARY, NOT, IS_NULL, IS_NOT_NULL, IS_BETWEEN, LIST, IS_IN) = range(1, 11)
+(EQ, EQ_VALIDITY, NOT_EQ, NOT_EQ_VALIDITY, LT, LT_EQ, GT, GT_EQ) = range(8)
+AND, OR, XOR = 15, 16, 17
+CLOSED = {"both": 0, "left": 1, "right": 2, "none": 3}
+INPUTS = {BINARY: 2, NOT: 1, IS_NULL: 1, IS_NOT_NULL: 1, IS_BETWEEN: 3, IS_IN: 2}
+MAX_RECORDS, MAX_POOL_VALUES, RECORD_BYTES, VALUE_BYTES = 4096, 8192, 16, 8
+
+REFUSALS = {
+    1: "The table has more than 64 columns, or a column of an unknown type.",
+    2: "More than 4,096 records are used or more than were lent, or the pool is over 8,192 values or ends inside a "
+       "value.",
+    3: "The root is not one of the used records.",
+    4: "A record has an unknown kind, code or type, an unused field that is not zero, or a literal outside its type.",
+    5: "A record names an input that is not before it, a column that does not exist, or a list that is not in the pool "
+       "or has a value outside its type.",
+    6: "A record uses an arithmetic operator.",
+    7: "The types of a record's inputs do not fit it, or the root is not a truth.",
+    8: "The screen has more than 4,096 records, shared ones counted each time they are reached.",
+    9: "The screen has more than 128 conjuncts, shared ones counted each time they are reached.",
+    11: "The rewritten screen has no room: it would pass 4,096 records or those lent, or its tree would have more than "
+        "4,096.",
+    12: "The row does not have exactly eight bytes for each column.",
+    13: "The row has a null mark beyond its columns, a value outside its column's type, or a null whose value is not "
+        "zero.",
+}
+
+
+class Refused(Exception):
+    """The library refused a call; `number` says why, and nothing was changed."""
+
+    def __init__(self, number):
+        super().__init__(f"number {number}: {REFUSALS.get(number, 'No refusal has this number.')}")
+        self.number = number
+
+
+class Full(Exception):
+    """A screen has no room for another record or value."""
+
+
+_library = None
+
+
+def load(path=None):
+    """Loads the shared object: from `path`, $SCREEN_LIBRARY, beside this file's folder, or where the system looks."""
+    global _library
+    beside = os.path.join(os.path.dirname(os.path.dirname(os.path.abspath(__file__))), f"libscreen.so.{VERSION[0]}")
+    path = path or os.environ.get("SCREEN_LIBRARY") or (beside if os.path.exists(beside) else None)
+    _library = ctypes.CDLL(path or f"libscreen.so.{VERSION[0]}")
+    return _library
+
+
+def _call(name, *arguments):
+    """A call of the library; slices are (buffer, length in bytes), other numbers are 64 bits wide."""
+    function = getattr(_library or load(), name)
+    function.restype = ctypes.c_uint32
+    answer = function(*arguments)
+    if answer < 256:
+        raise Refused(answer)
+    return answer
+
+
+def _slice(buffer, length):
+    return ctypes.c_char_p(buffer) if isinstance(buffer, bytes) else buffer, ctypes.c_size_t(length)
+
+
+def _number(value, kind):
+    """A value as the 64 bits that the library takes."""
+    if kind == DAY and isinstance(value, datetime.date):
+        return value.toordinal() - datetime.date(1970, 1, 1).toordinal()
+    if isinstance(value, datetime.date) or not isinstance(value, int):
+        raise TypeError(f"{value!r} is no value of this column's type")
+    return int(value)
+
+
+def _kind_of(value):
+    """The type of a Python value; None of None, which takes the other side's."""
+    if value is None:
+        return None
+    if isinstance(value, bool):
+        return TRUTH
+    return DAY if isinstance(value, datetime.date) else INT
+
+
+class Part:
+    """A part of a screen: a column, a value, or what is said of them. Comparisons and &, | and ~ make new ones."""
+
+    def __init__(self, screen, record, kind):
+        self.screen, self.record, self.kind = screen, record, kind
+
+    def _compare(self, code, other):
+        other = self.screen.part(other, self.kind)
+        return self.screen.put(BINARY, code=code, a=self.record, b=other.record)
+
+    def __eq__(self, other):
+        return self._compare(EQ, other)
+
+    def __ne__(self, other):
+        return self._compare(NOT_EQ, other)
+
+    def __lt__(self, other):
+        return self._compare(LT, other)
+
+    def __le__(self, other):
+        return self._compare(LT_EQ, other)
+
+    def __gt__(self, other):
+        return self._compare(GT, other)
+
+    def __ge__(self, other):
+        return self._compare(GT_EQ, other)
+
+    def __and__(self, other):
+        return self._compare(AND, other)
+
+    def __or__(self, other):
+        return self._compare(OR, other)
+
+    def __xor__(self, other):
+        return self._compare(XOR, other)
+
+    def __invert__(self):
+        return self.screen.put(NOT, a=self.record)
+
+    __hash__ = None
+
+    def __bool__(self):
+        raise TypeError("a part of a screen is neither true nor false; join parts by & and |, not by and and or")
+
+    def is_null(self):
+        """Is it null? Never unknown."""
+        return self.screen.put(IS_NULL, a=self.record)
+
+    def is_not_null(self):
+        """Is it not null? Never unknown."""
+        return self.screen.put(IS_NOT_NULL, a=self.record)
+
+    def is_distinct_from(self, other):
+        """Not equal, null taken as a value."""
+        return self._compare(NOT_EQ_VALIDITY, other)
+
+    def is_not_distinct_from(self, other):
+        """Equal, null taken as a value."""
+        return self._compare(EQ_VALIDITY, other)
+
+    def between(self, low, high, closed="both"):
+        """From low to high; `closed` says which ends belong to it: both, left, right or none."""
+        low, high = self.screen.part(low, self.kind), self.screen.part(high, self.kind)
+        return self.screen.put(IS_BETWEEN, code=CLOSED[closed], a=self.record, b=low.record, c=high.record)
+
+    def is_in(self, values, nulls_equal=False):
+        """Is it one of these values? None stands for null; nulls_equal: a null is in a list that holds one."""
+        values = list(values)
+        start, count = self.screen.put_values([v for v in values if v is not None], self.kind)
+        listed = self.screen.put(LIST, code=int(None in values), kind=self.kind, a=start, b=count)
+        return self.screen.put(IS_IN, code=int(nulls_equal), a=self.record, b=listed.record)
+
+
+class Screen:
+    """A screen over columns given by name and type: Screen(strike="Int", expiry="Day", halted="Truth").
+
+    Lines are added with add(); the calls of the library are check, rewrite, test_row and columns_read.
+    """
+
+    def __init__(self, **columns):
+        self.names = list(columns)
+        self.kinds = [TYPES[kind] for kind in columns.values()]
+        self.records = ctypes.create_string_buffer(RECORD_BYTES * MAX_RECORDS)
+        self.pool = ctypes.create_string_buffer(VALUE_BYTES * MAX_POOL_VALUES)
+        self.used = self.values = self.root = 0
+
+    def __getitem__(self, name):
+        number = self.names.index(name) if name in self.names else None
+        if number is None:
+            raise KeyError(name)
+        return self.put(COLUMN, a=number, result=self.kinds[number])
+
+    def __getattr__(self, name):
+        if name in self.__dict__.get("names", ()):
+            return self[name]
+        raise AttributeError(name)
+
+    # ------------------------------------------------------------------------------------------ putting it together
+
+    def put(self, what, code=0, kind=0, a=0, b=0, c=0, result=TRUTH):
+        """Appends a record, its fields as include/screen.h names them, and answers it as a Part."""
+        if self.used >= MAX_RECORDS:
+            raise Full("a screen has at most 4,096 records")
+        fields = bytes((what, code, kind, 0)) + b"".join(n.to_bytes(4, "little") for n in (a, b, c))
+        at = RECORD_BYTES * self.used
+        self.records[at:at + RECORD_BYTES] = fields
+        self.used += 1
+        return Part(self, self.used - 1, result)
+
+    def put_values(self, values, kind):
+        """Appends values of a list to the pool; answers where they start and how many they are."""
+        if self.values + len(values) > MAX_POOL_VALUES:
+            raise Full("the lists of a screen have at most 8,192 values together")
+        start = self.values
+        for value in values:
+            at = VALUE_BYTES * self.values
+            self.pool[at:at + VALUE_BYTES] = _number(value, kind).to_bytes(8, "little", signed=True)
+            self.values += 1
+        return start, len(values)
+
+    def part(self, value, kind=None):
+        """A Part as it is, another value as a literal, None as a null of the type `kind`."""
+        if isinstance(value, Part):
+            if value.screen is not self:
+                raise ValueError("a part of another screen")
+            return value
+        if value is None:
+            return self.put(NULL, kind=kind or TRUTH, result=kind or TRUTH)
+        kind = _kind_of(value)
+        bits = _number(value, kind) & (1 << 64) - 1
+        return self.put(LITERAL, kind=kind, b=bits & 0xffffffff, c=bits >> 32, result=kind)
+
+    def add(self, *lines):
+        """Joins lines to those before them: a row passes if all are true of it."""
+        for line in lines:
+            line = self.part(line, TRUTH)
+            if self.__dict__.get("_begun"):
+                self.root = self.put(BINARY, code=AND, a=self.root, b=line.record).record
+            else:
+                self.root = line.record
+            self._begun = True
+
+    # ------------------------------------------------------------------------------------------------- the four calls
+
+    def _lent(self):
+        """The parameters that every call takes first."""
+        return (*_slice(bytes(self.kinds), len(self.kinds)), *_slice(self.records, len(self.records)),
+                *_slice(self.pool, VALUE_BYTES * self.values), ctypes.c_uint64(self.used), ctypes.c_uint64(self.root))
+
+    def check(self):
+        """screen_check: is this a well-formed screen? Answers 'accepted', or raises Refused with 1 to 7."""
+        _call("screen_check", *self._lent())
+        return "accepted"
+
+    def rewrite(self):
+        """screen_rewrite: merges the lines. Answers 'unchanged', 'nothing passes' or 'rewritten'.
+
+        The screen becomes the one returned: a row passes it exactly if it passed before. What it was stays among its
+        records; copy_reached leaves it behind. Refused with 1 to 7, 8, 9, 11.
+        """
+        root, used = ctypes.c_uint64(self.root), ctypes.c_uint64(self.used)
+        answer = _call("screen_rewrite", *self._lent(), ctypes.byref(root), ctypes.byref(used))
+        self.root, self.used = root.value, used.value
+        return ("unchanged", "nothing passes", "rewritten")[answer - 256]
+
+    def test_row(self, row):
+        """screen_test_row: does this row pass? True, False, or None if a null stands in the way of an answer.
+
+        `row` has a value for each column by its name; a column that is not there is null. Refused with 1 to 7, 8, 12,
+        13: a value that is outside its column's type.
+        """
+        unknown = set(row) - set(self.names)
+        if unknown:
+            raise KeyError(f"no column named {sorted(unknown)[0]}")
+        nulls, cells = 0, b""
+        for number, (name, kind) in enumerate(zip(self.names, self.kinds)):
+            value = row.get(name)
+            nulls |= (value is None) << number
+            cells += (0 if value is None else _number(value, kind)).to_bytes(8, "little", signed=True)
+        answer = _call("screen_test_row", *self._lent(), *_slice(cells, len(cells)), ctypes.c_uint64(nulls))
+        return (False, None, True)[answer - 256]
+
+    def columns_read(self):
+        """screen_columns_read: the names of the columns that the screen reads. Refused with 1 to 7."""
+        columns, count = ctypes.c_uint64(), ctypes.c_uint64()
+        _call("screen_columns_read", *self._lent(), ctypes.byref(columns), ctypes.byref(count))
+        return [name for number, name in enumerate(self.names) if columns.value >> number & 1]
+
+    # -------------------------------------------------------------------------------------------------- copying it out
+
+    def copy_reached(self):
+        """Leaves behind the records that the root does not reach; the others are renumbered in their order.
+
+        Every call checks all used records, so a screen that runs on every tick should have no others. Parts made
+        before are of the old records and must not be used with it. Refused as check.
+        """
+        self.check()
+        reached = {self.root}
+        records = [self.records.raw[RECORD_BYTES * n:RECORD_BYTES * (n + 1)] for n in range(self.used)]
+        inputs = [[int.from_bytes(r[4 + 4 * i:8 + 4 * i], "little") for i in range(INPUTS.get(r[0], 0))]
+                  for r in records]
+        for number in range(self.root, -1, -1):
+            if number in reached:
+                reached.update(inputs[number])
+        numbers = {old: new for new, old in enumerate(sorted(reached))}
+        for old, new in numbers.items():
+            fields = bytearray(records[old])
+            for i, at in enumerate(inputs[old]):
+                fields[4 + 4 * i:8 + 4 * i] = numbers[at].to_bytes(4, "little")
+            self.records[RECORD_BYTES * new:RECORD_BYTES * (new + 1)] = bytes(fields)
+        self.root, self.used = numbers[self.root], len(numbers)

@@ -1,0 +1,195 @@
+#!/usr/bin/env python3
+"""host/python/screen.py over the installed shared object: building, each call, refusals, and that all of it is told.
+
+Usage: host/test/python_test.py PREFIX   (where host/install has put the library)
+Ends with one line 'N passed, M failed'.
+"""
+
+import datetime
+import inspect
+import os
+import random
+import re
+import sys
+
+PREFIX = os.path.abspath(sys.argv[1])
+sys.path.insert(0, os.path.join(PREFIX, "lib", "python"))
+import screen  # noqa: E402  the installed one
+
+DAY = datetime.date
+counts = {True: 0, False: 0}
+
+
+def report(good, name):
+    counts[bool(good)] += 1
+    if not good:
+        print(f"FAILED screen.py: {name}")
+
+
+def refused(number, name, call):
+    try:
+        call()
+        report(False, f"{name} is not refused")
+    except screen.Refused as refusal:
+        report(refusal.number == number and screen.REFUSALS[number] in str(refusal), f"{name}: {refusal}")
+
+
+def raises(kind, name, call):
+    try:
+        call()
+        report(False, f"{name} raises nothing")
+    except kind:
+        report(True, name)
+
+
+def two_lines(*lines):
+    """A screen over c0 and c1 of these lines, each a function of the screen."""
+    s = screen.Screen(c0="Int", c1="Int")
+    s.add(*(line(s) for line in lines))
+    return s
+
+
+def test_cases():
+    """Cases of document 01, with rows that pass and rows that do not."""
+    cases = [
+        ("c0>3, c0>5", "rewritten", [{"c0": 6}], [{"c0": 5}, {}], [lambda s: s.c0 > 3, lambda s: s.c0 > 5]),
+        ("c0>=3, c0<=3", "rewritten", [{"c0": 3}], [{"c0": 4}], [lambda s: s.c0 >= 3, lambda s: s.c0 <= 3]),
+        ("c0>=3, c0<3", "nothing passes", [], [{"c0": 3}], [lambda s: s.c0 >= 3, lambda s: s.c0 < 3]),
+        ("c0>3, c0<4", "unchanged", [], [{"c0": 3}], [lambda s: s.c0 > 3, lambda s: s.c0 < 4]),
+        ("c0>=3, c0!=3", "rewritten", [{"c0": 4}], [{"c0": 3}], [lambda s: s.c0 >= 3, lambda s: s.c0 != 3]),
+        ("5<c0, c0>-4", "rewritten", [{"c0": 6}], [{"c0": -5}], [lambda s: s.part(5) < s.c0, lambda s: s.c0 > -4]),
+        ("c0==c1, c0>5", "rewritten", [{"c0": 6, "c1": 6}], [{"c0": 6, "c1": 7}],
+         [lambda s: s.c0 == s.c1, lambda s: s.c0 > 5]),
+        ("is_null, c0>1", "nothing passes", [], [{}, {"c0": 2}], [lambda s: s.c0.is_null(), lambda s: s.c0 > 1]),
+        ("in, c0>2", "nothing passes", [], [{"c0": 1}], [lambda s: s.c0.is_in([1, 2]), lambda s: s.c0 > 2]),
+        ("between", "unchanged", [{"c0": 1}, {"c0": 5}], [{"c0": 6}], [lambda s: s.c0.between(1, 5)]),
+        ("half open", "unchanged", [{"c0": 1}], [{"c0": 5}], [lambda s: s.c0.between(1, 5, closed="left")]),
+        ("or", "unchanged", [{"c0": -9}, {"c1": 1}], [{"c0": 1, "c1": 2}],
+         [lambda s: (s.c0 == -9) | (s.c1 == 1)]),
+        ("and", "rewritten", [{"c0": 5}], [{"c0": 3}], [lambda s: (s.c0 > 3) & (s.c0 > 4)]),
+        ("xor", "unchanged", [{"c0": 1, "c1": 0}], [{"c0": 1, "c1": 1}],
+         [lambda s: (s.c0 == 1) ^ (s.c1 == 1)]),
+        ("distinct", "unchanged", [{"c0": 1}], [{}], [lambda s: s.c0.is_distinct_from(None)]),
+        ("not distinct", "unchanged", [{}], [{"c0": 1}], [lambda s: s.c0.is_not_distinct_from(None)]),
+        ("not in", "unchanged", [{"c0": 3}], [{"c0": 2}], [lambda s: ~s.c0.is_in([1, 2])]),
+        ("nulls equal", "unchanged", [{}, {"c0": 1}], [{"c0": 2}],
+         [lambda s: s.c0.is_in([1, None], nulls_equal=True)]),
+    ]
+    for name, answer, passing, others, lines in cases:
+        s = two_lines(*lines)
+        before = [s.test_row(row) for row in passing + others]
+        report(s.check() == "accepted", f"{name}: not accepted")
+        report([truth is True for truth in before] == [True] * len(passing) + [False] * len(others), f"{name}: rows")
+        report(s.rewrite() == answer, f"{name}: another answer")
+        after = [s.test_row(row) for row in passing + others]
+        s.copy_reached()
+        copied = [s.test_row(row) for row in passing + others]
+        report([t is True for t in before] == [t is True for t in after] and after == copied, f"{name}: other rows")
+        report(all(n == s.root or n < s.root for n in range(s.used)) and s.root == s.used - 1, f"{name}: the copy")
+
+
+def test_types():
+    s = screen.Screen(strike="Int", expiry="Day", halted="Truth")
+    s.add(s["strike"] >= -100, s.expiry <= DAY(2026, 12, 18), ~s.halted, s.expiry.is_not_null())
+    report(s.columns_read() == ["strike", "expiry", "halted"], "columns_read")
+    row = {"strike": -100, "expiry": DAY(2026, 12, 18), "halted": False}
+    report(s.test_row(row) is True, "a row that passes")
+    report(s.test_row({**row, "expiry": DAY(2026, 12, 19)}) is False, "a day too late")
+    report(s.test_row({**row, "expiry": DAY(1969, 12, 31)}) is True, "a day before 1970")
+    report(s.test_row({**row, "halted": None}) is None, "unknown")
+    report(s.test_row({**row, "strike": -101}) is False, "a strike below")
+    report(s.test_row({**row, "strike": 20805, "expiry": 20805}) is True, "a day as its number")
+
+
+def test_refusals():
+    s = screen.Screen(c0="Int", c1="Day", c2="Truth")
+    refused(3, "an empty screen", s.check)
+    s.add(s.c0)
+    refused(7, "a line that is no truth", s.check)
+    s = screen.Screen(c0="Int")
+    s.add(~(s.c0 < 100))
+    report(s.rewrite() == "rewritten" and s.columns_read() == ["c0"], "not above a comparison is turned")
+    s = screen.Screen(**{f"c{i}": "Int" for i in range(65)})
+    s.add(s.c0 > 1)
+    refused(1, "65 columns", s.columns_read)
+    s = screen.Screen(c0="Int")
+    s.add(*(s.c0 > i for i in range(129)))
+    before = s.used, s.root, s.records.raw
+    refused(9, "129 lines", s.rewrite)
+    report((s.used, s.root, s.records.raw) == before, "a refusal changes nothing")
+    s = screen.Screen(c0="Int")
+    s.add(s.c0 > 3, s.c0 > 5)
+    while s.used < screen.MAX_RECORDS - 3:
+        s.part(1)
+    report(s.rewrite() == "rewritten" and s.used == screen.MAX_RECORDS, "all records are lent")
+    s = screen.Screen(c0="Day", c1="Truth")
+    s.add(s.c1)
+    refused(13, "a day beyond 32 bits", lambda: s.test_row({"c0": 1 << 40}))
+    refused(13, "a truth of 2", lambda: s.test_row({"c1": 2}))
+    refused(5, "a record of no column", lambda: s.add(s.put(screen.COLUMN, a=7)) or s.check())
+
+
+def test_python():
+    s = screen.Screen(c0="Int", c1="Day")
+    raises(TypeError, "and for &", lambda: s.c0 > 1 and s.c0 > 2)
+    raises(KeyError, "an unknown column", lambda: s["c9"])
+    raises(AttributeError, "an unknown attribute", lambda: s.c9)
+    raises(KeyError, "an unknown cell", lambda: s.test_row({"c9": 1}))
+    raises(TypeError, "a day in a column of numbers", lambda: s.test_row({"c0": DAY(2026, 1, 1)}))
+    raises(TypeError, "a number with a point", lambda: s.c0 > 1.5)
+    raises(OverflowError, "a number beyond 64 bits", lambda: s.test_row({"c0": 1 << 63}))
+    raises(ValueError, "a part of another screen", lambda: s.c0 == screen.Screen(c0="Int").c0)
+    raises(KeyError, "an unknown type", lambda: screen.Screen(c0="Text"))
+    raises(screen.Full, "too many records", lambda: [s.c0 for _ in range(4097)])
+    raises(screen.Full, "too many values", lambda: screen.Screen(c0="Int").c0.is_in(range(8193)))
+
+
+def test_random():
+    """The same rows pass before and after, and of the copy; Python itself says which rows are true."""
+    pick = random.Random(1)
+    answers = {}
+    compare = {"<": lambda a, b: a < b, "<=": lambda a, b: a <= b, ">": lambda a, b: a > b, ">=": lambda a, b: a >= b,
+               "==": lambda a, b: a == b, "!=": lambda a, b: a != b}
+    for _ in range(300):
+        s = screen.Screen(a="Int", b="Int")
+        lines = [(pick.choice("ab"), pick.choice(list(compare)), pick.randrange(-3, 4))
+                 for _ in range(1 + pick.randrange(6))]
+        s.add(*(compare[sign](s[name], value) for name, sign, value in lines))
+        rows = [{"a": a, "b": b} for a in range(-4, 5, 2) for b in range(-4, 5)]
+        want = [all(compare[sign](row[name], value) for name, sign, value in lines) for row in rows]
+        typed = [s.test_row(row) for row in rows]
+        answer = s.rewrite()
+        answers[answer] = answers.get(answer, 0) + 1
+        tidied = [s.test_row(row) for row in rows]
+        s.copy_reached()
+        report(typed == want and tidied == want and [s.test_row(row) for row in rows] == want, f"{lines}")
+    report(len(answers) == 3 and min(answers.values()) > 10, f"random screens: {answers}")
+
+
+def test_told():
+    """Every public name has a docstring; numbers and sentences are those of the header."""
+    for name, thing in [*vars(screen).items(), *vars(screen.Screen).items(), *vars(screen.Part).items()]:
+        if not name.startswith("_") and (inspect.isfunction(thing) or inspect.isclass(thing)):
+            report(inspect.getdoc(thing), f"{name} has no docstring")
+    header = open(os.path.join(PREFIX, "include", "screen.h")).read()
+    numbers = {name: int(value) for name, value in re.findall(r"SCREEN_(\w+) = (\d+)", header)}
+    for name, text in re.findall(r"case SCREEN_(REFUSED_\w+):\s+return ((?:\"[^\"]*\"\s*)+);", header):
+        report(screen.REFUSALS.get(numbers[name]) == "".join(re.findall(r'"([^"]*)"', text)), f"the sentence of {name}")
+    report(len(screen.REFUSALS) == sum(name.startswith("REFUSED_") for name in numbers), "as many sentences")
+    for name in ("COLUMN", "LITERAL", "NULL", "BINARY", "NOT", "IS_NULL", "IS_NOT_NULL", "IS_BETWEEN", "LIST", "IS_IN"):
+        report(getattr(screen, name) == numbers[f"KIND_{name}"], f"the kind {name}")
+    for name in ("EQ", "EQ_VALIDITY", "NOT_EQ", "NOT_EQ_VALIDITY", "LT", "LT_EQ", "GT", "GT_EQ", "AND", "OR", "XOR"):
+        report(getattr(screen, name) == numbers[f"OP_{name}"], f"the operator {name}")
+    for name in ("MAX_RECORDS", "MAX_POOL_VALUES", "RECORD_BYTES", "VALUE_BYTES"):
+        report(getattr(screen, name) == numbers[name], name)
+    version = tuple(int(re.search(rf"SCREEN_VERSION_{part} (\d+)", header)[1]) for part in ("MAJOR", "MINOR"))
+    report(screen.VERSION == version, "the version")
+    calls = set(re.findall(r"^uint32_t (screen_\w+)\(", header, re.M))
+    used = set(re.findall(r'_call\("(\w+)"', open(screen.__file__).read()))
+    report(calls == used, f"the calls of the header: {calls ^ used}")
+
+
+for test in (test_cases, test_types, test_refusals, test_python, test_random, test_told):
+    test()
+print(f"{counts[True]} passed, {counts[False]} failed")
+sys.exit(counts[False] != 0)

@@ -1,0 +1,174 @@
+#include "fate.h"
+
+#include "range.h"
+
+#include <stdlib.h>
+#include <string.h>
+
+/* The columns that a record reads, a bit each. */
+static uint64_t columns_of(const struct screen_lent *screen, uint64_t record)
+{
+    struct screen_lent part = *screen;
+    uint64_t columns = 0, count = 0;
+    part.root = record;
+    return screen_refused(screen_lent_columns_read(&part, &columns, &count)) ? 0 : columns;
+}
+
+static bool same(struct comparison a, struct comparison b)
+{
+    return a.column == b.column && a.code == b.code && a.value == b.value;
+}
+
+/* ------------------------------------------------------------------------------------- one conjunct, one typed line */
+
+/* The worst that became of any part of a line; KEPT and DROPPED together are MERGED. */
+static void add_fate(struct typed_fate *line, bool first, enum fate fate)
+{
+    line->fate = first || line->fate == fate ? fate : FATE_MERGED;
+}
+
+/* What became of one comparison: the tidied line that says as much. */
+static bool trace_comparison(const struct tidied *t, struct comparison typed, bool first, struct typed_fate *line)
+{
+    bool found = false;
+    for (size_t i = 0; i < t->line_count && !found; i++) {
+        struct comparison tidied[2];
+        size_t count = comparisons_of(&t->returned, t->lines[i].record, tidied);
+        for (size_t j = 0; j < count && !found; j++) {
+            if (!implies(tidied[j], typed))
+                continue;
+            found = true;
+            numbers_add(&line->lines, i + 1);
+            add_fate(line, first, same(tidied[j], typed)               ? FATE_KEPT
+                                  : tidied[j].value == typed.value ? FATE_MERGED
+                                                                   : FATE_DROPPED);
+        }
+    }
+    return found;
+}
+
+/* No tidied line says it by itself: those on its columns say it together. */
+static void trace_columns(const struct tidied *t, uint64_t record, bool first, struct typed_fate *line)
+{
+    uint64_t columns = columns_of(&t->typed, record);
+    for (size_t i = 0; i < t->line_count; i++)
+        if (columns_of(&t->returned, t->lines[i].record) & columns)
+            numbers_add(&line->lines, i + 1);
+    add_fate(line, first, FATE_DROPPED);
+}
+
+static void trace_conjunct(const struct tidied *t, uint64_t record, bool first, struct typed_fate *line)
+{
+    struct comparison typed[2];
+    size_t count = comparisons_of(&t->typed, record, typed);
+    for (size_t i = 0; i < t->line_count; i++)
+        if (t->lines[i].record == record) {
+            numbers_add(&line->lines, i + 1);
+            add_fate(line, first, FATE_KEPT);
+            return;
+        }
+    bool traced = count > 0;
+    for (size_t j = 0; j < count; j++)
+        traced &= trace_comparison(t, typed[j], first && j == 0, line);
+    if (!traced)
+        trace_columns(t, record, first, line);
+}
+
+/* The first of two lines that say the same is kept, the other merged into it. */
+static void only_first_kept(struct tidied *t, size_t line)
+{
+    struct typed_fate *fate = &t->fates[line];
+    for (size_t i = 0; i < line && fate->fate == FATE_KEPT; i++) {
+        const struct typed_fate *before = &t->fates[i];
+        if (before->fate == FATE_KEPT && before->lines.count == fate->lines.count &&
+            memcmp(before->lines.at, fate->lines.at, fate->lines.count * sizeof *fate->lines.at) == 0)
+            fate->fate = FATE_MERGED;
+    }
+}
+
+static void trace_line(struct tidied *t, size_t line)
+{
+    struct conjuncts conjuncts = {NULL, 0, 0};
+    add_conjuncts(&conjuncts, &t->typed, t->build->lines[line].root);
+    for (size_t i = 0; i < conjuncts.count; i++)
+        trace_conjunct(t, conjuncts.records[i], i == 0, &t->fates[line]);
+    free(conjuncts.records);
+    only_first_kept(t, line);
+}
+
+/* ------------------------------------------------------------------------------------------------- nothing passes */
+
+/* Do these lines alone let nothing pass? The records are the screen's own, with room behind them. */
+static bool contradict(const struct tidied *t, struct screen_lent part, const bool *chosen)
+{
+    bool any = false;
+    uint32_t top = 0;
+    part.used = t->typed.used;
+    for (size_t i = 0; i < t->build->line_count; i++)
+        if (chosen[i]) {
+            top = any ? screen_put_and(&part, top, t->build->lines[i].root) : t->build->lines[i].root;
+            any = true;
+        }
+    if (!screen_is_full(&part))
+        part.root = top;
+    return any && screen_lent_rewrite(&part) == SCREEN_NOTHING_PASSES;
+}
+
+/* Leaves out each line without which still nothing passes: what is left contradicts itself, and none of it can go. */
+static void find_contradiction(struct tidied *t)
+{
+    size_t room = 0, count = t->build->line_count;
+    bool *chosen = grown(NULL, &room, count, sizeof *chosen);
+    struct screen_lent part = t->typed;
+    part.records_room = part.records_len = SCREEN_RECORD_BYTES * SCREEN_MAX_RECORDS;
+    part.records = malloc(part.records_room);
+    if (part.records == NULL)
+        abort();
+    memcpy(part.records, t->typed.records, part.records_room);
+    for (size_t i = 0; i < count; i++)
+        chosen[i] = true;
+    for (size_t i = 0; i < count; i++) {
+        chosen[i] = false;
+        chosen[i] = !contradict(t, part, chosen);
+    }
+    for (size_t i = 0; i < count; i++) {
+        t->fates[i].fate = chosen[i] ? FATE_CONTRADICTS : FATE_DROPPED;
+        if (chosen[i])
+            numbers_add(&t->lines[0].typed, t->build->lines[i].number);
+        for (size_t j = 0; j < count; j++)
+            if (chosen[i] && chosen[j] && j != i)
+                numbers_add(&t->fates[i].lines, t->build->lines[j].number);
+    }
+    free(part.records);
+    free(chosen);
+}
+
+/* -------------------------------------------------------------------------------------------------- both directions */
+
+/* The typed line that a record belongs to, where it is one of its conjuncts; else those that read its columns. */
+static void trace_back(struct tidied *t, struct tidied_line *tidied)
+{
+    uint64_t columns = columns_of(&t->returned, tidied->record);
+    const struct build *build = t->build;
+    for (size_t i = 0; i < build->line_count; i++) {
+        uint64_t first = i == 0 ? 0 : build->lines[i - 1].used;
+        if (tidied->record < t->typed.used) { /* a typed record: of the line that put it */
+            if (tidied->record >= first && tidied->record < build->lines[i].used)
+                numbers_add(&tidied->typed, build->lines[i].number);
+        } else if (columns_of(&t->typed, build->lines[i].root) & columns) {
+            numbers_add(&tidied->typed, build->lines[i].number);
+        }
+    }
+}
+
+void fates_told(struct tidied *t)
+{
+    if (t->answer == SCREEN_NOTHING_PASSES) {
+        find_contradiction(t);
+        return;
+    }
+    for (size_t i = 0; i < t->build->line_count; i++)
+        trace_line(t, i);
+    for (size_t i = 0; i < t->line_count; i++)
+        trace_back(t, &t->lines[i]);
+}

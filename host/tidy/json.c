@@ -1,0 +1,158 @@
+#include "json.h"
+
+#include "report.h"
+
+#include <string.h>
+
+static void add_string(struct text *out, const char *at, size_t len)
+{
+    text_add(out, "\"");
+    for (size_t i = 0; i < len; i++) {
+        unsigned char c = (unsigned char)at[i];
+        if (c == '"' || c == '\\')
+            text_add(out, "\\%c", c);
+        else if (c < ' ' || c > 126)
+            text_add(out, "\\u%04x", (unsigned)c);
+        else
+            text_add(out, "%c", c);
+    }
+    text_add(out, "\"");
+}
+
+static void add_word(struct text *out, const char *name, const char *value)
+{
+    text_add(out, "\"%s\": ", name);
+    add_string(out, value, strlen(value));
+}
+
+static void add_list(struct text *out, const char *name, const struct numbers *numbers)
+{
+    text_add(out, "\"%s\": [", name);
+    add_numbers(out, numbers);
+    text_add(out, "]");
+}
+
+static const char *next_item(size_t i)
+{
+    return i > 0 ? ",\n    " : "\n    ";
+}
+
+static void add_faults(struct text *out, const struct faults *faults)
+{
+    text_add(out, "  \"faults\": [");
+    for (size_t i = 0; i < faults->kept; i++) {
+        const struct fault *fault = &faults->list[i];
+        text_add(out, "%s{", next_item(i));
+        add_word(out, "kind", fault->warning ? "warning" : "fault");
+        text_add(out, ", ");
+        add_word(out, "file", fault->file);
+        text_add(out, ", \"line\": %zu, \"place\": %zu, ", fault->line, fault->place);
+        add_word(out, "what", fault->what);
+        text_add(out, "}");
+    }
+    text_add(out, "%s]", faults->kept > 0 ? "\n  " : "");
+}
+
+static void add_columns(struct text *out, const struct tidied *tidied)
+{
+    const struct build *build = tidied->build;
+    text_add(out, "  \"columns\": [");
+    for (size_t i = 0; i < build->lent.table_len; i++) {
+        text_add(out, "%s{", next_item(i));
+        add_word(out, "name", build->columns[i].name);
+        text_add(out, ", ");
+        add_word(out, "type", type_text(build->lent.table[i]));
+        text_add(out, ", \"read\": %s}", tidied->columns >> i & 1 ? "true" : "false");
+    }
+    text_add(out, "%s],\n", build->lent.table_len > 0 ? "\n  " : "");
+}
+
+static void add_typed(struct text *out, const struct tidied *tidied)
+{
+    static const char *const FATES[] = {"kept", "merged", "dropped", "contradicts"};
+    const struct build *build = tidied->build;
+    text_add(out, "  \"typed\": [");
+    for (size_t i = 0; i < build->line_count; i++) {
+        const struct typed_fate *fate = &tidied->fates[i];
+        text_add(out, "%s{\"line\": %zu, \"text\": ", next_item(i), build->lines[i].number);
+        add_string(out, build->lines[i].text.at, build->lines[i].text.len);
+        text_add(out, ", ");
+        add_word(out, "fate", FATES[fate->fate]);
+        text_add(out, ", ");
+        add_list(out, fate->fate == FATE_CONTRADICTS ? "lines" : "tidied", &fate->lines);
+        text_add(out, "}");
+    }
+    text_add(out, "\n  ],\n");
+}
+
+static void add_tidied(struct text *out, const struct tidied *tidied)
+{
+    text_add(out, "  \"tidied\": [");
+    for (size_t i = 0; i < tidied->line_count; i++) {
+        text_add(out, "%s{\"number\": %zu, ", next_item(i), i + 1);
+        add_word(out, "text", tidied->lines[i].text.bytes);
+        text_add(out, ", ");
+        add_list(out, "lines", &tidied->lines[i].typed);
+        text_add(out, "}");
+    }
+    text_add(out, "\n  ],\n");
+}
+
+static void add_counts(struct text *out, const char *name, const struct run *run, double ns)
+{
+    text_add(out, "    \"%s\": {\"passed\": %zu, \"false\": %zu, \"unknown\": %zu, \"ns\": %.0f},\n", name,
+             run->counts[2], run->counts[0], run->counts[1], ns);
+}
+
+static void add_chain(struct text *out, const struct build *build, const struct run_files *files)
+{
+    const struct outcome *outcome = files->outcome;
+    const char *before = "";
+    text_add(out, "  \"chain\": {\n    ");
+    add_word(out, "file", files->chain_name);
+    text_add(out, ",\n    \"rows\": %zu,\n", files->chain->rows);
+    add_counts(out, "typed", &outcome->typed, outcome->typed_ns);
+    add_counts(out, "returned", &outcome->returned, outcome->returned_ns);
+    add_counts(out, "copied", &outcome->copied, outcome->copied_ns);
+    text_add(out, "    \"unknown_for_null\": {");
+    for (size_t i = 0; i < build->lent.table_len; i++)
+        if (outcome->unknown_by[i] > 0) {
+            text_add(out, "%s\"%s\": %zu", before, build->columns[i].name, outcome->unknown_by[i]);
+            before = ", ";
+        }
+    text_add(out, "},\n    \"same_rows_pass\": %s,\n    \"passing_lines\": [", outcome->same ? "true" : "false");
+    before = "";
+    for (size_t i = 0; i < files->chain->rows; i++)
+        if (outcome->typed.truths[i] == 2) {
+            text_add(out, "%s%zu", before, files->chain->lines[i]);
+            before = ", ";
+        }
+    text_add(out, "]\n  },\n");
+}
+
+static void add_head(struct text *out, const char *screen, const char *answer)
+{
+    text_add(out, "{\n  \"version\": \"%s\",\n  ", SCREEN_VERSION);
+    add_word(out, "screen", screen);
+    text_add(out, ",\n  \"answer\": \"%s\",\n", answer);
+}
+
+void json_tidied(struct text *out, const struct tidied *tidied, const struct run_files *files,
+                 const struct faults *faults)
+{
+    add_head(out, files->screen, answer_text(tidied->answer));
+    add_columns(out, tidied);
+    add_typed(out, tidied);
+    add_tidied(out, tidied);
+    if (files->chain != NULL)
+        add_chain(out, tidied->build, files);
+    add_faults(out, faults);
+    text_add(out, "\n}\n");
+}
+
+void json_faulty(struct text *out, const char *screen, const struct faults *faults)
+{
+    add_head(out, screen, "faulty");
+    add_faults(out, faults);
+    text_add(out, "\n}\n");
+}

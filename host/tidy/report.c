@@ -1,0 +1,206 @@
+#include "report.h"
+
+#include <string.h>
+
+void add_numbers(struct text *text, const struct numbers *numbers)
+{
+    for (size_t i = 0; i < numbers->count; i++)
+        text_add(text, "%s%zu", i > 0 ? ", " : "", numbers->at[i]);
+}
+
+void add_fate_text(struct text *text, const struct tidied *tidied, size_t line)
+{
+    static const char *const WORDS[] = {"kept as ", "merged into ", "dropped because of ", "contradicts line"};
+    const struct typed_fate *fate = &tidied->fates[line];
+    if (fate->lines.count == 0) {
+        text_add(text, "%s", fate->fate == FATE_CONTRADICTS ? "contradicts itself" : "dropped: nothing passes");
+        return;
+    }
+    text_add(text, "%s", WORDS[fate->fate]);
+    if (fate->fate == FATE_CONTRADICTS)
+        text_add(text, "%s", fate->lines.count == 1 ? " " : "s ");
+    add_numbers(text, &fate->lines);
+}
+
+const char *type_text(unsigned type)
+{
+    static const char *const NAMES[] = {"", "Int", "Day", "Truth"};
+    return NAMES[type];
+}
+
+/* ------------------------------------------------------------------------------------------------------- the screen */
+
+static int digits(size_t number)
+{
+    int count = 1;
+    for (; number > 9; number /= 10)
+        count++;
+    return count;
+}
+
+static void add_typed(struct text *out, struct page page, const struct tidied *tidied)
+{
+    static const enum style STYLES[] = {STYLE_GOOD, STYLE_CHANGED, STYLE_GONE, STYLE_BAD};
+    const struct build *build = tidied->build;
+    struct table table = {NULL, 0, 0};
+    int width = digits(build->lines[build->line_count - 1].number);
+    for (size_t i = 0; i < build->line_count; i++) {
+        struct text left = {NULL, 0, 0}, right = {NULL, 0, 0};
+        text_add(&left, "%*zu  %.*s", width, build->lines[i].number, (int)build->lines[i].text.len,
+                 build->lines[i].text.at);
+        add_fate_text(&right, tidied, i);
+        table_add(&table, left, (size_t)width + 2, right, STYLES[tidied->fates[i].fate]);
+    }
+    table_end(&table, out, page, "as typed", "what became of it");
+}
+
+static void add_tidied(struct text *out, struct page page, const struct tidied *tidied)
+{
+    struct table table = {NULL, 0, 0};
+    int width = digits(tidied->line_count);
+    for (size_t i = 0; i < tidied->line_count; i++) {
+        struct text left = {NULL, 0, 0}, right = {NULL, 0, 0};
+        text_add(&left, "%*zu  %s", width, i + 1, tidied->lines[i].text.bytes);
+        text_add(&right, "%s", "");
+        add_numbers(&right, &tidied->lines[i].typed);
+        table_add(&table, left, (size_t)width + 2, right, STYLE_PLAIN);
+    }
+    table_end(&table, out, page, "as tidied", "typed lines on its columns");
+}
+
+void add_answer(struct text *text, const struct tidied *tidied)
+{
+    size_t lines = tidied->build->line_count;
+    switch (tidied->answer) {
+    case SCREEN_UNCHANGED:
+        text_add(text, "Unchanged: there is nothing to merge; the screen stays as typed.");
+        break;
+    case SCREEN_NOTHING_PASSES:
+        text_add(text, "Nothing passes: no row of any chain can pass these lines together.");
+        break;
+    default:
+        text_add(text, "Rewritten: %zu line%s as typed, %zu as tidied. The same rows pass.", lines,
+                 lines == 1 ? "" : "s", tidied->line_count);
+    }
+}
+
+static void add_columns(struct text *out, struct page page, const struct tidied *tidied)
+{
+    struct text line = {NULL, 0, 0};
+    size_t columns = tidied->build->lent.table_len;
+    const char *before = "";
+    text_add(&line, "Columns read: ");
+    for (size_t i = 0; i < columns; i++)
+        if (tidied->columns >> i & 1) {
+            text_add(&line, "%s%s", before, tidied->build->columns[i].name);
+            before = ", ";
+        }
+    text_add(&line, "%s (%u of %zu).", tidied->column_count == 0 ? "none" : "", (unsigned)tidied->column_count,
+             columns);
+    add_wrapped(out, page, STYLE_PLAIN, &line);
+    text_free(&line);
+}
+
+void report_screen(struct text *out, struct page page, const struct tidied *tidied)
+{
+    struct text answer = {NULL, 0, 0};
+    add_typed(out, page, tidied);
+    text_add(out, "\n");
+    add_tidied(out, page, tidied);
+    text_add(out, "\n");
+    add_answer(&answer, tidied);
+    add_wrapped(out, page, tidied->answer == SCREEN_NOTHING_PASSES ? STYLE_BAD : STYLE_GOOD, &answer);
+    add_columns(out, page, tidied);
+    text_free(&answer);
+}
+
+/* -------------------------------------------------------------------------------------------------------- the chain */
+
+/* By their line in the file, which is the number that a spreadsheet shows. */
+void add_passing(struct text *text, const struct chain *chain, const struct run *run)
+{
+    const char *separator = "";
+    for (size_t i = 0; i < chain->rows; i++) {
+        if (run->truths[i] != 2)
+            continue;
+        text_add(text, "%s%zu", separator, chain->lines[i]);
+        size_t last = i;
+        while (last + 1 < chain->rows && run->truths[last + 1] == 2 && chain->lines[last + 1] == chain->lines[last] + 1)
+            last++;
+        if (last > i)
+            text_add(text, "-%zu", chain->lines[last]);
+        separator = ", ";
+        i = last;
+    }
+    text_add(text, "%s", separator[0] == '\0' ? "none" : "");
+}
+
+static void add_rows(struct text *out, struct page page, const char *title, const struct chain *chain,
+                     const struct run *run)
+{
+    struct text rows = {NULL, 0, 0};
+    text_add(&rows, "%s ", title);
+    add_passing(&rows, chain, run);
+    add_wrapped(out, page, STYLE_PLAIN, &rows);
+    text_free(&rows);
+}
+
+static void add_counts(struct text *out, const char *title, const struct run *run)
+{
+    text_add(out, "    %-9s  %6zu passed  %6zu false  %6zu unknown\n", title, run->counts[2], run->counts[0],
+             run->counts[1]);
+}
+
+/* A row that is unknown may be so for several columns. */
+static void add_unknown(struct text *out, struct page page, const struct build *build, const struct outcome *outcome)
+{
+    struct text line = {NULL, 0, 0};
+    const char *before = "Unknown as typed for a null in: ";
+    for (size_t i = 0; i < build->lent.table_len; i++)
+        if (outcome->unknown_by[i] > 0) {
+            text_add(&line, "%s%s (%zu row%s)", before, build->columns[i].name, outcome->unknown_by[i],
+                     outcome->unknown_by[i] == 1 ? "" : "s");
+            before = ", ";
+        }
+    if (line.len > 0)
+        add_wrapped(out, page, STYLE_PLAIN, &line);
+    text_free(&line);
+}
+
+static void add_speed(struct text *out, struct page page, const struct outcome *outcome)
+{
+    struct text line = {NULL, 0, 0};
+    text_add(&line, "A row takes %.0f ns as typed, %.0f ns as returned, %.0f ns as copied out, which is what to run.",
+             outcome->typed_ns, outcome->returned_ns, outcome->copied_ns);
+    add_wrapped(out, page, STYLE_PLAIN, &line);
+    text_free(&line);
+}
+
+void report_chain(struct text *out, struct page page, const struct tidied *tidied, const struct chain *chain,
+                  const struct outcome *outcome, const char *name)
+{
+    text_add(out, "\n%s: %zu row%s\n", name, chain->rows, chain->rows == 1 ? "" : "s");
+    add_counts(out, "as typed", &outcome->typed);
+    add_counts(out, "as tidied", &outcome->copied);
+    add_unknown(out, page, tidied->build, outcome);
+    if (chain->rows > 0)
+        add_speed(out, page, outcome);
+    if (outcome->same) {
+        text_add(out, "The same rows pass as typed and as tidied.\n");
+        add_rows(out, page, "Rows that pass, by their line in the file:", chain, &outcome->typed);
+        return;
+    }
+    add_styled(out, page, STYLE_BAD, "NOT THE SAME ROWS PASS.");
+    text_add(out, "\n");
+    add_rows(out, page, "Rows that pass as typed, by their line in the file:", chain, &outcome->typed);
+    add_rows(out, page, "Rows that pass as tidied:", chain, &outcome->copied);
+}
+
+void report_only(struct text *out, const struct tidied *tidied)
+{
+    const struct build *build = tidied->build;
+    for (size_t i = 0; i < build->lent.table_len; i++)
+        text_add(out, "column %s %s\n", build->columns[i].name, type_text(build->lent.table[i]));
+    for (size_t i = 0; i < tidied->line_count; i++)
+        text_add(out, "%s\n", tidied->lines[i].text.bytes);
+}

@@ -1,0 +1,30 @@
+/*
+ * In the place of the library while it is not proved: tidy over this tells what it can tell without it, its help, an
+ * option that it does not know, a file that it cannot read or understand, and ends with status 77 at the first call.
+ */
+#include <stdlib.h>
+
+void screen_check(void);
+void screen_rewrite(void);
+void screen_test_row(void);
+void screen_columns_read(void);
+
+void screen_check(void)
+{
+    _Exit(77);
+}
+
+void screen_rewrite(void)
+{
+    _Exit(77);
+}
+
+void screen_test_row(void)
+{
+    _Exit(77);
+}
+
+void screen_columns_read(void)
+{
+    _Exit(77);
+}

@@ -1,0 +1,417 @@
+/*
+ * screen_build.h: puts a screen together in lent buffers, and makes the calls of screen.h on it. C99 and C++11; every
+ * function is static inline, nothing is allocated and nothing is linked but the library.
+ *
+ *     uint8_t table[4], records[16 * 64], pool[8 * 16];
+ *     struct screen_lent s;
+ *     screen_begin(&s, table, sizeof table, records, sizeof records, pool, sizeof pool);
+ *     uint32_t strike = screen_declare(&s, SCREEN_TYPE_INT);
+ *     uint32_t low = screen_put_binary(&s, SCREEN_OP_GT_EQ, screen_put_column(&s, strike), screen_put_int(&s, -100));
+ *     uint32_t answer = screen_lent_rewrite(&s);
+ *
+ * This file is not proved; host/test/build_test.c tests it.
+ *
+ * A FULL BUFFER
+ *
+ * A function that appends answers the number of the column or the record that it appended, or SCREEN_FULL if there was
+ * no room. From then on every append answers SCREEN_FULL and the root is SCREEN_FULL, so that each call refuses the
+ * screen: a host may put a whole screen together and look at the end.
+ *
+ * RUN THE COPY, NOT THE SCREEN RETURNED
+ *
+ * Each call checks all used records, and those of the screen sent stay among them after rewriting. A screen that runs
+ * on every tick should first be copied out: screen_copy_reached takes what the root reaches into another buffer.
+ */
+#ifndef SCREEN_BUILD_H
+#define SCREEN_BUILD_H
+
+#include "screen.h"
+
+#include <string.h>
+
+#ifdef __cplusplus
+#define SCREEN_CAST(type, value) static_cast<type>(value)
+#else
+#define SCREEN_CAST(type, value) ((type)(value))
+#endif
+
+/* Instead of a number: there was no room. */
+#define SCREEN_FULL UINT32_MAX
+
+/*
+ * A lent screen. Lengths are in bytes and are what the calls are lent; rooms are in bytes and are what may be filled
+ * here. An append makes the length as long as it needs. A host may change any of them.
+ */
+struct screen_lent {
+    uint8_t *table;
+    size_t table_len;
+    size_t table_room;
+    uint8_t *records;
+    size_t records_len;
+    size_t records_room;
+    uint8_t *pool;
+    size_t pool_len;
+    size_t pool_room;
+    uint64_t used;
+    uint64_t root;
+};
+
+/* One record as its fields. */
+struct screen_record {
+    uint8_t kind, code, type, zero;
+    uint32_t a, b, c;
+};
+
+/* ------------------------------------------------------------------------------------------------ bytes and values */
+
+/* The low `bytes` bytes of a number, little-endian. */
+static inline void screen_store(uint8_t *at, unsigned bytes, uint64_t value)
+{
+    unsigned i;
+    for (i = 0; i < bytes; i++)
+        at[i] = SCREEN_CAST(uint8_t, value >> (8 * i) & 255);
+}
+
+static inline uint64_t screen_fetch(const uint8_t *at, unsigned bytes)
+{
+    uint64_t value = 0;
+    while (bytes > 0)
+        value = value << 8 | at[--bytes];
+    return value;
+}
+
+/* A value of the pool or of a row, negative ones too. */
+static inline void screen_store_value(uint8_t *at, int64_t value)
+{
+    screen_store(at, 8, SCREEN_CAST(uint64_t, value));
+}
+
+static inline int64_t screen_fetch_value(const uint8_t *at)
+{
+    uint64_t bits = screen_fetch(at, 8);
+    int64_t value;
+    memcpy(&value, &bits, sizeof value);
+    return value;
+}
+
+/*
+ * Days from 1970-01-01 to this day of the Gregorian calendar, also before 1582. INT64_MIN if there is no such day: a
+ * literal of it is refused.
+ */
+static inline int64_t screen_day(int32_t year, unsigned month, unsigned day)
+{
+    static const uint8_t longest[12] = {31, 29, 31, 30, 31, 30, 31, 31, 30, 31, 30, 31};
+    int64_t from_march, counted, era, of_era;
+    int leap = (year % 4 == 0 && year % 100 != 0) || year % 400 == 0;
+    if (month < 1 || month > 12 || day < 1 || day > longest[month - 1] || (month == 2 && day == 29 && !leap))
+        return INT64_MIN;
+    /* years begin with March, so that the day that leap years add is a year's last; 400 of them have 146,097 days */
+    from_march = month > 2 ? SCREEN_CAST(int64_t, month) - 3 : SCREEN_CAST(int64_t, month) + 9;
+    counted = month > 2 ? SCREEN_CAST(int64_t, year) : SCREEN_CAST(int64_t, year) - 1;
+    era = counted / 400 - (counted % 400 < 0);
+    of_era = counted - 400 * era;
+    return era * 146097 + of_era * 365 + of_era / 4 - of_era / 100 + (153 * from_march + 2) / 5 +
+           SCREEN_CAST(int64_t, day) - 719469;
+}
+
+/* --------------------------------------------------------------------------------------------------- a new screen */
+
+/* An empty screen in these buffers, lengths in bytes. All records are lent to the calls: rewriting needs room. */
+static inline void screen_begin(struct screen_lent *s, uint8_t *table, size_t table_room, uint8_t *records,
+                                size_t records_room, uint8_t *pool, size_t pool_room)
+{
+    s->table = table;
+    s->table_len = 0;
+    s->table_room = table_room;
+    s->records = records;
+    s->records_len = records_room;
+    s->records_room = records_room;
+    s->pool = pool;
+    s->pool_len = 0;
+    s->pool_room = pool_room;
+    s->used = 0;
+    s->root = 0;
+}
+
+/* Has an append found no room? */
+static inline int screen_is_full(const struct screen_lent *s)
+{
+    return s->root == SCREEN_FULL;
+}
+
+static inline uint32_t screen_mark_full(struct screen_lent *s)
+{
+    s->root = SCREEN_FULL;
+    return SCREEN_FULL;
+}
+
+/* Appends a column of this type (SCREEN_TYPE_..) to the table and answers its number. */
+static inline uint32_t screen_declare(struct screen_lent *s, unsigned type)
+{
+    if (screen_is_full(s) || s->table_len >= s->table_room)
+        return screen_mark_full(s);
+    s->table[s->table_len] = SCREEN_CAST(uint8_t, type & 255);
+    return SCREEN_CAST(uint32_t, s->table_len++);
+}
+
+/* ----------------------------------------------------------------------------------- records, each becomes the root */
+
+/* Any record at all, well formed or not; screen.h says which fields a kind uses. Answers its number. */
+static inline uint32_t screen_put(struct screen_lent *s, unsigned kind, unsigned code, unsigned type, uint32_t a,
+                                  uint32_t b, uint32_t c)
+{
+    uint8_t *at;
+    if (screen_is_full(s) || s->used >= s->records_room / SCREEN_RECORD_BYTES)
+        return screen_mark_full(s);
+    s->root = s->used++;
+    while (s->records_len / SCREEN_RECORD_BYTES < s->used)
+        s->records_len += SCREEN_RECORD_BYTES - s->records_len % SCREEN_RECORD_BYTES;
+    at = s->records + SCREEN_RECORD_BYTES * s->root;
+    at[0] = SCREEN_CAST(uint8_t, kind & 255);
+    at[1] = SCREEN_CAST(uint8_t, code & 255);
+    at[2] = SCREEN_CAST(uint8_t, type & 255);
+    at[3] = 0;
+    screen_store(at + 4, 4, a);
+    screen_store(at + 8, 4, b);
+    screen_store(at + 12, 4, c);
+    return SCREEN_CAST(uint32_t, s->root);
+}
+
+/* A column by its number in the table. */
+static inline uint32_t screen_put_column(struct screen_lent *s, uint32_t column)
+{
+    return screen_put(s, SCREEN_KIND_COLUMN, 0, 0, column, 0, 0);
+}
+
+/* A value of this type (SCREEN_TYPE_..); negative ones are right. */
+static inline uint32_t screen_put_literal(struct screen_lent *s, unsigned type, int64_t value)
+{
+    uint64_t bits = SCREEN_CAST(uint64_t, value);
+    return screen_put(s, SCREEN_KIND_LITERAL, 0, type, 0, SCREEN_CAST(uint32_t, bits & UINT32_MAX),
+                      SCREEN_CAST(uint32_t, bits >> 32));
+}
+
+static inline uint32_t screen_put_int(struct screen_lent *s, int64_t value)
+{
+    return screen_put_literal(s, SCREEN_TYPE_INT, value);
+}
+
+/* Days since 1970-01-01; screen_day counts them. */
+static inline uint32_t screen_put_day(struct screen_lent *s, int64_t days)
+{
+    return screen_put_literal(s, SCREEN_TYPE_DAY, days);
+}
+
+static inline uint32_t screen_put_truth(struct screen_lent *s, int truth)
+{
+    return screen_put_literal(s, SCREEN_TYPE_TRUTH, truth != 0);
+}
+
+/* A null of this type (SCREEN_TYPE_..). */
+static inline uint32_t screen_put_null(struct screen_lent *s, unsigned type)
+{
+    return screen_put(s, SCREEN_KIND_NULL, 0, type, 0, 0, 0);
+}
+
+/* A comparison, or logic: SCREEN_OP_.. between two records. */
+static inline uint32_t screen_put_binary(struct screen_lent *s, unsigned op, uint32_t left, uint32_t right)
+{
+    return screen_put(s, SCREEN_KIND_BINARY, op, 0, left, right, 0);
+}
+
+static inline uint32_t screen_put_and(struct screen_lent *s, uint32_t left, uint32_t right)
+{
+    return screen_put_binary(s, SCREEN_OP_AND, left, right);
+}
+
+static inline uint32_t screen_put_or(struct screen_lent *s, uint32_t left, uint32_t right)
+{
+    return screen_put_binary(s, SCREEN_OP_OR, left, right);
+}
+
+static inline uint32_t screen_put_not(struct screen_lent *s, uint32_t input)
+{
+    return screen_put(s, SCREEN_KIND_NOT, 0, 0, input, 0, 0);
+}
+
+static inline uint32_t screen_put_is_null(struct screen_lent *s, uint32_t input)
+{
+    return screen_put(s, SCREEN_KIND_IS_NULL, 0, 0, input, 0, 0);
+}
+
+static inline uint32_t screen_put_is_not_null(struct screen_lent *s, uint32_t input)
+{
+    return screen_put(s, SCREEN_KIND_IS_NOT_NULL, 0, 0, input, 0, 0);
+}
+
+/* SCREEN_CLOSED_.. says which ends belong to the range. */
+static inline uint32_t screen_put_between(struct screen_lent *s, unsigned closed, uint32_t value, uint32_t low,
+                                          uint32_t high)
+{
+    return screen_put(s, SCREEN_KIND_IS_BETWEEN, closed, 0, value, low, high);
+}
+
+/* Appends a value to the pool and answers its number there; it is no record. */
+static inline uint32_t screen_put_pool(struct screen_lent *s, int64_t value)
+{
+    if (screen_is_full(s) || s->pool_len > s->pool_room || s->pool_room - s->pool_len < SCREEN_VALUE_BYTES)
+        return screen_mark_full(s);
+    screen_store_value(s->pool + s->pool_len, value);
+    s->pool_len += SCREEN_VALUE_BYTES;
+    return SCREEN_CAST(uint32_t, s->pool_len / SCREEN_VALUE_BYTES - 1);
+}
+
+/* A list of these values, which are appended to the pool; holds_null: and of a null. It serves is_in alone. */
+static inline uint32_t screen_put_list(struct screen_lent *s, unsigned type, const int64_t *values, uint32_t count,
+                                       int holds_null)
+{
+    uint32_t start = SCREEN_CAST(uint32_t, s->pool_len / SCREEN_VALUE_BYTES);
+    uint32_t i;
+    for (i = 0; i < count; i++)
+        if (screen_put_pool(s, values[i]) == SCREEN_FULL)
+            return SCREEN_FULL;
+    return screen_put(s, SCREEN_KIND_LIST, holds_null != 0, type, start, count, 0);
+}
+
+/* nulls_equal: a null is in a list that holds one. */
+static inline uint32_t screen_put_is_in(struct screen_lent *s, uint32_t value, uint32_t list, int nulls_equal)
+{
+    return screen_put(s, SCREEN_KIND_IS_IN, nulls_equal != 0, 0, value, list, 0);
+}
+
+/* --------------------------------------------------------------------------------------------- reading records back */
+
+/* The fields of record `number`, which must be below used. */
+static inline struct screen_record screen_record_at(const struct screen_lent *s, uint64_t number)
+{
+    const uint8_t *at = s->records + SCREEN_RECORD_BYTES * number;
+    struct screen_record record;
+    record.kind = at[0];
+    record.code = at[1];
+    record.type = at[2];
+    record.zero = at[3];
+    record.a = SCREEN_CAST(uint32_t, screen_fetch(at + 4, 4));
+    record.b = SCREEN_CAST(uint32_t, screen_fetch(at + 8, 4));
+    record.c = SCREEN_CAST(uint32_t, screen_fetch(at + 12, 4));
+    return record;
+}
+
+/* A literal's value. */
+static inline int64_t screen_literal_at(const struct screen_lent *s, uint64_t number)
+{
+    return screen_fetch_value(s->records + SCREEN_RECORD_BYTES * number + 8);
+}
+
+/* How many of A, B and C, in this order, are inputs of a record of this kind. */
+static inline unsigned screen_inputs(unsigned kind)
+{
+    switch (kind) {
+    case SCREEN_KIND_IS_BETWEEN:
+        return 3;
+    case SCREEN_KIND_BINARY:
+    case SCREEN_KIND_IS_IN:
+        return 2;
+    case SCREEN_KIND_NOT:
+    case SCREEN_KIND_IS_NULL:
+    case SCREEN_KIND_IS_NOT_NULL:
+        return 1;
+    default:
+        return 0;
+    }
+}
+
+/* ---------------------------------------------------------------------- the calls of screen.h, one wrapper for each */
+
+/* As screen_check. */
+SCREEN_MUST_USE
+static inline uint32_t screen_lent_check(const struct screen_lent *s)
+{
+    return screen_check(s->table, s->table_len, s->records, s->records_len, s->pool, s->pool_len, s->used, s->root);
+}
+
+/* As screen_rewrite; root and used become those of the screen returned. */
+SCREEN_MUST_USE
+static inline uint32_t screen_lent_rewrite(struct screen_lent *s)
+{
+    uint64_t root = s->root, used = s->used;
+    uint32_t answer = screen_rewrite(s->table, s->table_len, s->records, s->records_len, s->pool, s->pool_len, s->used,
+                                     s->root, &root, &used);
+    s->root = root;
+    s->used = used;
+    return answer;
+}
+
+/* As screen_test_row. */
+SCREEN_MUST_USE
+static inline uint32_t screen_lent_test_row(const struct screen_lent *s, const uint8_t *row, size_t row_len,
+                                            uint64_t nulls)
+{
+    return screen_test_row(s->table, s->table_len, s->records, s->records_len, s->pool, s->pool_len, s->used, s->root,
+                           row, row_len, nulls);
+}
+
+/* As screen_columns_read. */
+SCREEN_MUST_USE
+static inline uint32_t screen_lent_columns_read(const struct screen_lent *s, uint64_t *columns, uint64_t *count)
+{
+    return screen_columns_read(s->table, s->table_len, s->records, s->records_len, s->pool, s->pool_len, s->used,
+                               s->root, columns, count);
+}
+
+/* ------------------------------------------------------------------------------------------------------ copying out */
+
+/* The record with its inputs renumbered. */
+static inline void screen_copy_record(uint8_t *to, const uint8_t *from, const uint16_t *numbers)
+{
+    unsigned i, inputs = screen_inputs(from[0]);
+    memmove(to, from, SCREEN_RECORD_BYTES);
+    for (i = 0; i < inputs; i++)
+        screen_store(to + 4 + 4 * i, 4, numbers[screen_fetch(to + 4 + 4 * i, 4)]);
+}
+
+/*
+ * Copies the records that the root reaches, in their order and renumbered, into `records`, and makes *to the same
+ * screen with these: with the table and the pool of `from`, and all of `records` lent. Answers SCREEN_ACCEPTED, or a
+ * refusal and writes nothing: as screen_check of `from`, then SCREEN_REFUSED_ROOM if `records` is too short.
+ *
+ * `records` may be the buffer of `from`; else the two do not overlap. `to` may be `from`.
+ */
+SCREEN_MUST_USE
+static inline uint32_t screen_copy_reached(const struct screen_lent *from, uint8_t *records, size_t records_len,
+                                           struct screen_lent *to)
+{
+    uint16_t numbers[SCREEN_MAX_RECORDS]; /* 1 for a reached record, then its new number */
+    uint16_t count = 0;
+    uint64_t n, reached = 0;
+    uint32_t answer = screen_lent_check(from);
+    if (screen_refused(answer))
+        return answer;
+    memset(numbers, 0, sizeof numbers);
+    numbers[from->root] = 1;
+    for (n = from->root + 1; n-- > 0;) { /* inputs stand before their record */
+        const uint8_t *at = from->records + SCREEN_RECORD_BYTES * n;
+        unsigned i, inputs = numbers[n] ? screen_inputs(at[0]) : 0;
+        reached += numbers[n];
+        for (i = 0; i < inputs; i++)
+            numbers[screen_fetch(at + 4 + 4 * i, 4)] = 1;
+    }
+    if (reached > records_len / SCREEN_RECORD_BYTES)
+        return SCREEN_REFUSED_ROOM;
+    for (n = 0; n <= from->root; n++)
+        if (numbers[n]) {
+            numbers[n] = count++;
+            screen_copy_record(records + SCREEN_RECORD_BYTES * numbers[n], from->records + SCREEN_RECORD_BYTES * n,
+                               numbers);
+        }
+    *to = *from;
+    to->records = records;
+    to->records_len = records_len;
+    to->records_room = records_len;
+    to->used = reached;
+    to->root = reached - 1;
+    return answer;
+}
+
+#undef SCREEN_CAST
+
+#endif
