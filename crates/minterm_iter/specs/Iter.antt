@@ -1,40 +1,35 @@
 -- What `MintermIter` gives, one conjunct a call.
 use mathlib.Core.Path.{_≡_}
+use mathlib.Core.Bool.{Bool, true, false}
 use mathlib.Core.List.{List, [], _∷_}
-use mathlib.Core.Option.{Option, none, some}
-use Prim.Native.Nat.{ℕ, _≤_}
-use lib.ListN.{length}
+use Prim.Native.Nat.{ℕ, _+_, _≤_, _<_}
+use lib.ListN.{length, set}
+use Rattle.truth.specs.AExpr.{AExpr}
 use Rattle.merge.specs.Minterms.{pending}
 use Rattle.rewrite.specs.Walk.{walked, stackOf, InputsBelow}
 use Rattle.minterm_iter.specs.declared.Item.{Item}
 use Rattle.minterm_iter.specs.declared.Item.the-variants as item
 use Rattle.minterm_iter.specs.declared.Stack.{Stack}
 
--- The node given, if any.
-abbrev pub itemIn : Item → Option ℕ
-itemIn item.None = none
-itemIn (item.Some n) = some (n .0)
-
 -- The nodes still to visit, the next one first.
 abbrev pub stackIn : Stack → List ℕ
 stackIn s = stackOf (s .nodes) (s .len)
 
--- The conjuncts still to come.
-abbrev pub left : List ℕ → Stack → List ℕ
-left rs s = pending (walked rs) (stackIn s)
-
--- Every record that the walk meets has its inputs below it, and the conjuncts to come have room on the stack.
+-- Every record that the walk meets has its inputs below it, and the stack is no longer than its array.
 abbrev pub Walkable : List ℕ → Stack → Type 0
-Walkable rs s = InputsBelow (walked rs) (stackIn s) × (length (left rs s) ≤ 128)
+Walkable rs s = InputsBelow (walked rs) (stackIn s) × (s .len ≤ 128)
 
-abbrev pub first : List ℕ → Option ℕ
-first [] = none
-first (n ∷ l) = some n
+-- From the nodes s the item i is given, and the nodes t are left: the first conjunct to come, and what gives the rest.
+-- `Over` is given only if more than 128 are to come.
+abbrev pub Next : (ℕ → AExpr ℕ) → List ℕ → Item → List ℕ → Type 0
+Next R s item.None t = (pending R s ≡ []) × (t ≡ [])
+Next R s (item.Some n) t = pending R s ≡ (n .0 ∷ pending R t)
+Next R s item.Over t = 128 < length (pending R s)
 
-abbrev pub rest : List ℕ → List ℕ
-rest [] = []
-rest (n ∷ l) = l
-
--- From the stack s the item i is given, and t is left: i is the first conjunct to come, and t gives the rest.
-abbrev pub Next : List ℕ → Stack → Item → Stack → Type 0
-Next rs s i t = (itemIn i ≡ first (left rs s)) × (left rs t ≡ rest (left rs s)) × Walkable rs t
+-- The item taken into the first n of the nodes a: b are the nodes then, m how many, and `more` whether to go on. 129
+-- stands for more than 128.
+abbrev pub Taken : List ℕ → ℕ → Item → List ℕ → ℕ → Bool → Type 0
+Taken a n item.None b m more = (b ≡ a) × (m ≡ n) × (more ≡ false)
+Taken a n (item.Some x) b m more =
+    (n < 128 → (b ≡ set a n (x .0)) × (m ≡ n + 1) × (more ≡ true)) × (128 ≤ n → (m ≡ 129) × (more ≡ false))
+Taken a n item.Over b m more = (m ≡ 129) × (more ≡ false)

@@ -1,16 +1,72 @@
 // `MintermIter` as the Rust has it: a struct with the lent records and the nodes still to visit. Its methods are thin:
-// the work is done by `rooted` and `step_at`, on plain slices and stacks. The walk itself is
-// `rewrite::minterms::next_minterm`; the merging has all conjuncts at once from `rewrite::minterms::minterms`.
+// the work is done by `rooted` and `next_minterm`, on plain slices and stacks. `minterms` has all conjuncts of a root
+// from the struct, and serves every other caller.
 ghost use mathlib.Core.Path.{_≡_};
 ghost use mathlib.Core.List.{[], _∷_};
-ghost use Rattle.minterm_iter.specs.Iter.{stackIn, Walkable, Next};
+ghost use Prim.Native.Nat.{ℕ, _≤_, min};
+ghost use lib.ListN.{length};
+ghost use Rattle.truth.specs.AExpr.{Inputs};
+ghost use Rattle.merge.specs.Minterms.{minterms};
+ghost use Rattle.rewrite.specs.Walk.{walked, firstOf, stackOf, InputsBelow};
+ghost use Rattle.minterm_iter.specs.Iter.{stackIn, Walkable, Next, Taken};
 use records::record::Node;
-use rewrite::minterms::next_minterm;
+use rewrite::minterms::Sides;
+use rewrite::minterms::sides_at;
 
-/// `Option<Node>`.
+/// `Option<Node>`; `Over` if the stack's 128 places do not suffice.
 pub enum Item {
     None,
     Some(Node),
+    Over,
+}
+
+/// What one step gives, and how many nodes of the stack are left.
+pub struct Minterm {
+    pub item: Item,
+    pub depth: usize,
+}
+
+/// The step on the stack of the nodes still to visit, the next one on top: down the left sides of Ands to the first
+/// conjunct. What is left of the stack gives the rest. Each node on the stack gives at least one conjunct, so over 128
+/// nodes are over 128 conjuncts.
+pub fn next_minterm(rs: &[u8], stack: &mut [u32; 128], depth: usize) -> Minterm
+    requires { ⌜ InputsBelow (walked (now rs)) (stackOf (now stack) depth) × (depth ≤ 128)
+        × (length (now stack) ≡ 128) ⌝ }
+    ensures { λ r. ⌜ Next (walked (now (rs .entry))) (stackOf (now (stack .entry)) depth) (r .item)
+        (stackOf (now (stack .exit)) (r .depth))
+        × InputsBelow (walked (now (rs .entry))) (stackOf (now (stack .exit)) (r .depth)) × (r .depth ≤ 128) ⌝ }
+{
+    if depth == 0 {
+        return Minterm {
+            item: Item::None,
+            depth: 0,
+        };
+    }
+    let mut left = depth - 1;
+    let mut top = stack[left];
+    loop {
+        let s = sides_at(rs, Node(top));
+        match s {
+            Sides::One => {
+                return Minterm {
+                    item: Item::Some(Node(top)),
+                    depth: left,
+                };
+            }
+            Sides::Both(x, y) => {
+                if 127 <= left {
+                    return Minterm {
+                        item: Item::Over,
+                        depth: 0,
+                    };
+                }
+                stack[left] = y.0;
+                left += 1;
+                top = x.0;
+                continue;
+            }
+        }
+    }
 }
 
 /// The nodes still to visit, the next one last.
@@ -19,45 +75,14 @@ pub struct Stack {
     pub len: usize,
 }
 
-/// What one step gives, and the nodes that it leaves. An enum cannot hold the array.
-pub struct Stepped {
-    pub item: Item,
-    pub stack: Stack,
-}
-
 pub fn rooted(root: Node) -> Stack
-    ensures { λ r. ⌜ stackIn r ≡ (root .0 ∷ []) ⌝ }
+    ensures { λ r. ⌜ (stackIn r ≡ (root .0 ∷ [])) × (r .len ≤ 128) ⌝ }
 {
     let mut nodes = [0u32; 128];
     nodes[0] = root.0;
     Stack {
         nodes: nodes,
         len: 1,
-    }
-}
-
-pub fn step_at(records: &[u8], s: Stack) -> Stepped
-    requires { ⌜ Walkable (now records) s ⌝ }
-    ensures { λ r. ⌜ Next (now (records .entry)) s (r .item) (r .stack) ⌝ }
-{
-    if s.len == 0 {
-        let none = Item::None;
-        return Stepped {
-            item: none,
-            stack: s,
-        };
-    }
-    let mut nodes = s.nodes;
-    let m = next_minterm(records, &mut nodes, s.len);
-    let node = m.node;
-    let some = Item::Some(node);
-    let stack = Stack {
-        nodes: nodes,
-        len: m.depth,
-    };
-    Stepped {
-        item: some,
-        stack: stack,
     }
 }
 
@@ -68,7 +93,8 @@ pub struct MintermIter<'a> {
 
 impl<'a> MintermIter<'a> {
     pub fn new(root: Node, records: &'a [u8]) -> MintermIter<'a>
-        ensures { λ r. ⌜ (r .records ≡ records .entry) × (stackIn (r .stack) ≡ (root .0 ∷ [])) ⌝ }
+        ensures { λ r. ⌜ (r .records ≡ records .entry) × (stackIn (r .stack) ≡ (root .0 ∷ []))
+            × (r .stack .len ≤ 128) ⌝ }
     {
         let stack = rooted(root);
         MintermIter {
@@ -80,14 +106,73 @@ impl<'a> MintermIter<'a> {
     pub fn next(&mut self) -> Item
         requires { ⌜ Walkable (now (now self .records)) (now self .stack) ⌝ }
         ensures { λ r. ⌜ (now (self .exit) .records ≡ now (self .entry) .records)
-            × Next (now (now (self .entry) .records)) (now (self .entry) .stack) r (now (self .exit) .stack) ⌝ }
+            × Next (walked (now (now (self .entry) .records))) (stackIn (now (self .entry) .stack)) r
+            (stackIn (now (self .exit) .stack))
+            × Walkable (now (now (self .entry) .records)) (now (self .exit) .stack) ⌝ }
     {
-        let it = *self;
-        let r = step_at(it.records, it.stack);
-        *self = MintermIter {
-            records: it.records,
-            stack: r.stack,
-        };
-        r.item
+        let depth = self.stack.len;
+        let m = next_minterm(self.records, &mut self.stack.nodes, depth);
+        self.stack.len = m.depth;
+        m.item
     }
+}
+
+/// How many conjuncts are found, and whether there may be more. 129 stands for more than 128.
+pub struct Found {
+    pub len: usize,
+    pub more: bool,
+}
+
+/// An item taken into `nodes`, behind the `len` that are there.
+fn take(nodes: &mut [u32], len: usize, item: Item) -> Found
+    requires { ⌜ 128 ≤ length (now nodes) ⌝ }
+    ensures { λ r. ⌜ Taken (now (nodes .entry)) len item (now (nodes .exit)) (r .len) (r .more) ⌝ }
+{
+    match item {
+        Item::None => {
+            return Found {
+                len: len,
+                more: false,
+            };
+        }
+        Item::Some(n) => {
+            if 128 <= len {
+                return Found {
+                    len: 129,
+                    more: false,
+                };
+            }
+            nodes[len] = n.0;
+            return Found {
+                len: len + 1,
+                more: true,
+            };
+        }
+        Item::Over => {
+            return Found {
+                len: 129,
+                more: false,
+            };
+        }
+    }
+}
+
+/// The conjuncts of the root, into `nodes`; how many they are, 129 if more than 128.
+pub fn minterms(rs: &[u8], root: Node, nodes: &mut [u32]) -> usize
+    requires below { ⌜ ((n : ℕ) → n ≤ root .0 → Inputs n (walked (now rs) n)) ⌝ }
+    requires room { ⌜ 128 ≤ length (now nodes) ⌝ }
+    ensures counted { λ r. ⌜ r ≡ min (length (minterms (walked (now (rs .entry))) (root .0))) 129 ⌝ }
+    ensures all { λ r. ⌜ (length (minterms (walked (now (rs .entry))) (root .0)) ≤ 128
+        → firstOf (now (nodes .exit)) r ≡ minterms (walked (now (rs .entry))) (root .0)) ⌝ }
+{
+    let mut it = MintermIter::new(root, rs);
+    let mut len: usize = 0;
+    let mut more = true;
+    while more {
+        let item = it.next();
+        let found = take(nodes, len, item);
+        len = found.len;
+        more = found.more;
+    }
+    len
 }

@@ -167,7 +167,7 @@ sides-low n x y (ListLiteral k l) i e = absurd (Option·none-ne-some _ e)
 sides-low n x y (IsIn k a l) i e = absurd (Option·none-ne-some _ e)
 sides-low n x y Missing i e = absurd (Option·none-ne-some _ e)
 
--- ---- One turn of `next_minterm`: an And at the top.
+-- ---- One turn of the walk: an And at the top.
 module _ (rs : List ℕ) (top x y : ℕ) (st : List ℕ) (left : ℕ)
     (below : InputsBelow (walked rs) (top ∷ stackOf st left))
     (both : some (x, y) ≡ recordSides (recordAt rs (node top))) where
@@ -220,69 +220,3 @@ top-pending R st depth live = ap (pending R) (sym (stack-top st depth live))
 pub top-below : (R : ℕ → AExpr ℕ) (st : List ℕ) (depth : ℕ) → 0 < depth → InputsBelow R (stackOf st depth)
     → InputsBelow R (getD st (depth - 1) 0 ∷ stackOf st (depth - 1))
 top-below R st depth live b = subst (InputsBelow R) (stack-top st depth live) b
-
-pub depth-low : (R : ℕ → AExpr ℕ) (st : List ℕ) (depth room : ℕ) → length (pending R (stackOf st depth)) ≤ room
-    → depth ≤ room
-depth-low R st depth room few =
-    let c = pending-long R (stackOf st depth) in
-    let d = stack-length st depth in
-    omega (arith, c, d, few)
-
--- ---- `minterms`: those found, and what the top and the stack still give, are the root's.
-pub walk-begin : (R : ℕ → AExpr ℕ) (st nd : List ℕ) (root : ℕ)
-    → (firstOf nd 0 ++ pending R (root ∷ stackOf st 0)) ≡ minterms R root
-unfolding firstOf stackOf
-walk-begin R st nd root = append-nil (minterms R root)
-
-pub below-begin : (R : ℕ → AExpr ℕ) (st : List ℕ) (root : ℕ) → ((n : ℕ) → n ≤ root → Inputs n (R n))
-    → InputsBelow R (root ∷ stackOf st 0)
-unfolding stackOf
-below-begin R st root h = (h, tt)
-
--- Those found, and one at least of each node still to visit, are no more than the root's.
-walk-many : (R : ℕ → AExpr ℕ) (l nd s : List ℕ) (len : ℕ) → (firstOf nd len ++ pending R s) ≡ l
-    → len + length s ≤ length l
-walk-many R l nd s len e =
-    let a = length-append (firstOf nd len) (pending R s) in
-    let b : length (firstOf nd len ++ pending R s) ≡ length l = ap length e in
-    let f = first-length nd len in
-    let g = pending-long R s in
-    omega (arith, a, b, f, g)
-
-module _ (rs st nd l : List ℕ) (depth len top : ℕ) (below : InputsBelow (walked rs) (top ∷ stackOf st depth))
-    (found : (firstOf nd len ++ pending (walked rs) (top ∷ stackOf st depth)) ≡ l) where
-  -- a conjunct at the top
-  module _ (room : len < length nd) (one : none ≡ recordSides (recordAt rs (node top))) where
-    walk-one : (firstOf (set nd len top) (len + 1) ++ pending (walked rs) (stackOf st depth)) ≡ l
-    walk-one =
-        rw (first-more nd len top room)
-        (append-assoc (firstOf nd len) (top ∷ []) (pending (walked rs) (stackOf st depth))
-        ∙ ap (λ m. firstOf nd len ++ m) (sym (turn-one rs top (stackOf st depth) below one)) ∙ found)
-
-    pub walk-on : 0 < depth
-        → (firstOf (set nd len top) (len + 1)
-        ++ pending (walked rs) (getD st (depth - 1) 0 ∷ stackOf st (depth - 1))) ≡ l
-    walk-on live =
-        ap (λ m. firstOf (set nd len top) (len + 1) ++ m) (top-pending (walked rs) st depth live) ∙ walk-one
-
-    pub walk-end : depth ≡ 0 → firstOf (set nd len top) (len + 1) ≡ l
-    unfolding stackOf
-    walk-end z =
-        sym (append-nil (firstOf (set nd len top) (len + 1)))
-        ∙ ap (λ d. firstOf (set nd len top) (len + 1) ++ pending (walked rs) (stackOf st d)) (sym z) ∙ walk-one
-
-    pub walk-count : depth ≡ 0 → length l ≡ len + 1
-    walk-count z = sym (ap length (walk-end z)) ∙ first-length (set nd len top) (len + 1)
-
-  -- an And at the top
-  module _ (x y : ℕ) (both : some (x, y) ≡ recordSides (recordAt rs (node top))) where
-    pub walk-down : depth < length st
-        → (firstOf nd len ++ pending (walked rs) (x ∷ stackOf (set st depth y) (depth + 1))) ≡ l
-    walk-down room = ap (λ m. firstOf nd len ++ m) (turn-pending rs top x y st depth below both room) ∙ found
-
-    pub walk-over : 127 ≤ depth + len → 129 ≤ length l
-    walk-over full =
-        let e = ap (λ m. firstOf nd len ++ m) (sym (turn-two rs top x y st depth below both)) ∙ found in
-        let a = walk-many (walked rs) l nd (x ∷ (y ∷ stackOf st depth)) len e in
-        let b = stack-length st depth in
-        omega (arith, a, b, full)

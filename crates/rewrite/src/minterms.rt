@@ -1,13 +1,11 @@
-// `MintermIter`: the conjuncts of a record, left to right through And and LogicalAnd.
+// What the walk over the conjuncts, `MintermIter`, asks of a record: whether it is an And or LogicalAnd, and of what.
 ghost use mathlib.Core.Path.{_≡_};
-ghost use mathlib.Core.List.{[], _∷_};
-ghost use Prim.Native.Nat.{ℕ, _+_, _*_, _≤_, _<_, min};
+ghost use Prim.Native.Nat.{_+_, _*_, _<_};
 ghost use lib.ListN.{length};
 ghost use Rattle.records.specs.Record.{recordAt};
-ghost use Rattle.truth.specs.AExpr.{Inputs};
 ghost use Rattle.truth.specs.FromBytes.{binaryExpr};
-ghost use Rattle.merge.specs.Minterms.{andSides, minterms, pending};
-ghost use Rattle.rewrite.specs.Walk.{sidesIn, recordSides, walked, firstOf, stackOf, InputsBelow};
+ghost use Rattle.merge.specs.Minterms.{andSides};
+ghost use Rattle.rewrite.specs.Walk.{sidesIn, recordSides};
 use records::bytes::word_in;
 use records::operator::Operator;
 use records::record::Node;
@@ -18,12 +16,6 @@ use records::record::record_at;
 pub enum Sides {
     One,
     Both(Node, Node),
-}
-
-/// A conjunct, and how many nodes of the stack are left.
-pub struct Minterm {
-    pub node: Node,
-    pub depth: usize,
 }
 
 fn binary_sides(o: Operator, x: Node, y: Node) -> Sides
@@ -88,81 +80,12 @@ fn sides_in(rs: &[u8], n: Node) -> Sides
     Sides::One
 }
 
-fn sides_at(rs: &[u8], n: Node) -> Sides
+/// The two sides of a record that is an And or LogicalAnd.
+pub fn sides_at(rs: &[u8], n: Node) -> Sides
     ensures { λ s. ⌜ sidesIn s ≡ recordSides (recordAt (now (rs .entry)) n) ⌝ }
 {
     if 16 * (n.0 as usize) + 15 < rs.len() {
         return sides_in(rs, n);
     }
     record_sides(record_at(rs, n))
-}
-
-/// `MintermIter`'s `next` on the stack of the nodes still to visit, the next one on top: down the left sides of Ands to
-/// the first conjunct. What is left of the stack gives the rest.
-pub fn next_minterm(rs: &[u8], stack: &mut [u32], depth: usize) -> Minterm
-    requires live { ⌜ 0 < depth ⌝ }
-    requires below { ⌜ InputsBelow (walked (now rs)) (stackOf (now stack) depth) ⌝ }
-    requires room { ⌜ length (pending (walked (now rs)) (stackOf (now stack) depth)) ≤ length (now stack) ⌝ }
-    ensures next { λ r. ⌜ pending (walked (now (rs .entry))) (stackOf (now (stack .entry)) depth)
-        ≡ (r .node .0 ∷ pending (walked (now (rs .entry))) (stackOf (now (stack .exit)) (r .depth))) ⌝ }
-    ensures below { λ r. ⌜ InputsBelow (walked (now (rs .entry))) (stackOf (now (stack .exit)) (r .depth)) ⌝ }
-{
-    let mut left = depth - 1;
-    let mut top = stack[left];
-    loop {
-        let s = sides_at(rs, Node(top));
-        match s {
-            Sides::One => {
-                return Minterm {
-                    node: Node(top),
-                    depth: left,
-                };
-            }
-            Sides::Both(x, y) => {
-                stack[left] = y.0;
-                left += 1;
-                top = x.0;
-                continue;
-            }
-        }
-    }
-}
-
-/// The conjuncts of the root, into `nodes`; how many they are, 129 if more than 128. Each node on the stack gives at
-/// least one conjunct, so the walk ends after at most 255 steps, however records are shared.
-pub fn minterms(rs: &[u8], root: Node, nodes: &mut [u32]) -> usize
-    requires below { ⌜ ((n : ℕ) → n ≤ root .0 → Inputs n (walked (now rs) n)) ⌝ }
-    requires room { ⌜ 128 ≤ length (now nodes) ⌝ }
-    ensures counted { λ r. ⌜ r ≡ min (length (minterms (walked (now (rs .entry))) (root .0))) 129 ⌝ }
-    ensures all { λ r. ⌜ (length (minterms (walked (now (rs .entry))) (root .0)) ≤ 128
-        → firstOf (now (nodes .exit)) r ≡ minterms (walked (now (rs .entry))) (root .0)) ⌝ }
-{
-    let mut stack = [0u32; 128];
-    let mut depth: usize = 0;
-    let mut len: usize = 0;
-    let mut top = root.0;
-    loop {
-        let s = sides_at(rs, Node(top));
-        match s {
-            Sides::One => {
-                nodes[len] = top;
-                len += 1;
-                if depth == 0 {
-                    return len;
-                }
-                depth -= 1;
-                top = stack[depth];
-                continue;
-            }
-            Sides::Both(x, y) => {
-                if 127 <= depth + len {
-                    return 129;
-                }
-                stack[depth] = y.0;
-                depth += 1;
-                top = x.0;
-                continue;
-            }
-        }
-    }
 }

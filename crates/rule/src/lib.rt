@@ -12,9 +12,9 @@ use checking::check::CheckAnswer;
 use checking::check::check_counted;
 use filter_constraint::merging::merge_filter_constraints;
 use merge::answer::RewriteAnswer;
+use minterm_iter::minterms;
 use records::record::Node;
 use rewrite::literals::read_literals;
-use rewrite::minterms::minterms;
 
 // The merging of the first n nodes, the conjuncts of an accepted screen. Most screens have few: then the tables and rows for
 // 128 need not be cleared.

@@ -1,4 +1,5 @@
 use mathlib.Core.Path.{refl}
+use native.Mathlib.Omega.{arith}
 use Rattle.rewrite.specs.Walk.{stackOf}
 use borrow.Author.Needs.{needs}
 use Rattle.minterm_iter.proofs.rooted.Statement.{statement}
@@ -13,7 +14,7 @@ array-write-nodes c = search needs
 -- src/lib.rt:28:1
 returns : tie.Need-returns
 unfolding stackOf
-returns c = refl
+returns c = (refl, omega arith)
 
 pub rooted-spec : {M : Type 1} → statement M
 rooted-spec = tie.close (tie.spec array-write-nodes returns)

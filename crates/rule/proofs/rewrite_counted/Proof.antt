@@ -3,7 +3,7 @@ use Rattle.rule.proofs.rewrite_counted.Statement.{statement}
 use Rattle.rule.proofs.rewrite_counted.Tie as tie
 use Rattle.rule.proofs.rewrite_counted.Reads as reads
 use Rattle.rule.proofs.rewrite_counted.Lts as lts
-use Rattle.rewrite.proofs.minterms.minterms.Reads as minterms-reads
+use Rattle.minterm_iter.proofs.minterms.Reads as minterms-reads
 use Rattle.rule.proofs.merge_few.Reads as merge-few-reads
 use Rattle.rule.proofs.merge_many.Reads as merge-many-reads
 use mathlib.Core.Path.{_≡_, sym}

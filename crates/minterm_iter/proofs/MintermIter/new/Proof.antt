@@ -4,7 +4,7 @@
 -- the callee.
 -- Assumes nothing.
 use mathlib.Core.Path.{_≡_, refl}
-use Prim.Native.Nat.{ℕ}
+use Prim.Native.Nat.{ℕ, _≤_}
 use mathlib.Core.Bool.{true}
 use mathlib.Core.List.{List, [], _∷_}
 use lib.Dec.{T as Holds}
@@ -95,6 +95,10 @@ module _ {M : Type 1} (𝓤 : URA M) (H : Heap 𝓤) (A : Atoms 𝓤) (W : Given
   abbrev mach : Val → Val
   mach u = vstruct (vcons v (vcons u vnil))
 
+  -- what `rooted` says of the stack
+  abbrev Start : Stack → Type 0
+  Start t = (stackIn t ≡ (root .0 ∷ [])) × (t .len ≤ 128)
+
   abbrev at : List Val × (List Val × Unit {0})
   at = (nv ∷ [], (v ∷ [], tt))
 
@@ -131,9 +135,9 @@ module _ {M : Type 1} (𝓤 : URA M) (H : Heap 𝓤) (A : Atoms 𝓤) (W : Given
 
   -- of the callee's `ensured`, the clause alone
   said : (t : Stack) → ent 𝓤 (ensured 𝓤 H A rooted.ended (rooted.clauses 𝓤 H A mem run) tt (root, tt) tt t)
-      (fact 𝓤 (stackIn t ≡ (root .0 ∷ [])))
+      (fact 𝓤 (Start t))
   said t = exE 𝓤 _ (λ ws. snd∗ 𝓤 (sem 𝓤 H A (lasts rooted.ended tt (root, tt) ws))
-      (fact 𝓤 (stackIn t ≡ (root .0 ∷ []))))
+      (fact 𝓤 (Start t)))
 
   -- what the fields own at their machine values is what the struct owns at the struct of those
   shut : (t : Stack) (u : Val) → ent 𝓤 (sem 𝓤 H A (owns (rows (T.the-type α .parts))
@@ -146,12 +150,12 @@ module _ {M : Type 1} (𝓤 : URA M) (H : Heap 𝓤) (A : Atoms 𝓤) (W : Given
       fpack ! (Valss (rows (T.the-type α .parts))) (within (shape (T.the-type α))
       (intos (T.the-type α .parts) (s, (t, tt))) (mach u ∷ [])) (v ∷ [], (u ∷ [], tt)) $ done !
 
-  exits : (t : Stack) (u : Val) → stackIn t ≡ (root .0 ∷ []) → ent 𝓤 (⋆ 𝓤 H A
+  exits : (t : Stack) (u : Val) → Start t → ent 𝓤 (⋆ 𝓤 H A
       (‵ (K.the-row .own t (u ∷ [])) ∷ ‵ OwnNode ∷ ‵ Own ∷ (‵ (flft κ q) ⊛ ‵ ftrue) ∷ [])) (Post (mach u))
   exits t u e =
       qed W (‵ (K.the-row .own t (u ∷ [])) ∷ ‵ OwnNode ∷ ‵ Own ∷ (‵ (flft κ q) ⊛ ‵ ftrue) ∷ []) ∵
       suffices ! _ (ends-at 𝓤 H A new.ended stayed (new.clauses 𝓤 H A mem run) W entry (mach u) (made t) (tt, (tt, tt))
-      (tt, (tt, tt))) $ says ! (refl, e) $
+      (tt, (tt, tt))) $ says ! (refl, e .0, e .1) $
       move ! (3 ∷ []) $ frame ! $ move ! (2 ∷ []) $ use1 W (‵ Own ⊛ ‵ Own)
       (shr-slice-copy 𝓤 H A W (named 0) κ u8 .twice s (v ∷ [])) $ split ! $
       -- [what records owns, twice; the stack's; root's]
@@ -176,8 +180,8 @@ module _ {M : Type 1} (𝓤 : URA M) (H : Heap 𝓤) (A : Atoms 𝓤) (W : Given
         use1 W (later (some (λ (t : Stack). (‵ ftrue ⊛ ‵ (K.the-row .own t (u ∷ []))) ⊛ raw
         (ensured 𝓤 H A rooted.ended (rooted.clauses 𝓤 H A mem run) tt (root, tt) tt t)))) (id⊢ 𝓤 _) $ await ! tt $
         pick ! (λ t.
-        split ! $ move ! (1 ∷ []) $ use1 W (raw (fact 𝓤 (stackIn t ≡ (root .0 ∷ [])))) (said t) $
-        heard ! (stackIn t ≡ (root .0 ∷ [])) (λ e. split ! $ drop ! $
+        split ! $ move ! (1 ∷ []) $ use1 W (raw (fact 𝓤 (Start t))) (said t) $
+        heard ! (Start t) (λ e. split ! $ drop ! $
         move ! (1 ∷ []) $ split ! $ move ! (1 ∷ []) $ split ! $ move ! (3 ∷ 2 ∷ 0 ∷ 1 ∷ []) $
         -- [the stack; what root owns; what records owns; the token; room for _3; …; _2; …; _1; …; room for _0; …]
         peeks ! K.the-row (Is K.the-row) (shows 𝓤 H A K.the-row) t (u ∷ []) (λ is.
