@@ -1,9 +1,9 @@
 /*
- * screen.h: the lines of an option screen, checked, merged, and run on the rows of a chain.
+ * screen.h: the lines of an option screen, checked, merged, run on the rows of a chain, saved and loaded.
  *
  * A screen is a tree of lines ("c0 > 5", "c1 is null", "c2 in [1, 2]") that a row of an option chain passes or not.
  * The caller lends it as plain bytes; nothing is allocated and nothing is kept after a call. Calls may run at the same
- * time on different threads if no buffer that one writes is lent to another. The four calls are proved to give the
+ * time on different threads if no buffer that one writes is lent to another. The calls are proved to give the
  * answer stated here on every input, damaged bytes and any 64-bit numbers too, and to read nothing outside what was
  * lent.
  *
@@ -76,9 +76,9 @@
 #include <stdint.h>
 
 /* Of this interface: the major number rises if a host must be changed to compile, the minor one if something is new. */
-#define SCREEN_VERSION_MAJOR 1
+#define SCREEN_VERSION_MAJOR 2
 #define SCREEN_VERSION_MINOR 0
-#define SCREEN_VERSION "1.0"
+#define SCREEN_VERSION "2.0"
 
 /* A host that leaves an answer unread is warned, by compilers that can. */
 #if defined(__GNUC__)
@@ -99,7 +99,9 @@ enum screen_limit {
     SCREEN_MAX_TREE = 4096,     /* records of a root's tree, a shared one counted each time it is reached */
     SCREEN_MAX_CONJUNCTS = 128, /* conjuncts of a root, a shared one counted each time it is reached */
     SCREEN_RECORD_BYTES = 16,
-    SCREEN_VALUE_BYTES = 8
+    SCREEN_VALUE_BYTES = 8,
+    SCREEN_BLOCK_BYTES = 512,       /* a saved screen is whole blocks */
+    SCREEN_MAX_FILE_BYTES = 137216  /* 268 blocks: 64 columns, 4,096 records and 8,192 values */
 };
 
 /* Types of columns, literals, nulls and lists. */
@@ -151,7 +153,8 @@ enum screen_closed {
 /*
  * Why a call refused. The numbers are looked for in this order and the first that applies is given: 1, 2, 3; then the
  * used records from record 0 up, reached by the root or not, and for each of them 4, 5, 6, 7; then 7 for the root.
- * After these come the numbers of the single calls, in rising order.
+ * After these come the numbers of the single calls, in rising order. Loading alone looks first at the file: 15, then
+ * 14, then 1 to 7 of the screen that it holds.
  */
 enum screen_refusal {
     /* Over 64 columns, or a byte of the table that is no type. */
@@ -193,7 +196,14 @@ enum screen_refusal {
      * A null mark at or above the number of columns, a value outside its column's type, or a column marked null whose
      * eight bytes are not zero. Every column counts, read by the root or not.
      */
-    SCREEN_REFUSED_ROW = 13
+    SCREEN_REFUSED_ROW = 13,
+    /* A lent buffer is too short: saving's file, or one of loading's table, records and pool. */
+    SCREEN_REFUSED_SHORT = 14,
+    /*
+     * Not a saved screen: a wrong checksum, block order, kind or count, an unused byte that is not zero, a used count
+     * that is not the number of records held, a missing end or a trailing byte.
+     */
+    SCREEN_REFUSED_FILE = 15
 };
 
 /* Is the answer of a call a refusal? */
@@ -235,6 +245,10 @@ static inline const char *screen_refusal_text(uint32_t answer)
     case SCREEN_REFUSED_ROW:
         return "The row has a null mark beyond its columns, a value outside its column's type, or a null whose value "
                "is not zero.";
+    case SCREEN_REFUSED_SHORT:
+        return "A lent buffer is too short for the file, or for what the file holds.";
+    case SCREEN_REFUSED_FILE:
+        return "This is not a saved screen, or it was damaged.";
     default:
         return screen_refused(answer) ? "No refusal has this number." : "Not refused.";
     }
@@ -366,6 +380,76 @@ SCREEN_MUST_USE
 uint32_t screen_columns_read(const uint8_t *table, size_t table_len, const uint8_t *records, size_t records_len,
                              const uint8_t *pool, size_t pool_len, uint64_t used, uint64_t root,
                              uint64_t *columns, uint64_t *count);
+
+/* -------------------------------------------------------------------------------------- saving and loading a screen */
+
+/*
+ * A saved screen is blocks of 512 bytes:
+ *
+ *   bytes 0-1   the Internet checksum (RFC 1071) of the block with these two bytes zero, the high byte first
+ *   bytes 2-3   the block's number, from 0, little-endian
+ *   byte 4      the kind: 1 the column table, 2 records, 3 the pool, 4 the end
+ *   byte 5      how many columns, records or values the block holds; 1 in the end
+ *   bytes 6-15  zero
+ *   then        496 bytes of content, those that are not used zero: columns of 1 byte, records of 16, values of 8; in
+ *               the end used and root, 4 bytes each, little-endian
+ *
+ * There is one block of kind 1, even of no column, then as many of kinds 2 and 3 as are needed, each full before the
+ * next begins and none empty, and one of kind 4. A screen has exactly one file: what loads is, byte for byte, what
+ * saving the loaded screen writes.
+ */
+
+/* The answer of screen_save. */
+enum screen_save_answer {
+    SCREEN_SAVED = 256 /* the file is written, *length is its length */
+};
+
+/*
+ * Writes the file of a screen. Answers SCREEN_SAVED, or a refusal: 1 to 7, then 14.
+ *
+ *   table .. root   as in screen_check; the used records are saved, not those behind them, and the whole pool
+ *   file, file_len  where the file goes; SCREEN_MAX_FILE_BYTES are enough for every screen
+ *   length          not NULL. Written with SCREEN_SAVED: the file's length in bytes. Keeps its value with a refusal
+ *
+ * With SCREEN_SAVED the first *length bytes of file are written, and those behind them keep their values. With a
+ * refusal no byte is written. Loading those *length bytes gives the same table, used records, pool, used and root.
+ */
+SCREEN_MUST_USE
+uint32_t screen_save(const uint8_t *table, size_t table_len, const uint8_t *records, size_t records_len,
+                     const uint8_t *pool, size_t pool_len, uint64_t used, uint64_t root,
+                     uint8_t *file, size_t file_len, uint64_t *length);
+
+/* The answer of screen_load. */
+enum screen_load_answer {
+    SCREEN_LOADED = 256 /* the screen and the four numbers are written */
+};
+
+/*
+ * Reads a screen from its file. Answers SCREEN_LOADED, or a refusal: 15, then 14, then 1 to 7 of the screen that the
+ * file holds. Nothing is written before all of them are passed.
+ *
+ *   file, file_len        the whole file and nothing behind it
+ *   table, table_len      room for the table: 64 bytes are enough for every screen
+ *   records, records_len  room for the records: 16 bytes each, 4,096 are enough
+ *   pool, pool_len        room for the pool: 8 bytes a value, 8,192 are enough
+ *   root, columns, used, values
+ *                         not NULL, and four different numbers. Written with SCREEN_LOADED: the root, and how many
+ *                         columns, records and values were read. They keep their values with a refusal
+ *
+ * With SCREEN_LOADED the first *columns bytes of table, 16 * *used of records and 8 * *values of pool are written; the
+ * bytes behind them keep their values. The screen is lent to the other calls with these three lengths, *used and *root;
+ * screen_check accepts it. With a refusal no byte is written.
+ *
+ * Since 14 comes before 1 to 7, a file of more than 64 columns, 4,096 records or 8,192 values is answered 14 by a host
+ * that lends the room above, and 1 or 2 by one that lends more. A file with room for all is never answered 14.
+ *
+ * The records and the pool lie in pieces in the file, so they are copied for the checks: the call needs some 146 KB of
+ * stack, whatever the screen; saving needs some 16 KB.
+ */
+SCREEN_MUST_USE
+uint32_t screen_load(const uint8_t *file, size_t file_len, uint8_t *table, size_t table_len, uint8_t *records,
+                     size_t records_len, uint8_t *pool, size_t pool_len, uint64_t *root, uint64_t *columns,
+                     uint64_t *used, uint64_t *values);
 
 #ifdef __cplusplus
 }

@@ -358,6 +358,34 @@ static inline uint32_t screen_lent_columns_read(const struct screen_lent *s, uin
                                s->root, columns, count);
 }
 
+/* As screen_save: the used records are saved, and the whole pool. */
+SCREEN_MUST_USE
+static inline uint32_t screen_lent_save(const struct screen_lent *s, uint8_t *file, size_t file_len, uint64_t *length)
+{
+    return screen_save(s->table, s->table_len, s->records, s->records_len, s->pool, s->pool_len, s->used, s->root, file,
+                       file_len, length);
+}
+
+/*
+ * As screen_load, into the rooms of *s, which becomes the screen loaded: its lengths, used and root are set, and all of
+ * its records are lent. With a refusal *s keeps its values.
+ */
+SCREEN_MUST_USE
+static inline uint32_t screen_lent_load(struct screen_lent *s, const uint8_t *file, size_t file_len)
+{
+    uint64_t root = 0, columns = 0, used = 0, values = 0;
+    uint32_t answer = screen_load(file, file_len, s->table, s->table_room, s->records, s->records_room, s->pool,
+                                  s->pool_room, &root, &columns, &used, &values);
+    if (screen_refused(answer))
+        return answer;
+    s->table_len = columns;
+    s->records_len = s->records_room;
+    s->pool_len = SCREEN_VALUE_BYTES * values;
+    s->used = used;
+    s->root = root;
+    return answer;
+}
+
 /* ------------------------------------------------------------------------------------------------------ copying out */
 
 /* The record with its inputs renumbered. */

@@ -11,6 +11,15 @@ import tempfile
 REPO = os.path.dirname(os.path.dirname(os.path.abspath(__file__)))
 ARCHIVE = os.path.join(REPO, "target", "staticlib", "libscreen.a")
 MARKS = (0x0123456789ABCDEF, 0xFEDCBA9876543210)  # out-parameters before a call
+FOUR_MARKS = MARKS + (0x5555AAAA5555AAAA, 0x00FF00FF00FF00FF)
+
+
+FILLER = bytes((7 * i + 3) % 251 for i in range(1 << 16))
+
+
+def filler(start, length):
+    """Bytes that stand in a buffer before a call; another start, other bytes."""
+    return (FILLER * (length // len(FILLER) + 2))[start:start + length]
 
 
 class Changed(Exception):
@@ -63,6 +72,31 @@ class Archive:
         out = [ctypes.c_uint64(mark) for mark in MARKS]
         answer, records = self._call("screen_rewrite", s, *map(ctypes.byref, out), writes_records=True)
         return answer, out[0].value, out[1].value, records
+
+    def save(self, s, room):
+        """The answer, the length, which stands at a mark before the call, and the lent file after and before it."""
+        old = filler(3, room)
+        file = (ctypes.c_uint8 * room).from_buffer_copy(old) if room else None
+        size = ctypes.c_uint64(MARKS[0])
+        answer, _ = self._call("screen_save", s, file, ctypes.c_size_t(room), ctypes.byref(size))
+        return answer, size.value, bytes(file or b""), old
+
+    def load(self, data, *rooms):
+        """The answer, the four out-parameters, which stand at FOUR_MARKS before the call, and the lent table, records
+        and pool of `rooms` bytes, after and before it."""
+        lent = (ctypes.c_uint8 * len(data)).from_buffer_copy(data) if data else None
+        old = [filler(n, room) for n, room in enumerate(rooms)]
+        buffers = [(ctypes.c_uint8 * len(b)).from_buffer_copy(b) if b else None for b in old]
+        out = [ctypes.c_uint64(mark) for mark in FOUR_MARKS]
+        slices = [lent, ctypes.c_size_t(len(data))]
+        for buffer, b in zip(buffers, old):
+            slices += [buffer, ctypes.c_size_t(len(b))]
+        function = self.lib.screen_load
+        function.restype = ctypes.c_uint32
+        answer = function(*slices, *map(ctypes.byref, out))
+        if bytes(lent or b"") != data:
+            raise Changed("screen_load")
+        return answer, tuple(number.value for number in out), [bytes(b or b"") for b in buffers], old
 
 
 def row_test(path):

@@ -1,4 +1,4 @@
-"""Option screens from Python: put together, checked, merged and run on rows by the proved library libscreen.so.
+"""Option screens from Python: put together, checked, merged, run on rows and saved by the proved library libscreen.so.
 
     import datetime, screen
     s = screen.Screen(strike="Int", expiry="Day", halted="Truth")
@@ -15,7 +15,7 @@ import ctypes
 import datetime
 import os
 
-VERSION = (1, 0)  # of include/screen.h
+VERSION = (2, 0)  # of include/screen.h
 
 INT, DAY, TRUTH = 1, 2, 3
 TYPES = {"Int": INT, "Day": DAY, "Truth": TRUTH}
@@ -24,7 +24,7 @@ TYPES = {"Int": INT, "Day": DAY, "Truth": TRUTH}
 AND, OR, XOR = 15, 16, 17
 CLOSED = {"both": 0, "left": 1, "right": 2, "none": 3}
 INPUTS = {BINARY: 2, NOT: 1, IS_NULL: 1, IS_NOT_NULL: 1, IS_BETWEEN: 3, IS_IN: 2}
-MAX_RECORDS, MAX_POOL_VALUES, RECORD_BYTES, VALUE_BYTES = 4096, 8192, 16, 8
+MAX_RECORDS, MAX_POOL_VALUES, RECORD_BYTES, VALUE_BYTES, MAX_FILE_BYTES = 4096, 8192, 16, 8, 137216
 
 REFUSALS = {
     1: "The table has more than 64 columns, or a column of an unknown type.",
@@ -43,6 +43,8 @@ REFUSALS = {
     12: "The row does not have exactly eight bytes for each column.",
     13: "The row has a null mark beyond its columns, a value outside its column's type, or a null whose value is not "
         "zero.",
+    14: "A lent buffer is too short for the file, or for what the file holds.",
+    15: "This is not a saved screen, or it was damaged.",
 }
 
 
@@ -179,7 +181,8 @@ class Part:
 class Screen:
     """A screen over columns given by name and type: Screen(strike="Int", expiry="Day", halted="Truth").
 
-    Lines are added with add(); the calls of the library are check, rewrite, test_row and columns_read.
+    Lines are added with add(); the calls of the library are check, rewrite, test_row, columns_read, save and
+    load.
     """
 
     def __init__(self, **columns):
@@ -245,7 +248,7 @@ class Screen:
                 self.root = line.record
             self._begun = True
 
-    # ------------------------------------------------------------------------------------------------- the four calls
+    # ------------------------------------------------------------------------------------------------------ the calls
 
     def _lent(self):
         """The parameters that every call takes first."""
@@ -290,6 +293,38 @@ class Screen:
         columns, count = ctypes.c_uint64(), ctypes.c_uint64()
         _call("screen_columns_read", *self._lent(), ctypes.byref(columns), ctypes.byref(count))
         return [name for number, name in enumerate(self.names) if columns.value >> number & 1]
+
+    def save(self):
+        """screen_save: the screen's file as bytes, with all its records, reached or not. Refused with 1 to 7.
+
+        A file has no names of columns; whoever loads it gives them again.
+        """
+        file, length = ctypes.create_string_buffer(MAX_FILE_BYTES), ctypes.c_uint64()
+        _call("screen_save", *self._lent(), *_slice(file, len(file)), ctypes.byref(length))
+        return file.raw[:length.value]
+
+    @classmethod
+    def load(cls, file, names=None):
+        """screen_load: the screen that a file holds, its columns named by `names`, or else c0, c1, ..
+
+        Refused with 15 if the file is no saved screen or was damaged; then with 1 to 7 of what it holds. The lent
+        buffers are as long as the file, which is longer than what it holds, so 14 is never given.
+        """
+        file = bytes(file)
+        lent = [ctypes.create_string_buffer(len(file)) for _ in range(3)]  # table, records, pool
+        root, columns, used, values = numbers = [ctypes.c_uint64() for _ in range(4)]
+        _call("screen_load", *_slice(file, len(file)), *(part for buffer in lent for part in _slice(buffer, len(file))),
+              *map(ctypes.byref, numbers))
+        names = [f"c{i}" for i in range(columns.value)] if names is None else list(names)
+        if len(names) != columns.value or len(set(names)) != len(names):
+            raise ValueError(f"the file has {columns.value} columns, and each needs a name of its own")
+        loaded = cls()
+        loaded.names, loaded.kinds = names, list(lent[0].raw[:columns.value])
+        loaded.used, loaded.values, loaded.root = used.value, values.value, root.value
+        loaded.records[:RECORD_BYTES * loaded.used] = lent[1].raw[:RECORD_BYTES * loaded.used]
+        loaded.pool[:VALUE_BYTES * loaded.values] = lent[2].raw[:VALUE_BYTES * loaded.values]
+        loaded._begun = True
+        return loaded
 
     # -------------------------------------------------------------------------------------------------- copying it out
 

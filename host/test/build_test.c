@@ -1,6 +1,6 @@
 /*
- * screen_build.h: the bytes of each record, days, full buffers, the wrappers beside the calls, and that a copy of what
- * the root reaches gets the same answers from all calls.
+ * screen_build.h: the bytes of each record, days, full buffers, the wrappers beside the calls, screens saved and
+ * loaded, and that a copy of what the root reaches gets the same answers from all calls.
  */
 #include "lend.h"
 
@@ -250,6 +250,81 @@ static void wrappers_agree(void)
     report(memcmp(&bytes, &sent_store, sizeof bytes) == 0, "the wrappers", "other bytes");
 }
 
+/* ------------------------------------------------------------------------------------------------ saved and loaded */
+
+static uint8_t saved[2][SCREEN_MAX_FILE_BYTES];
+
+/* screen_lent_load of the file into rooms of exactly these lengths, beside screen_load; what is refused keeps *s. */
+static void load_agrees(size_t length, const size_t *rooms)
+{
+    static struct store wrapped, plain;
+    struct screen_lent s, before;
+    uint64_t n[4] = {0, 0, 0, 0};
+    begin_in(&s, &wrapped);
+    begin_in(&before, &plain);
+    s.table_room = rooms[0];
+    s.records_room = rooms[1];
+    s.pool_room = rooms[2];
+    s.used = s.root = 77;
+    before = s;
+    uint32_t answer = screen_load(saved[0], length, plain.table, rooms[0], plain.records, rooms[1], plain.pool,
+                                  rooms[2], &n[0], &n[1], &n[2], &n[3]);
+    report(screen_lent_load(&s, saved[0], length) == answer, "screen_lent_load", "another answer");
+    report(memcmp(&wrapped, &plain, sizeof plain) == 0, "screen_lent_load", "other bytes");
+    if (answer == SCREEN_LOADED) {
+        before.root = n[0];
+        before.table_len = n[1];
+        before.used = n[2];
+        before.pool_len = 8 * n[3];
+        before.records_len = rooms[1];
+    }
+    report(memcmp(&s, &before, sizeof s) == 0, "screen_lent_load", "another screen");
+}
+
+/* Saving by the wrapper and by the call, then loading with enough room and, of each buffer, with a byte too little. */
+static unsigned files_agree(void)
+{
+    uint64_t length[2] = {5, 5};
+    size_t exact[3] = {sent.table_len, 16 * (size_t)sent.used, sent.pool_len};
+    size_t room = choice(4) == 0 ? 512 * (size_t)choice(6) : sizeof saved[0];
+    memset(saved, 0, sizeof saved);
+    uint32_t answer = screen_save(sent.table, sent.table_len, sent.records, sent.records_len, sent.pool, sent.pool_len,
+                                  sent.used, sent.root, saved[0], room, &length[0]);
+    report(screen_lent_save(&sent, saved[1], room, &length[1]) == answer && length[0] == length[1] &&
+               memcmp(saved[0], saved[1], sizeof saved[0]) == 0, "screen_lent_save", "another answer or file");
+    if (answer != SCREEN_SAVED)
+        return 0;
+    load_agrees((size_t)length[0], exact);
+    for (unsigned i = 0; i < 3; i++)
+        if (exact[i] > 0) {
+            exact[i]--;
+            load_agrees((size_t)length[0], exact);
+            exact[i]++;
+        }
+    saved[0][choice((uint32_t)length[0])] ^= 4;
+    load_agrees((size_t)length[0], exact);
+    return 1;
+}
+
+/* A file loaded is the screen that was saved, and has room to be rewritten. */
+static void test_loaded(void)
+{
+    static struct store other;
+    struct screen_lent loaded;
+    uint64_t length = 0;
+    begin_mixed();
+    screen_put_and(&sent, line(SCREEN_OP_GT, 0, INT, 3), line(SCREEN_OP_GT, 0, INT, 5));
+    report(screen_lent_save(&sent, saved[0], sizeof saved[0], &length) == SCREEN_SAVED && length == 3 * 512,
+           "two lines saved", "another answer or length");
+    begin_in(&loaded, &other);
+    report(screen_lent_load(&loaded, saved[0], (size_t)length) == SCREEN_LOADED && loaded.used == sent.used &&
+               loaded.root == sent.root && loaded.table_len == 4 && loaded.pool_len == 0 &&
+               loaded.records_len == loaded.records_room &&
+               memcmp(other.records, sent.records, 16 * (size_t)sent.used) == 0, "two lines loaded", "another screen");
+    report(screen_lent_rewrite(&loaded) == SCREEN_REWRITTEN, "two lines loaded", "not rewritten");
+    report(screen_lent_load(&loaded, saved[0], (size_t)length - 1) == SCREEN_REFUSED_FILE, "a byte less", "loaded");
+}
+
 /* ------------------------------------------------------------------------------------------------------ the copies */
 
 static uint8_t first[LEND_RECORDS], second[LEND_RECORDS];
@@ -327,16 +402,21 @@ static void copies_agree(void)
 
 static void test_random(void)
 {
-    unsigned accepted = 0;
+    unsigned accepted = 0, files = 0;
     for (unsigned i = 0; i < 1500; i++) {
         put_random();
         wrappers_agree();
+        if (i % 10 == 0) {
+            put_random();
+            files += files_agree();
+        }
         put_random();
         accepted += screen_lent_check(&sent) == SCREEN_ACCEPTED;
         copies_agree();
     }
     report(accepted > 300 && accepted < 1500, "random screens", "all or nearly none are accepted");
     report(rewritten > 100, "random screens", "nearly none are rewritten");
+    report(files > 20, "random screens", "nearly none are saved");
 }
 
 /* A literal below 0, and rows on both sides of it. */
@@ -358,6 +438,7 @@ int main(void)
     test_days();
     test_full();
     test_negative();
+    test_loaded();
     test_random();
     return finish();
 }

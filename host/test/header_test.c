@@ -17,6 +17,8 @@ static int calls_refuse(void)
     return answer == SCREEN_REFUSED_ROOT && screen_refused(answer) && screen_refusal_text(answer)[0] == 'T' &&
            screen_test_row(NONE, 0, NONE, 0, NONE, 0, 0, 0, NONE, 0, 0) == SCREEN_REFUSED_ROOT &&
            screen_rewrite(NONE, 0, NONE, 0, NONE, 0, 0, 0, &root, &used) == SCREEN_REFUSED_ROOT &&
+           screen_save(NONE, 0, NONE, 0, NONE, 0, 0, 0, NONE, 0, &count) == SCREEN_REFUSED_ROOT &&
+           screen_load(NONE, 0, NONE, 0, NONE, 0, NONE, 0, &root, &columns, &used, &count) == SCREEN_REFUSED_FILE &&
            screen_columns_read(NONE, 0, NONE, 0, NONE, 0, 0, 0, &columns, &count) == SCREEN_REFUSED_ROOT;
 }
 
@@ -38,9 +40,9 @@ static uint32_t put_screen(struct screen_lent *s)
 
 static int wrappers_answer(void)
 {
-    uint8_t table[2], records[16 * 40], reached[16 * 40], pool[16];
+    uint8_t table[2], records[16 * 40], reached[16 * 40], pool[16], file[5 * SCREEN_BLOCK_BYTES];
     uint8_t row[16] = {0};
-    uint64_t columns = 0, count = 0;
+    uint64_t columns = 0, count = 0, length = 0;
     struct screen_lent s;
     screen_begin(&s, table, sizeof table, records, sizeof records, pool, sizeof pool);
     if (put_screen(&s) != s.root || screen_is_full(&s) || screen_lent_check(&s) != SCREEN_ACCEPTED)
@@ -49,6 +51,8 @@ static int wrappers_answer(void)
     return screen_lent_columns_read(&s, &columns, &count) == SCREEN_COLUMNS && columns == 3 && count == 2 &&
            !screen_refused(screen_lent_rewrite(&s)) && screen_record_at(&s, 0).kind == SCREEN_KIND_COLUMN &&
            screen_copy_reached(&s, reached, sizeof reached, &s) == SCREEN_ACCEPTED &&
+           screen_lent_save(&s, file, sizeof file, &length) == SCREEN_SAVED &&
+           screen_lent_load(&s, file, length) == SCREEN_LOADED &&
            screen_lent_test_row(&s, row, sizeof row, 0) == SCREEN_TRUE;
 }
 

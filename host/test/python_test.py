@@ -129,6 +129,35 @@ def test_refusals():
     refused(5, "a record of no column", lambda: s.add(s.put(screen.COLUMN, a=7)) or s.check())
 
 
+def test_files():
+    """What is saved is loaded, with the same rows; lines can be added to it; a damaged file is refused."""
+    s = screen.Screen(strike="Int", expiry="Day", halted="Truth")
+    s.add(s.strike.is_in([-5, 7, None]), s.expiry <= DAY(2026, 12, 18), ~s.halted, s.strike > -9, s.strike > -7)
+    file, rows = s.save(), [{"strike": n, "expiry": DAY(2026, 12, d), "halted": h}
+                            for n in (-5, 6, 7, None) for d in (18, 19) for h in (False, True, None)]
+    report(len(file) == 4 * 512 and isinstance(file, bytes), "the file's length")
+    same = screen.Screen.load(file, names=["strike", "expiry", "halted"])
+    report((same.names, same.kinds, same.used, same.root, same.values, same.records.raw, same.pool.raw) ==
+           (s.names, s.kinds, s.used, s.root, s.values, s.records.raw, s.pool.raw), "the loaded screen")
+    report([same.test_row(r) for r in rows] == [s.test_row(r) for r in rows] and same.save() == file, "its rows")
+    plain = screen.Screen.load(bytearray(file))
+    report(plain.names == ["c0", "c1", "c2"] and plain.columns_read() == ["c0", "c1", "c2"], "names of its own")
+    plain.add(plain.c0 == 7)
+    report(plain.rewrite() == "rewritten" and plain.test_row({"c0": 7, "c1": DAY(2026, 1, 1), "c2": False}) is True and
+           plain.test_row({"c0": -5, "c1": DAY(2026, 1, 1), "c2": False}) is False, "a line added to a loaded screen")
+    raises(ValueError, "too few names", lambda: screen.Screen.load(file, names=["strike"]))
+    raises(ValueError, "a name twice", lambda: screen.Screen.load(file, names=["a", "b", "a"]))
+    refused(15, "a damaged file", lambda: screen.Screen.load(file[:700] + b"\x55" + file[701:]))
+    refused(15, "a byte less", lambda: screen.Screen.load(file[:-1]))
+    refused(15, "no byte", lambda: screen.Screen.load(b""))
+    refused(3, "an empty screen saved", screen.Screen(c0="Int").save)
+    s = screen.Screen(**{f"c{i}": "Int" for i in range(64)})
+    s.add(s.c63.is_in(range(8192)))
+    while s.used < screen.MAX_RECORDS:
+        s.part(1)
+    report(len(s.save()) == screen.MAX_FILE_BYTES and screen.Screen.load(s.save()).save() == s.save(), "the largest")
+
+
 def test_python():
     s = screen.Screen(c0="Int", c1="Day")
     raises(TypeError, "and for &", lambda: s.c0 > 1 and s.c0 > 2)
@@ -169,6 +198,7 @@ def test_random():
 def test_told():
     """Every public name has a docstring; numbers and sentences are those of the header."""
     for name, thing in [*vars(screen).items(), *vars(screen.Screen).items(), *vars(screen.Part).items()]:
+        thing = getattr(thing, "__func__", thing)  # of a classmethod
         if not name.startswith("_") and (inspect.isfunction(thing) or inspect.isclass(thing)):
             report(inspect.getdoc(thing), f"{name} has no docstring")
     header = open(os.path.join(PREFIX, "include", "screen.h")).read()
@@ -180,7 +210,7 @@ def test_told():
         report(getattr(screen, name) == numbers[f"KIND_{name}"], f"the kind {name}")
     for name in ("EQ", "EQ_VALIDITY", "NOT_EQ", "NOT_EQ_VALIDITY", "LT", "LT_EQ", "GT", "GT_EQ", "AND", "OR", "XOR"):
         report(getattr(screen, name) == numbers[f"OP_{name}"], f"the operator {name}")
-    for name in ("MAX_RECORDS", "MAX_POOL_VALUES", "RECORD_BYTES", "VALUE_BYTES"):
+    for name in ("MAX_RECORDS", "MAX_POOL_VALUES", "RECORD_BYTES", "VALUE_BYTES", "MAX_FILE_BYTES"):
         report(getattr(screen, name) == numbers[name], name)
     version = tuple(int(re.search(rf"SCREEN_VERSION_{part} (\d+)", header)[1]) for part in ("MAJOR", "MINOR"))
     report(screen.VERSION == version, "the version")
@@ -189,7 +219,7 @@ def test_told():
     report(calls == used, f"the calls of the header: {calls ^ used}")
 
 
-for test in (test_cases, test_types, test_refusals, test_python, test_random, test_told):
+for test in (test_cases, test_types, test_refusals, test_files, test_python, test_random, test_told):
     test()
 print(f"{counts[True]} passed, {counts[False]} failed")
 sys.exit(counts[False] != 0)

@@ -10,6 +10,7 @@ void build_free(struct build *build)
     free(build->lent.pool);
     free(build->columns);
     free(build->lines);
+    text_free(&build->printed);
 }
 
 void build_room(struct build *build, size_t line_len)

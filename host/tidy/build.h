@@ -31,6 +31,8 @@ struct build {
     size_t lines_room;
     size_t line_count;
     uint32_t top; /* all lines joined */
+    bool loaded;         /* from a saved screen, which has no typed lines: then they are its conjuncts */
+    struct text printed; /* what these say */
 };
 
 void build_free(struct build *build);

@@ -145,15 +145,26 @@ static void find_contradiction(struct tidied *t)
 
 /* -------------------------------------------------------------------------------------------------- both directions */
 
-/* The typed line that a record belongs to, where it is one of its conjuncts; else those that read its columns. */
+/* Is the record one of the line's conjuncts? */
+static bool has_conjunct(const struct tidied *t, size_t line, uint64_t record)
+{
+    struct conjuncts conjuncts = {NULL, 0, 0};
+    bool found = false;
+    add_conjuncts(&conjuncts, &t->typed, t->build->lines[line].root);
+    for (size_t i = 0; i < conjuncts.count; i++)
+        found |= conjuncts.records[i] == record;
+    free(conjuncts.records);
+    return found;
+}
+
+/* The typed lines that a record belongs to, where it is one of their conjuncts; else those that read its columns. */
 static void trace_back(struct tidied *t, struct tidied_line *tidied)
 {
     uint64_t columns = columns_of(&t->returned, tidied->record);
     const struct build *build = t->build;
     for (size_t i = 0; i < build->line_count; i++) {
-        uint64_t first = i == 0 ? 0 : build->lines[i - 1].used;
-        if (tidied->record < t->typed.used) { /* a typed record: of the line that put it */
-            if (tidied->record >= first && tidied->record < build->lines[i].used)
+        if (tidied->record < t->typed.used) { /* a typed record: of the lines that have it */
+            if (has_conjunct(t, i, tidied->record))
                 numbers_add(&tidied->typed, build->lines[i].number);
         } else if (columns_of(&t->typed, build->lines[i].root) & columns) {
             numbers_add(&tidied->typed, build->lines[i].number);

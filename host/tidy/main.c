@@ -4,6 +4,7 @@
 #include "parse.h"
 #include "platform.h"
 #include "report.h"
+#include "saved.h"
 
 #include <errno.h>
 #include <stdio.h>
@@ -26,7 +27,7 @@ enum color { COLOR_AUTO, COLOR_ALWAYS, COLOR_NEVER };
 
 struct options {
     bool help, version, only, json;
-    const char *html;
+    const char *html, *save;
     enum color color;
     const char *files[2];
     size_t file_count;
@@ -59,6 +60,24 @@ static bool read_file(struct options *options, const char *word)
     return true;
 }
 
+/* Is the word this option, alone or with = and a file? */
+static bool is_option(const char *word, const char *name)
+{
+    size_t len = strlen(name);
+    return strncmp(word, name, len) == 0 && (word[len] == '\0' || word[len] == '=');
+}
+
+/* The file of an option, behind its = or the next word. */
+static bool read_path(const char **path, const char *word, char **next, int *taken)
+{
+    const char *sign = strchr(word, '=');
+    if (sign == NULL && *next == NULL)
+        return usage("expected a file after ", word);
+    *taken = sign == NULL;
+    *path = sign == NULL ? *next : sign + 1;
+    return true;
+}
+
 /* One word of the command line; *next is the one after it, which an option may take. */
 static bool read_word(struct options *options, const char *word, char **next, int *taken)
 {
@@ -74,15 +93,11 @@ static bool read_word(struct options *options, const char *word, char **next, in
         return options->json = true;
     if (strncmp(word, "--color=", 8) == 0)
         return read_color(options, word + 8);
-    if (strncmp(word, "--html=", 7) == 0)
-        return options->html = word + 7, true;
-    if (strcmp(word, "--html") != 0)
-        return usage("unknown option ", word);
-    if (*next == NULL)
-        return usage("expected a file after ", word);
-    options->html = *next;
-    *taken = 1;
-    return true;
+    if (is_option(word, "--html"))
+        return read_path(&options->html, word, next, taken);
+    if (is_option(word, "--save"))
+        return read_path(&options->save, word, next, taken);
+    return usage("unknown option ", word);
 }
 
 static bool read_words(struct options *options, int argc, char **argv)
@@ -159,6 +174,14 @@ static bool read_files(struct session *session)
     return good;
 }
 
+static bool read_screen(struct session *session)
+{
+    struct slice bytes = {session->texts[0].bytes, session->texts[0].len};
+    if (saved_is(bytes))
+        return saved_load(bytes, &session->build, &session->faults);
+    return parse_screen(text_read_part(&session->texts[0]), &session->build, &session->faults);
+}
+
 /* The files read and the calls made; false if there is a fault. */
 static bool work(struct session *session)
 {
@@ -166,7 +189,7 @@ static bool work(struct session *session)
     if (!read_files(session))
         return false;
     faults->file = session->options.files[0];
-    if (!parse_screen(text_read_part(&session->texts[0]), &session->build, faults))
+    if (!read_screen(session))
         return false;
     tidy(&session->tidied, &session->build);
     faults->told = 0;
@@ -217,6 +240,15 @@ static bool write_html(struct session *session)
     return good;
 }
 
+static bool write_saved(const struct session *session)
+{
+    struct text file = {NULL, 0, 0};
+    saved_add(&file, &session->tidied);
+    bool good = write_file(&file, session->options.save);
+    text_free(&file);
+    return good;
+}
+
 /* Promised never to happen, so it is told whatever was asked to be printed. */
 static enum status differs(const struct session *session)
 {
@@ -239,6 +271,8 @@ static enum status run(struct session *session)
     bool written = write_all(&session->out, stdout, "standard output");
     if (good && session->options.html != NULL)
         written &= write_html(session);
+    if (good && session->options.save != NULL)
+        written &= write_saved(session);
     if (!good || !written)
         return STATUS_FAULTY;
     if (session->options.file_count == 2 && (!session->outcome.same || session->outcome.typed.refusal != 0))

@@ -33,6 +33,27 @@ static void add_lines(struct tidied *tidied)
     free(conjuncts.records);
 }
 
+/* The conjuncts of a loaded screen as its lines, numbered from 1. */
+static void add_loaded_lines(struct build *build)
+{
+    struct conjuncts conjuncts = {NULL, 0, 0};
+    struct slice rest;
+    add_conjuncts(&conjuncts, &build->lent, build->lent.root);
+    build->lines = grown(build->lines, &build->lines_room, conjuncts.count, sizeof *build->lines);
+    for (size_t i = 0; i < conjuncts.count; i++) {
+        struct typed_line line = {i + 1, {NULL, 0}, (uint32_t)conjuncts.records[i], build->lent.used,
+                                  build->lent.pool_len};
+        build->lines[build->line_count++] = line;
+        add_test(&build->printed, build, line.root);
+        text_add(&build->printed, "\n");
+    }
+    rest.at = build->printed.bytes; /* which moves no more */
+    rest.len = build->printed.len;
+    for (size_t i = 0; i < build->line_count; i++)
+        next_line(&rest, &build->lines[i].text);
+    free(conjuncts.records);
+}
+
 /* What runs on every tick: every call checks all used records, and those of the typed screen are not needed. */
 static uint32_t copy_out(struct tidied *tidied)
 {
@@ -54,6 +75,8 @@ void tidy(struct tidied *tidied, struct build *build)
     uint32_t copied = copy_out(tidied);
     if (screen_refused(read) || screen_refused(copied))
         abort(); /* both are promised of a screen that rewriting accepts */
+    if (build->loaded) /* not before: the conjuncts of a screen that is refused may be beyond counting */
+        add_loaded_lines(build);
     add_lines(tidied);
     tidied->fates = grown(NULL, &room, build->line_count, sizeof *tidied->fates);
     memset(tidied->fates, 0, build->line_count * sizeof *tidied->fates);
@@ -119,6 +142,8 @@ static size_t line_too_many(const struct build *build, uint32_t answer)
 /* In the desk's words where the numbers of the header speak of records. */
 static const char *sentence(const struct tidied *tidied)
 {
+    if (tidied->build->loaded)
+        return screen_refusal_text(tidied->answer);
     bool pool = tidied->typed.pool_len > SCREEN_VALUE_BYTES * SCREEN_MAX_POOL_VALUES;
     switch (tidied->answer) {
     case SCREEN_REFUSED_TABLE:

@@ -1,10 +1,10 @@
--- The answers of the four calls are listed.
+-- The answers of the calls are listed.
 use mathlib.Core.Path.{_≡_, refl, _∙_, subst}
 use mathlib.Core.Bool.{Bool, true, false, cond, _&&_}
 use mathlib.Core.List.{List, [], _∷_, _++_}
 use Prim.Native.Nat.{ℕ, zero, suc, _*_, _≤_, _<_}
 use native.Mathlib.Omega.{arith}
-use lib.Dec.{eqb, ltb}
+use lib.Dec.{eqb, leb, ltb}
 use lib.ListN.{length}
 use Rattle.checking.specs.Check.{checkAnswer}
 use Rattle.checking.specs.Columns.{columnsAnswer, columnsIf, columnsWord}
@@ -26,6 +26,15 @@ use Rattle.merge.specs.Rewrite.{outcomeOf, chainRoot, chainUsed, hasRoom, chain
 use Rattle.merge.specs.Rewrite.{rewriteIf, rewriteAnswer}
 use Rattle.screen.specs.Answers.{checkNumber, columnsNumber, rowNumber, truthNumber, rewriteNumber}
 use Rattle.screen.specs.Listed.{listed, checkRefusals, checkListed, columnsListed, rowListed, rewriteListed}
+use Rattle.screen.specs.Listed.{saveListed, loadListed}
+use Rattle.files.specs.Answers.{saveIf, saveAnswer, roomOk, heldAnswer, loadIf, loadAnswer}
+use Rattle.files.specs.Calls.{saveNumber, loadNumber}
+use Rattle.files.specs.Format.{fileLength}
+use Rattle.files.specs.Read.{structureOk, held, total, rootOf}
+use Rattle.files.specs.declared.save.SaveAnswer.{SaveAnswer}
+use Rattle.files.specs.declared.save.SaveAnswer.the-variants as save
+use Rattle.files.specs.declared.load.LoadAnswer.{LoadAnswer}
+use Rattle.files.specs.declared.load.LoadAnswer.the-variants as load
 
 -- 1 to 7 stand first in every list
 first-seven : (l : List ℕ) (k : ℕ) → 1 ≤ k → k ≤ 7 → listed (checkRefusals ++ l) k ≡ true
@@ -118,3 +127,30 @@ module _ (t rs p : List ℕ) (used root : ℕ) where
           pick Ok (ltb 4096 (treeCount rs root)) (answer.Refused 8) _ refl
           (pick Ok (ltb 128 (length (minterms (aexprAt rs p used) root))) (answer.Refused 9) _ refl
           (outcome (outcomeOf rs p used root)))
+
+  pub save-listed : (room : ℕ) → saveListed (saveNumber (saveAnswer t rs p used root room)) ≡ true
+  unfolding saveAnswer
+  save-listed room = go (checkAnswer t rs p used root) refl
+    where
+      Ok : SaveAnswer → Type 0
+      Ok a = saveListed (saveNumber a) ≡ true
+
+      go : (a : CheckAnswer) → checkAnswer t rs p used root ≡ a → Ok (saveIf a (fileLength p used) room)
+      go (check.Refused k) e = refusal-listed (14 ∷ 256 ∷ []) k e
+      go check.Accepted e =
+          pick Ok (leb (fileLength p used) room) (save.Saved (fileLength p used)) (save.Refused 14) refl refl
+
+pub load-listed : (f : List ℕ) (table records pool : ℕ)
+    → loadListed (loadNumber (loadAnswer f table records pool)) ≡ true
+unfolding loadAnswer heldAnswer
+load-listed f table records pool =
+    pick Ok (structureOk f) _ (load.Refused 15)
+    (pick Ok (roomOk f table records pool) _ (load.Refused 14) (go (heldAnswer f) refl) refl) refl
+  where
+    Ok : LoadAnswer → Type 0
+    Ok a = loadListed (loadNumber a) ≡ true
+
+    go : (a : CheckAnswer) → heldAnswer f ≡ a → Ok (loadIf a f)
+    go (check.Refused k) e =
+        refusal-listed (held 1 f) (held 2 f) (held 3 f) (total 2 f) (rootOf f) (14 ∷ 15 ∷ 256 ∷ []) k e
+    go check.Accepted e = refl

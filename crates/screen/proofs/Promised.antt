@@ -188,7 +188,9 @@ module _ (t rs p : List ℕ) (used root : ℕ) (a : RewriteAnswer) (is : rewrite
       ap rewriteNumber (sym is),
       (
         subst (λ x. rewriteListed (rewriteNumber x) ≡ true) is (rewrite-listed t rs p used root),
-        (ap (λ x. newRootOut x oldRoot) (sym is),
-        (ap (λ x. newUsedOut x oldUsed) (sym is), (written, (call-kept, call-promise)))),
+        (
+          ap (λ x. newRootOut x oldRoot) (sym is),
+          (ap (λ x. newUsedOut x oldUsed) (sym is), (written, (call-kept, call-promise))),
+        ),
       ),
     )

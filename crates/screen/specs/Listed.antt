@@ -1,5 +1,5 @@
--- Demand 1: every call ends in an answer that document 01 lists for it. These are 01's lists ('Answers by operation'),
--- refusals first.
+-- Demand 1: every call ends in an answer that document 01, or a request of 02, lists for it. These are the lists of 01's
+-- 'Answers by operation' and of the requests, refusals first.
 use Prim.Native.Nat.{ℕ}
 use mathlib.Core.Bool.{Bool, false, _||_}
 use mathlib.Core.List.{List, [], _∷_, _++_}
@@ -28,3 +28,10 @@ rowListed r = listed (checkRefusals ++ (8 ∷ 12 ∷ 13 ∷ 256 ∷ 257 ∷ 258 
 -- "Rewriting: as checking; 8 ..; 9 ..; 11 .. Else unchanged, nothing passes, or rewritten"; 10 is unused (2.11)
 abbrev pub rewriteListed : ℕ → Bool
 rewriteListed r = listed (checkRefusals ++ (8 ∷ 9 ∷ 11 ∷ 256 ∷ 257 ∷ 258 ∷ [])) r
+
+-- 02, 2.3: saving is refused with 1 to 7, then 14; loading with 15, 14, then 1 to 7 of the screen held
+abbrev pub saveListed : ℕ → Bool
+saveListed r = listed (checkRefusals ++ (14 ∷ 256 ∷ [])) r
+
+abbrev pub loadListed : ℕ → Bool
+loadListed r = listed (checkRefusals ++ (14 ∷ 15 ∷ 256 ∷ [])) r

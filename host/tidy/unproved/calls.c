@@ -8,6 +8,8 @@ void screen_check(void);
 void screen_rewrite(void);
 void screen_test_row(void);
 void screen_columns_read(void);
+void screen_save(void);
+void screen_load(void);
 
 void screen_check(void)
 {
@@ -25,6 +27,16 @@ void screen_test_row(void)
 }
 
 void screen_columns_read(void)
+{
+    _Exit(77);
+}
+
+void screen_save(void)
+{
+    _Exit(77);
+}
+
+void screen_load(void)
 {
     _Exit(77);
 }

@@ -41,9 +41,16 @@ abbrev μ-loop : tie.MeasureT-loop
 loop-holds : tie.Need-loop-holds Inv-loop μ-loop
 loop-holds c =
     let st = c .before .before .before .before .before .before .before .before .before .before .before .before
-        .before .before in
-    ( omega arith, omega arith, omega arith, omega arith, collect-none _ _ _ _ _ _ _ _ _ _ (st .pre .0 .4) (st
-    .pre .0 .5) (st .pre .0 .6) (st .pre .0 .7) (st .pre .0 .8) (st .pre .0 .9), refl, refl, )
+    .before .before in (
+      omega arith,
+      omega arith,
+      omega arith,
+      omega arith,
+      collect-none _ _ _ _ _ _ _ _ _ _ (st .pre .0 .4) (st
+          .pre .0 .5) (st .pre .0 .6) (st .pre .0 .7) (st .pre .0 .8) (st .pre .0 .9),
+      refl,
+      refl,
+    )
 
 -- src/collect.rt:139:20
 mul-node : tie.Need-mul-node Inv-loop μ-loop
@@ -53,11 +60,11 @@ mul-node c = search needs
 shared-slice-read-node : tie.Need-shared-slice-read-node Inv-loop μ-loop
 shared-slice-read-node c =
     let st = c .before .before .before .before .before .before .before .before .before .before .before .before
-        .before .before .before .before .before in
+    .before .before .before .before .before in
     let l1 = c .before .before .loop in
     let t1 = c .before .loop-test in
     let h : l1 .i < st .args .n = ltb-true _ _ (and-left (ltb (l1 .i) (st .args .n)) (not (l1 .unsat)) (t1
-        .taken)) in
+    .taken)) in
     omega (arith, h, st .pre .0 .2)
 
 -- src/collect.rt:140:17
@@ -84,96 +91,134 @@ slice-aggregate-enter c = search needs
 enter-requires : tie.Need-enter-requires Inv-loop μ-loop
 enter-requires c κs =
     let st = c .before .before .before .before .before .before .before .before .before .before .before .before
-        .before .before .before .before .before .before .before .before .before .before .before in
+    .before .before .before .before .before .before .before .before .before .before .before in
     let l1 = c .before .before .before .before .before .before .before .before .loop in
     let t1 = c .before .before .before .before .before .before .before .loop-test in
     let classify = c .before .before .before .before .before .classify in
     let arm = c .before .before .before .k in
     let h : l1 .i < st .args .n = ltb-true _ _ (and-left (ltb (l1 .i) (st .args .n)) (not (l1 .unsat)) (t1
-        .taken)) in
+    .taken)) in
     let k = read-as _ _ _ _ _ (classify .ensures _) (arm .given .1) in
-    let b = subst (ColumnsBelow 64) k (st .pre .1 .1 _ h) in
-    ( b, omega (arith, h, l1 .inv .0, l1 .inv .1, l1 .inv .2, l1 .inv .3, st .pre .0 .0, st .pre .0 .1), l1 .inv
-    .4 .entered .seen-size, l1 .inv .4 .entered .order-size, )
+    let b = subst (ColumnsBelow 64) k (st .pre .1 .1 _ h) in (
+      b,
+      omega (arith, h, l1 .inv .0, l1 .inv .1, l1 .inv .2, l1 .inv .3, st .pre .0 .0, st .pre .0 .1),
+      l1 .inv
+          .4 .entered .seen-size,
+      l1 .inv .4 .entered .order-size,
+    )
 
 -- src/collect.rt:146:17
 add-to-column-requires : tie.Need-add-to-column-requires Inv-loop μ-loop
 add-to-column-requires c κs =
     let st = c .before .before .before .before .before .before .before .before .before .before .before .before
-        .before .before .before .before .before .before .before .before .before .before .before .before .before
-        .before .before .before .before in
+    .before .before .before .before .before .before .before .before .before .before .before .before .before
+    .before .before .before .before in
     let l1 = c .before .before .before .before .before .before .before .before .before .before .before .before
-        .before .before .loop in
+    .before .before .loop in
     let t1 = c .before .before .before .before .before .before .before .before .before .before .before .before
-        .before .loop-test in
+    .before .loop-test in
     let classify = c .before .before .before .before .before .before .before .before .before .before .before
-        .classify in
+    .classify in
     let arm = c .before .before .before .before .before .before .before .before .before .k in
     let h : l1 .i < st .args .n = ltb-true _ _ (and-left (ltb (l1 .i) (st .args .n)) (not (l1 .unsat)) (t1
-        .taken)) in
+    .taken)) in
     let k = read-as _ _ _ _ _ (classify .ensures _) (arm .given .1) in
-    let b = subst (ColumnsBelow 64) k (st .pre .1 .1 _ h) in
-    ( ( record { size = l1 .inv .6 ∙ st .pre .0 .3; narrow = omega (arith, l1 .inv .5, st .pre .0 .1); fine = l1
-    .inv .4 .shows .fine; }, b, omega (arith, h, l1 .inv .5, st .pre .0 .0), ), subst (ToldConjunct _ _) k (st
-    .pre .1 .0 _ h), )
+    let b = subst (ColumnsBelow 64) k (st .pre .1 .1 _ h) in (
+      (
+        record {
+          size = l1 .inv .6 ∙ st .pre .0 .3;
+          narrow = omega (arith, l1 .inv .5, st .pre .0 .1);
+          fine = l1
+              .inv .4 .shows .fine;
+        },
+        b,
+        omega (arith, h, l1 .inv .5, st .pre .0 .0),
+      ),
+      subst (ToldConjunct _ _) k (st
+          .pre .1 .0 _ h),
+    )
 
 -- src/collect.rt:147:17
 add-bounds : tie.Need-add-bounds Inv-loop μ-loop
 add-bounds c =
     let st = c .before .before .before .before .before .before .before .before .before .before .before .before
-        .before .before .before .before .before .before .before .before .before .before .before .before .before
-        .before .before .before .before .before .before .before .before .before in
+    .before .before .before .before .before .before .before .before .before .before .before .before .before
+    .before .before .before .before .before .before .before .before .before in
     let l1 = c .before .before .before .before .before .before .before .before .before .before .before .before
-        .before .before .before .before .before .before .before .loop in
+    .before .before .before .before .before .before .before .loop in
     let t1 = c .before .before .before .before .before .before .before .before .before .before .before .before
-        .before .before .before .before .before .before .loop-test in
+    .before .before .before .before .before .before .loop-test in
     let h : l1 .i < st .args .n = ltb-true _ _ (and-left (ltb (l1 .i) (st .args .n)) (not (l1 .unsat)) (t1
-        .taken)) in
+    .taken)) in
     omega (arith, h, l1 .inv .0, l1 .inv .1, l1 .inv .2, l1 .inv .3, st .pre .0 .0, st .pre .0 .1)
 
 -- src/collect.rt:138:5
 loop-less : tie.Need-loop-less Inv-loop μ-loop
 loop-less c =
     let st = c .before .before .before .before .before .before .before .before .before .before .before .before
-        .before .before .before .before .before .before .before .before .before .before .before .before .before
-        .before .before .before .before .before .before .before .before .before in
+    .before .before .before .before .before .before .before .before .before .before .before .before .before
+    .before .before .before .before .before .before .before .before .before in
     let l1 = c .before .before .before .before .before .before .before .before .before .before .before .before
-        .before .before .before .before .before .before .before .loop in
+    .before .before .before .before .before .before .before .loop in
     let t1 = c .before .before .before .before .before .before .before .before .before .before .before .before
-        .before .before .before .before .before .before .loop-test in
+    .before .before .before .before .before .before .loop-test in
     let h : l1 .i < st .args .n = ltb-true _ _ (and-left (ltb (l1 .i) (st .args .n)) (not (l1 .unsat)) (t1
-        .taken)) in
+    .taken)) in
     omega (arith, h, l1 .inv .0, l1 .inv .1, l1 .inv .2, l1 .inv .3, st .pre .0 .0, st .pre .0 .1)
 
 -- src/collect.rt:138:5
 loop-again : tie.Need-loop-again Inv-loop μ-loop
 loop-again c =
     let st = c .before .before .before .before .before .before .before .before .before .before .before .before
-        .before .before .before .before .before .before .before .before .before .before .before .before .before
-        .before .before .before .before .before .before .before .before .before in
+    .before .before .before .before .before .before .before .before .before .before .before .before .before
+    .before .before .before .before .before .before .before .before .before in
     let l1 = c .before .before .before .before .before .before .before .before .before .before .before .before
-        .before .before .before .before .before .before .before .loop in
+    .before .before .before .before .before .before .before .loop in
     let t1 = c .before .before .before .before .before .before .before .before .before .before .before .before
-        .before .before .before .before .before .before .loop-test in
+    .before .before .before .before .before .before .loop-test in
     let classify = c .before .before .before .before .before .before .before .before .before .before .before
-        .before .before .before .before .before .classify in
+    .before .before .before .before .before .classify in
     let arm = c .before .before .before .before .before .before .before .before .before .before .before .before
-        .before .before .k in
+    .before .before .k in
     let enter = c .before .before .before .before .before .before .before .before .before .before .enter in
     let add-to-column = c .before .before .before .before .add-to-column in
     let h : l1 .i < st .args .n = ltb-true _ _ (and-left (ltb (l1 .i) (st .args .n)) (not (l1 .unsat)) (t1
-        .taken)) in
+    .taken)) in
     let k = read-as _ _ _ _ _ (classify .ensures _) (arm .given .1) in
     let b = subst (ColumnsBelow 64) k (st .pre .1 .1 _ h) in
-    let e0 = enter .ensures .1 in
-    ( omega (arith, h, l1 .inv .0, l1 .inv .1, l1 .inv .2, l1 .inv .3, st .pre .0 .0, st .pre .0 .1), omega
-    (arith, h, l1 .inv .0, l1 .inv .1, l1 .inv .2, l1 .inv .3, st .pre .0 .0, st .pre .0 .1, e0), omega ( arith,
-    h, l1 .inv .0, l1 .inv .1, l1 .inv .2, l1 .inv .3, st .pre .0 .0, st .pre .0 .1, ), omega ( arith, h, l1
-    .inv .0, l1 .inv .1, l1 .inv .2, l1 .inv .3, st .pre .0 .0, st .pre .0 .1, ), bounds-turn _ _ _ _ _ _ _ _ _
-    _ _ _ _ _ _ _ (l1 .inv .4) _ _ (collect-more _ _ _ _ (l1 .inv .4 .stops) (not-true (l1 .unsat) (and-right
-    (ltb (l1 .i) (st .args .n)) (not (l1 .unsat)) (t1 .taken)))) _ _ _ _ _ _ _ _ k (enter .ensures .0)
-    (add-to-column .ensures .0), add-to-column .ensures .1 .1 ∙ l1 .inv .5, add-to-column .ensures .1 .0 ∙ l1
-    .inv .6, )
+    let e0 = enter .ensures .1 in (
+      omega (arith, h, l1 .inv .0, l1 .inv .1, l1 .inv .2, l1 .inv .3, st .pre .0 .0, st .pre .0 .1),
+      omega
+          (arith, h, l1 .inv .0, l1 .inv .1, l1 .inv .2, l1 .inv .3, st .pre .0 .0, st .pre .0 .1, e0),
+      omega (
+        arith,
+        h,
+        l1 .inv .0,
+        l1 .inv .1,
+        l1 .inv .2,
+        l1 .inv .3,
+        st .pre .0 .0,
+        st .pre .0 .1,
+      ),
+      omega (
+        arith,
+        h,
+        l1
+            .inv .0,
+        l1 .inv .1,
+        l1 .inv .2,
+        l1 .inv .3,
+        st .pre .0 .0,
+        st .pre .0 .1,
+      ),
+      bounds-turn _ _ _ _ _ _ _ _ _
+          _ _ _ _ _ _ _ (l1 .inv .4) _ _ (collect-more _ _ _ _ (l1 .inv .4 .stops) (not-true (l1 .unsat) (and-right
+          (ltb (l1 .i) (st .args .n)) (not (l1 .unsat)) (t1 .taken)))) _ _ _ _ _ _ _ _ k (enter .ensures .0)
+          (add-to-column .ensures .0),
+      add-to-column .ensures .1 .1 ∙ l1 .inv .5,
+      add-to-column .ensures .1 .0 ∙ l1
+          .inv .6,
+    )
 
 -- src/collect.rt:150:34
 enum-known-k-2 : tie.Need-enum-known-k-2 Inv-loop μ-loop
@@ -187,96 +232,134 @@ slice-aggregate-enter-2 c = search needs
 enter-requires-2 : tie.Need-enter-requires-2 Inv-loop μ-loop
 enter-requires-2 c κs =
     let st = c .before .before .before .before .before .before .before .before .before .before .before .before
-        .before .before .before .before .before .before .before .before .before .before .before in
+    .before .before .before .before .before .before .before .before .before .before .before in
     let l1 = c .before .before .before .before .before .before .before .before .loop in
     let t1 = c .before .before .before .before .before .before .before .loop-test in
     let classify = c .before .before .before .before .before .classify in
     let arm = c .before .before .before .k2 in
     let h : l1 .i < st .args .n = ltb-true _ _ (and-left (ltb (l1 .i) (st .args .n)) (not (l1 .unsat)) (t1
-        .taken)) in
+    .taken)) in
     let k = read-as _ _ _ _ _ (classify .ensures _) (arm .given .1) in
-    let b = subst (ColumnsBelow 64) k (st .pre .1 .1 _ h) in
-    ( b, omega (arith, h, l1 .inv .0, l1 .inv .1, l1 .inv .2, l1 .inv .3, st .pre .0 .0, st .pre .0 .1), l1 .inv
-    .4 .entered .seen-size, l1 .inv .4 .entered .order-size, )
+    let b = subst (ColumnsBelow 64) k (st .pre .1 .1 _ h) in (
+      b,
+      omega (arith, h, l1 .inv .0, l1 .inv .1, l1 .inv .2, l1 .inv .3, st .pre .0 .0, st .pre .0 .1),
+      l1 .inv
+          .4 .entered .seen-size,
+      l1 .inv .4 .entered .order-size,
+    )
 
 -- src/collect.rt:152:17
 add-to-column-requires-2 : tie.Need-add-to-column-requires-2 Inv-loop μ-loop
 add-to-column-requires-2 c κs =
     let st = c .before .before .before .before .before .before .before .before .before .before .before .before
-        .before .before .before .before .before .before .before .before .before .before .before .before .before
-        .before .before .before .before in
+    .before .before .before .before .before .before .before .before .before .before .before .before .before
+    .before .before .before .before in
     let l1 = c .before .before .before .before .before .before .before .before .before .before .before .before
-        .before .before .loop in
+    .before .before .loop in
     let t1 = c .before .before .before .before .before .before .before .before .before .before .before .before
-        .before .loop-test in
+    .before .loop-test in
     let classify = c .before .before .before .before .before .before .before .before .before .before .before
-        .classify in
+    .classify in
     let arm = c .before .before .before .before .before .before .before .before .before .k2 in
     let h : l1 .i < st .args .n = ltb-true _ _ (and-left (ltb (l1 .i) (st .args .n)) (not (l1 .unsat)) (t1
-        .taken)) in
+    .taken)) in
     let k = read-as _ _ _ _ _ (classify .ensures _) (arm .given .1) in
-    let b = subst (ColumnsBelow 64) k (st .pre .1 .1 _ h) in
-    ( ( record { size = l1 .inv .6 ∙ st .pre .0 .3; narrow = omega (arith, l1 .inv .5, st .pre .0 .1); fine = l1
-    .inv .4 .shows .fine; }, b, omega (arith, h, l1 .inv .5, st .pre .0 .0), ), subst (ToldConjunct _ _) k (st
-    .pre .1 .0 _ h), )
+    let b = subst (ColumnsBelow 64) k (st .pre .1 .1 _ h) in (
+      (
+        record {
+          size = l1 .inv .6 ∙ st .pre .0 .3;
+          narrow = omega (arith, l1 .inv .5, st .pre .0 .1);
+          fine = l1
+              .inv .4 .shows .fine;
+        },
+        b,
+        omega (arith, h, l1 .inv .5, st .pre .0 .0),
+      ),
+      subst (ToldConjunct _ _) k (st
+          .pre .1 .0 _ h),
+    )
 
 -- src/collect.rt:153:17
 add-bounds-2 : tie.Need-add-bounds-2 Inv-loop μ-loop
 add-bounds-2 c =
     let st = c .before .before .before .before .before .before .before .before .before .before .before .before
-        .before .before .before .before .before .before .before .before .before .before .before .before .before
-        .before .before .before .before .before .before .before .before .before in
+    .before .before .before .before .before .before .before .before .before .before .before .before .before
+    .before .before .before .before .before .before .before .before .before in
     let l1 = c .before .before .before .before .before .before .before .before .before .before .before .before
-        .before .before .before .before .before .before .before .loop in
+    .before .before .before .before .before .before .before .loop in
     let t1 = c .before .before .before .before .before .before .before .before .before .before .before .before
-        .before .before .before .before .before .before .loop-test in
+    .before .before .before .before .before .before .loop-test in
     let h : l1 .i < st .args .n = ltb-true _ _ (and-left (ltb (l1 .i) (st .args .n)) (not (l1 .unsat)) (t1
-        .taken)) in
+    .taken)) in
     omega (arith, h, l1 .inv .0, l1 .inv .1, l1 .inv .2, l1 .inv .3, st .pre .0 .0, st .pre .0 .1)
 
 -- src/collect.rt:138:5
 loop-less-2 : tie.Need-loop-less-2 Inv-loop μ-loop
 loop-less-2 c =
     let st = c .before .before .before .before .before .before .before .before .before .before .before .before
-        .before .before .before .before .before .before .before .before .before .before .before .before .before
-        .before .before .before .before .before .before .before .before .before in
+    .before .before .before .before .before .before .before .before .before .before .before .before .before
+    .before .before .before .before .before .before .before .before .before in
     let l1 = c .before .before .before .before .before .before .before .before .before .before .before .before
-        .before .before .before .before .before .before .before .loop in
+    .before .before .before .before .before .before .before .loop in
     let t1 = c .before .before .before .before .before .before .before .before .before .before .before .before
-        .before .before .before .before .before .before .loop-test in
+    .before .before .before .before .before .before .loop-test in
     let h : l1 .i < st .args .n = ltb-true _ _ (and-left (ltb (l1 .i) (st .args .n)) (not (l1 .unsat)) (t1
-        .taken)) in
+    .taken)) in
     omega (arith, h, l1 .inv .0, l1 .inv .1, l1 .inv .2, l1 .inv .3, st .pre .0 .0, st .pre .0 .1)
 
 -- src/collect.rt:138:5
 loop-again-2 : tie.Need-loop-again-2 Inv-loop μ-loop
 loop-again-2 c =
     let st = c .before .before .before .before .before .before .before .before .before .before .before .before
-        .before .before .before .before .before .before .before .before .before .before .before .before .before
-        .before .before .before .before .before .before .before .before .before in
+    .before .before .before .before .before .before .before .before .before .before .before .before .before
+    .before .before .before .before .before .before .before .before .before in
     let l1 = c .before .before .before .before .before .before .before .before .before .before .before .before
-        .before .before .before .before .before .before .before .loop in
+    .before .before .before .before .before .before .before .loop in
     let t1 = c .before .before .before .before .before .before .before .before .before .before .before .before
-        .before .before .before .before .before .before .loop-test in
+    .before .before .before .before .before .before .loop-test in
     let classify = c .before .before .before .before .before .before .before .before .before .before .before
-        .before .before .before .before .before .classify in
+    .before .before .before .before .before .classify in
     let arm = c .before .before .before .before .before .before .before .before .before .before .before .before
-        .before .before .k2 in
+    .before .before .k2 in
     let enter2 = c .before .before .before .before .before .before .before .before .before .before .enter2 in
     let add-to-column2 = c .before .before .before .before .add-to-column2 in
     let h : l1 .i < st .args .n = ltb-true _ _ (and-left (ltb (l1 .i) (st .args .n)) (not (l1 .unsat)) (t1
-        .taken)) in
+    .taken)) in
     let k = read-as _ _ _ _ _ (classify .ensures _) (arm .given .1) in
     let b = subst (ColumnsBelow 64) k (st .pre .1 .1 _ h) in
-    let e0 = enter2 .ensures .1 in
-    ( omega (arith, h, l1 .inv .0, l1 .inv .1, l1 .inv .2, l1 .inv .3, st .pre .0 .0, st .pre .0 .1), omega
-    (arith, h, l1 .inv .0, l1 .inv .1, l1 .inv .2, l1 .inv .3, st .pre .0 .0, st .pre .0 .1, e0), omega ( arith,
-    h, l1 .inv .0, l1 .inv .1, l1 .inv .2, l1 .inv .3, st .pre .0 .0, st .pre .0 .1, ), omega ( arith, h, l1
-    .inv .0, l1 .inv .1, l1 .inv .2, l1 .inv .3, st .pre .0 .0, st .pre .0 .1, ), normalized-turn _ _ _ _ _ _ _
-    _ _ _ _ _ _ _ _ _ (l1 .inv .4) _ _ (collect-more _ _ _ _ (l1 .inv .4 .stops) (not-true (l1 .unsat)
-    (and-right (ltb (l1 .i) (st .args .n)) (not (l1 .unsat)) (t1 .taken)))) _ _ _ _ _ _ _ _ k (enter2 .ensures
-    .0) (add-to-column2 .ensures .0), add-to-column2 .ensures .1 .1 ∙ l1 .inv .5, add-to-column2 .ensures .1 .0
-    ∙ l1 .inv .6, )
+    let e0 = enter2 .ensures .1 in (
+      omega (arith, h, l1 .inv .0, l1 .inv .1, l1 .inv .2, l1 .inv .3, st .pre .0 .0, st .pre .0 .1),
+      omega
+          (arith, h, l1 .inv .0, l1 .inv .1, l1 .inv .2, l1 .inv .3, st .pre .0 .0, st .pre .0 .1, e0),
+      omega (
+        arith,
+        h,
+        l1 .inv .0,
+        l1 .inv .1,
+        l1 .inv .2,
+        l1 .inv .3,
+        st .pre .0 .0,
+        st .pre .0 .1,
+      ),
+      omega (
+        arith,
+        h,
+        l1
+            .inv .0,
+        l1 .inv .1,
+        l1 .inv .2,
+        l1 .inv .3,
+        st .pre .0 .0,
+        st .pre .0 .1,
+      ),
+      normalized-turn _ _ _ _ _ _ _
+          _ _ _ _ _ _ _ _ _ (l1 .inv .4) _ _ (collect-more _ _ _ _ (l1 .inv .4 .stops) (not-true (l1 .unsat)
+          (and-right (ltb (l1 .i) (st .args .n)) (not (l1 .unsat)) (t1 .taken)))) _ _ _ _ _ _ _ _ k (enter2 .ensures
+          .0) (add-to-column2 .ensures .0),
+      add-to-column2 .ensures .1 .1 ∙ l1 .inv .5,
+      add-to-column2 .ensures .1 .0
+          ∙ l1 .inv .6,
+    )
 
 -- src/collect.rt:157:32
 enum-known-k-3 : tie.Need-enum-known-k-3 Inv-loop μ-loop
@@ -290,33 +373,37 @@ slice-aggregate-enter-3 c = search needs
 enter-requires-3 : tie.Need-enter-requires-3 Inv-loop μ-loop
 enter-requires-3 c κs =
     let st = c .before .before .before .before .before .before .before .before .before .before .before .before
-        .before .before .before .before .before .before .before .before .before .before .before in
+    .before .before .before .before .before .before .before .before .before .before .before in
     let l1 = c .before .before .before .before .before .before .before .before .loop in
     let t1 = c .before .before .before .before .before .before .before .loop-test in
     let classify = c .before .before .before .before .before .classify in
     let arm = c .before .before .before .k3 in
     let h : l1 .i < st .args .n = ltb-true _ _ (and-left (ltb (l1 .i) (st .args .n)) (not (l1 .unsat)) (t1
-        .taken)) in
+    .taken)) in
     let k = read-as _ _ _ _ _ (classify .ensures _) (arm .given .1) in
-    let b = subst (ColumnsBelow 64) k (st .pre .1 .1 _ h) in
-    ( b .0, omega (arith, h, l1 .inv .0, l1 .inv .1, l1 .inv .2, l1 .inv .3, st .pre .0 .0, st .pre .0 .1), l1
-    .inv .4 .entered .seen-size, l1 .inv .4 .entered .order-size, )
+    let b = subst (ColumnsBelow 64) k (st .pre .1 .1 _ h) in (
+      b .0,
+      omega (arith, h, l1 .inv .0, l1 .inv .1, l1 .inv .2, l1 .inv .3, st .pre .0 .0, st .pre .0 .1),
+      l1
+          .inv .4 .entered .seen-size,
+      l1 .inv .4 .entered .order-size,
+    )
 
 -- src/collect.rt:159:17
 require-non-null-requires : tie.Need-require-non-null-requires Inv-loop μ-loop
 require-non-null-requires c κs =
     let st = c .before .before .before .before .before .before .before .before .before .before .before .before
-        .before .before .before .before .before .before .before .before .before .before .before .before .before
-        .before .before .before in
+    .before .before .before .before .before .before .before .before .before .before .before .before .before
+    .before .before .before in
     let l1 = c .before .before .before .before .before .before .before .before .before .before .before .before
-        .before .loop in
+    .before .loop in
     let t1 = c .before .before .before .before .before .before .before .before .before .before .before .before
-        .loop-test in
+    .loop-test in
     let classify = c .before .before .before .before .before .before .before .before .before .before .classify
-        in
+    in
     let arm = c .before .before .before .before .before .before .before .before .k3 in
     let h : l1 .i < st .args .n = ltb-true _ _ (and-left (ltb (l1 .i) (st .args .n)) (not (l1 .unsat)) (t1
-        .taken)) in
+    .taken)) in
     let k = read-as _ _ _ _ _ (classify .ensures _) (arm .given .1) in
     let b = subst (ColumnsBelow 64) k (st .pre .1 .1 _ h) in
     (b .0, l1 .inv .6 ∙ st .pre .0 .3)
@@ -329,45 +416,48 @@ slice-aggregate-enter-4 c = search needs
 enter-requires-4 : tie.Need-enter-requires-4 Inv-loop μ-loop
 enter-requires-4 c κs =
     let st = c .before .before .before .before .before .before .before .before .before .before .before .before
-        .before .before .before .before .before .before .before .before .before .before .before .before .before
-        .before .before .before .before .before .before .before .before in
+    .before .before .before .before .before .before .before .before .before .before .before .before .before
+    .before .before .before .before .before .before .before .before in
     let l1 = c .before .before .before .before .before .before .before .before .before .before .before .before
-        .before .before .before .before .before .before .loop in
+    .before .before .before .before .before .before .loop in
     let t1 = c .before .before .before .before .before .before .before .before .before .before .before .before
-        .before .before .before .before .before .loop-test in
+    .before .before .before .before .before .loop-test in
     let classify = c .before .before .before .before .before .before .before .before .before .before .before
-        .before .before .before .before .classify in
+    .before .before .before .before .classify in
     let arm = c .before .before .before .before .before .before .before .before .before .before .before .before
-        .before .k3 in
+    .before .k3 in
     let enter3 = c .before .before .before .before .before .before .before .before .before .enter3 in
     let h : l1 .i < st .args .n = ltb-true _ _ (and-left (ltb (l1 .i) (st .args .n)) (not (l1 .unsat)) (t1
-        .taken)) in
+    .taken)) in
     let k = read-as _ _ _ _ _ (classify .ensures _) (arm .given .1) in
     let b = subst (ColumnsBelow 64) k (st .pre .1 .1 _ h) in
-    let e = enter3 .ensures .1 in
-    ( b .1, omega (arith, h, l1 .inv .0, l1 .inv .1, l1 .inv .2, l1 .inv .3, st .pre .0 .0, st .pre .0 .1, e),
-    enter3 .ensures .0 _ (l1 .inv .4 .entered) .seen-size, enter3 .ensures .0 _ (l1 .inv .4 .entered)
-    .order-size, )
+    let e = enter3 .ensures .1 in (
+      b .1,
+      omega (arith, h, l1 .inv .0, l1 .inv .1, l1 .inv .2, l1 .inv .3, st .pre .0 .0, st .pre .0 .1, e),
+      enter3 .ensures .0 _ (l1 .inv .4 .entered) .seen-size,
+      enter3 .ensures .0 _ (l1 .inv .4 .entered)
+          .order-size,
+    )
 
 -- src/collect.rt:161:17
 require-non-null-requires-2 : tie.Need-require-non-null-requires-2 Inv-loop μ-loop
 require-non-null-requires-2 c κs =
     let st = c .before .before .before .before .before .before .before .before .before .before .before .before
-        .before .before .before .before .before .before .before .before .before .before .before .before .before
-        .before .before .before .before .before .before .before .before .before .before .before .before .before
-        in
+    .before .before .before .before .before .before .before .before .before .before .before .before .before
+    .before .before .before .before .before .before .before .before .before .before .before .before .before
+    in
     let l1 = c .before .before .before .before .before .before .before .before .before .before .before .before
-        .before .before .before .before .before .before .before .before .before .before .before .loop in
+    .before .before .before .before .before .before .before .before .before .before .before .loop in
     let t1 = c .before .before .before .before .before .before .before .before .before .before .before .before
-        .before .before .before .before .before .before .before .before .before .before .loop-test in
+    .before .before .before .before .before .before .before .before .before .before .loop-test in
     let classify = c .before .before .before .before .before .before .before .before .before .before .before
-        .before .before .before .before .before .before .before .before .before .classify in
+    .before .before .before .before .before .before .before .before .before .classify in
     let arm = c .before .before .before .before .before .before .before .before .before .before .before .before
-        .before .before .before .before .before .before .k3 in
+    .before .before .before .before .before .before .k3 in
     let require-non-null = c .before .before .before .before .before .before .before .before .before
-        .require-non-null in
+    .require-non-null in
     let h : l1 .i < st .args .n = ltb-true _ _ (and-left (ltb (l1 .i) (st .args .n)) (not (l1 .unsat)) (t1
-        .taken)) in
+    .taken)) in
     let k = read-as _ _ _ _ _ (classify .ensures _) (arm .given .1) in
     let b = subst (ColumnsBelow 64) k (st .pre .1 .1 _ h) in
     (b .1, require-non-null .ensures .1 ∙ l1 .inv .6 ∙ st .pre .0 .3)
@@ -376,34 +466,34 @@ require-non-null-requires-2 c κs =
 mul-lefts : tie.Need-mul-lefts Inv-loop μ-loop
 mul-lefts c =
     let st = c .before .before .before .before .before .before .before .before .before .before .before .before
-        .before .before .before .before .before .before .before .before .before .before .before .before .before
-        .before .before .before .before .before .before .before .before .before .before .before .before .before
-        .before .before .before in
+    .before .before .before .before .before .before .before .before .before .before .before .before .before
+    .before .before .before .before .before .before .before .before .before .before .before .before .before
+    .before .before .before in
     let l1 = c .before .before .before .before .before .before .before .before .before .before .before .before
-        .before .before .before .before .before .before .before .before .before .before .before .before .before
-        .before .loop in
+    .before .before .before .before .before .before .before .before .before .before .before .before .before
+    .before .loop in
     let t1 = c .before .before .before .before .before .before .before .before .before .before .before .before
-        .before .before .before .before .before .before .before .before .before .before .before .before .before
-        .loop-test in
+    .before .before .before .before .before .before .before .before .before .before .before .before .before
+    .loop-test in
     let h : l1 .i < st .args .n = ltb-true _ _ (and-left (ltb (l1 .i) (st .args .n)) (not (l1 .unsat)) (t1
-        .taken)) in
+    .taken)) in
     omega (arith, h, l1 .inv .0, l1 .inv .1, l1 .inv .2, l1 .inv .3, st .pre .0 .0, st .pre .0 .1)
 
 -- src/collect.rt:162:17
 slice-write-lefts : tie.Need-slice-write-lefts Inv-loop μ-loop
 slice-write-lefts c =
     let st = c .before .before .before .before .before .before .before .before .before .before .before .before
-        .before .before .before .before .before .before .before .before .before .before .before .before .before
-        .before .before .before .before .before .before .before .before .before .before .before .before .before
-        .before .before .before in
+    .before .before .before .before .before .before .before .before .before .before .before .before .before
+    .before .before .before .before .before .before .before .before .before .before .before .before .before
+    .before .before .before in
     let l1 = c .before .before .before .before .before .before .before .before .before .before .before .before
-        .before .before .before .before .before .before .before .before .before .before .before .before .before
-        .before .loop in
+    .before .before .before .before .before .before .before .before .before .before .before .before .before
+    .before .loop in
     let t1 = c .before .before .before .before .before .before .before .before .before .before .before .before
-        .before .before .before .before .before .before .before .before .before .before .before .before .before
-        .loop-test in
+    .before .before .before .before .before .before .before .before .before .before .before .before .before
+    .loop-test in
     let h : l1 .i < st .args .n = ltb-true _ _ (and-left (ltb (l1 .i) (st .args .n)) (not (l1 .unsat)) (t1
-        .taken)) in
+    .taken)) in
     let z = l1 .inv .4 .linked .left-size in
     omega (arith, h, l1 .inv .0, l1 .inv .1, l1 .inv .2, l1 .inv .3, st .pre .0 .0, st .pre .0 .1, z)
 
@@ -411,34 +501,34 @@ slice-write-lefts c =
 mul-rights : tie.Need-mul-rights Inv-loop μ-loop
 mul-rights c =
     let st = c .before .before .before .before .before .before .before .before .before .before .before .before
-        .before .before .before .before .before .before .before .before .before .before .before .before .before
-        .before .before .before .before .before .before .before .before .before .before .before .before .before
-        .before .before .before in
+    .before .before .before .before .before .before .before .before .before .before .before .before .before
+    .before .before .before .before .before .before .before .before .before .before .before .before .before
+    .before .before .before in
     let l1 = c .before .before .before .before .before .before .before .before .before .before .before .before
-        .before .before .before .before .before .before .before .before .before .before .before .before .before
-        .before .loop in
+    .before .before .before .before .before .before .before .before .before .before .before .before .before
+    .before .loop in
     let t1 = c .before .before .before .before .before .before .before .before .before .before .before .before
-        .before .before .before .before .before .before .before .before .before .before .before .before .before
-        .loop-test in
+    .before .before .before .before .before .before .before .before .before .before .before .before .before
+    .loop-test in
     let h : l1 .i < st .args .n = ltb-true _ _ (and-left (ltb (l1 .i) (st .args .n)) (not (l1 .unsat)) (t1
-        .taken)) in
+    .taken)) in
     omega (arith, h, l1 .inv .0, l1 .inv .1, l1 .inv .2, l1 .inv .3, st .pre .0 .0, st .pre .0 .1)
 
 -- src/collect.rt:163:17
 slice-write-rights : tie.Need-slice-write-rights Inv-loop μ-loop
 slice-write-rights c =
     let st = c .before .before .before .before .before .before .before .before .before .before .before .before
-        .before .before .before .before .before .before .before .before .before .before .before .before .before
-        .before .before .before .before .before .before .before .before .before .before .before .before .before
-        .before .before .before in
+    .before .before .before .before .before .before .before .before .before .before .before .before .before
+    .before .before .before .before .before .before .before .before .before .before .before .before .before
+    .before .before .before in
     let l1 = c .before .before .before .before .before .before .before .before .before .before .before .before
-        .before .before .before .before .before .before .before .before .before .before .before .before .before
-        .before .loop in
+    .before .before .before .before .before .before .before .before .before .before .before .before .before
+    .before .loop in
     let t1 = c .before .before .before .before .before .before .before .before .before .before .before .before
-        .before .before .before .before .before .before .before .before .before .before .before .before .before
-        .loop-test in
+    .before .before .before .before .before .before .before .before .before .before .before .before .before
+    .loop-test in
     let h : l1 .i < st .args .n = ltb-true _ _ (and-left (ltb (l1 .i) (st .args .n)) (not (l1 .unsat)) (t1
-        .taken)) in
+    .taken)) in
     let z = l1 .inv .4 .linked .right-size in
     omega (arith, h, l1 .inv .0, l1 .inv .1, l1 .inv .2, l1 .inv .3, st .pre .0 .0, st .pre .0 .1, z)
 
@@ -446,34 +536,34 @@ slice-write-rights c =
 mul-equals : tie.Need-mul-equals Inv-loop μ-loop
 mul-equals c =
     let st = c .before .before .before .before .before .before .before .before .before .before .before .before
-        .before .before .before .before .before .before .before .before .before .before .before .before .before
-        .before .before .before .before .before .before .before .before .before .before .before .before .before
-        .before .before .before in
+    .before .before .before .before .before .before .before .before .before .before .before .before .before
+    .before .before .before .before .before .before .before .before .before .before .before .before .before
+    .before .before .before in
     let l1 = c .before .before .before .before .before .before .before .before .before .before .before .before
-        .before .before .before .before .before .before .before .before .before .before .before .before .before
-        .before .loop in
+    .before .before .before .before .before .before .before .before .before .before .before .before .before
+    .before .loop in
     let t1 = c .before .before .before .before .before .before .before .before .before .before .before .before
-        .before .before .before .before .before .before .before .before .before .before .before .before .before
-        .loop-test in
+    .before .before .before .before .before .before .before .before .before .before .before .before .before
+    .loop-test in
     let h : l1 .i < st .args .n = ltb-true _ _ (and-left (ltb (l1 .i) (st .args .n)) (not (l1 .unsat)) (t1
-        .taken)) in
+    .taken)) in
     omega (arith, h, l1 .inv .0, l1 .inv .1, l1 .inv .2, l1 .inv .3, st .pre .0 .0, st .pre .0 .1)
 
 -- src/collect.rt:164:17
 slice-write-equals : tie.Need-slice-write-equals Inv-loop μ-loop
 slice-write-equals c =
     let st = c .before .before .before .before .before .before .before .before .before .before .before .before
-        .before .before .before .before .before .before .before .before .before .before .before .before .before
-        .before .before .before .before .before .before .before .before .before .before .before .before .before
-        .before .before .before in
+    .before .before .before .before .before .before .before .before .before .before .before .before .before
+    .before .before .before .before .before .before .before .before .before .before .before .before .before
+    .before .before .before in
     let l1 = c .before .before .before .before .before .before .before .before .before .before .before .before
-        .before .before .before .before .before .before .before .before .before .before .before .before .before
-        .before .loop in
+    .before .before .before .before .before .before .before .before .before .before .before .before .before
+    .before .loop in
     let t1 = c .before .before .before .before .before .before .before .before .before .before .before .before
-        .before .before .before .before .before .before .before .before .before .before .before .before .before
-        .loop-test in
+    .before .before .before .before .before .before .before .before .before .before .before .before .before
+    .loop-test in
     let h : l1 .i < st .args .n = ltb-true _ _ (and-left (ltb (l1 .i) (st .args .n)) (not (l1 .unsat)) (t1
-        .taken)) in
+    .taken)) in
     let z = l1 .inv .4 .linked .equal-size in
     omega (arith, h, l1 .inv .0, l1 .inv .1, l1 .inv .2, l1 .inv .3, st .pre .0 .0, st .pre .0 .1, z)
 
@@ -481,76 +571,99 @@ slice-write-equals c =
 add-edges : tie.Need-add-edges Inv-loop μ-loop
 add-edges c =
     let st = c .before .before .before .before .before .before .before .before .before .before .before .before
-        .before .before .before .before .before .before .before .before .before .before .before .before .before
-        .before .before .before .before .before .before .before .before .before .before .before .before .before
-        .before .before .before in
+    .before .before .before .before .before .before .before .before .before .before .before .before .before
+    .before .before .before .before .before .before .before .before .before .before .before .before .before
+    .before .before .before in
     let l1 = c .before .before .before .before .before .before .before .before .before .before .before .before
-        .before .before .before .before .before .before .before .before .before .before .before .before .before
-        .before .loop in
+    .before .before .before .before .before .before .before .before .before .before .before .before .before
+    .before .loop in
     let t1 = c .before .before .before .before .before .before .before .before .before .before .before .before
-        .before .before .before .before .before .before .before .before .before .before .before .before .before
-        .loop-test in
+    .before .before .before .before .before .before .before .before .before .before .before .before .before
+    .loop-test in
     let h : l1 .i < st .args .n = ltb-true _ _ (and-left (ltb (l1 .i) (st .args .n)) (not (l1 .unsat)) (t1
-        .taken)) in
+    .taken)) in
     omega (arith, h, l1 .inv .0, l1 .inv .1, l1 .inv .2, l1 .inv .3, st .pre .0 .0, st .pre .0 .1)
 
 -- src/collect.rt:138:5
 loop-less-3 : tie.Need-loop-less-3 Inv-loop μ-loop
 loop-less-3 c =
     let st = c .before .before .before .before .before .before .before .before .before .before .before .before
-        .before .before .before .before .before .before .before .before .before .before .before .before .before
-        .before .before .before .before .before .before .before .before .before .before .before .before .before
-        .before .before .before in
+    .before .before .before .before .before .before .before .before .before .before .before .before .before
+    .before .before .before .before .before .before .before .before .before .before .before .before .before
+    .before .before .before in
     let l1 = c .before .before .before .before .before .before .before .before .before .before .before .before
-        .before .before .before .before .before .before .before .before .before .before .before .before .before
-        .before .loop in
+    .before .before .before .before .before .before .before .before .before .before .before .before .before
+    .before .loop in
     let t1 = c .before .before .before .before .before .before .before .before .before .before .before .before
-        .before .before .before .before .before .before .before .before .before .before .before .before .before
-        .loop-test in
+    .before .before .before .before .before .before .before .before .before .before .before .before .before
+    .loop-test in
     let h : l1 .i < st .args .n = ltb-true _ _ (and-left (ltb (l1 .i) (st .args .n)) (not (l1 .unsat)) (t1
-        .taken)) in
+    .taken)) in
     omega (arith, h, l1 .inv .0, l1 .inv .1, l1 .inv .2, l1 .inv .3, st .pre .0 .0, st .pre .0 .1)
 
 -- src/collect.rt:138:5
 loop-again-3 : tie.Need-loop-again-3 Inv-loop μ-loop
 loop-again-3 c =
     let st = c .before .before .before .before .before .before .before .before .before .before .before .before
-        .before .before .before .before .before .before .before .before .before .before .before .before .before
-        .before .before .before .before .before .before .before .before .before .before .before .before .before
-        .before .before .before in
+    .before .before .before .before .before .before .before .before .before .before .before .before .before
+    .before .before .before .before .before .before .before .before .before .before .before .before .before
+    .before .before .before in
     let l1 = c .before .before .before .before .before .before .before .before .before .before .before .before
-        .before .before .before .before .before .before .before .before .before .before .before .before .before
-        .before .loop in
+    .before .before .before .before .before .before .before .before .before .before .before .before .before
+    .before .loop in
     let t1 = c .before .before .before .before .before .before .before .before .before .before .before .before
-        .before .before .before .before .before .before .before .before .before .before .before .before .before
-        .loop-test in
+    .before .before .before .before .before .before .before .before .before .before .before .before .before
+    .loop-test in
     let classify = c .before .before .before .before .before .before .before .before .before .before .before
-        .before .before .before .before .before .before .before .before .before .before .before .before
-        .classify in
+    .before .before .before .before .before .before .before .before .before .before .before .before
+    .classify in
     let arm = c .before .before .before .before .before .before .before .before .before .before .before .before
-        .before .before .before .before .before .before .before .before .before .k3 in
+    .before .before .before .before .before .before .before .before .before .k3 in
     let enter3 = c .before .before .before .before .before .before .before .before .before .before .before
-        .before .before .before .before .before .before .enter3 in
+    .before .before .before .before .before .before .enter3 in
     let require-non-null = c .before .before .before .before .before .before .before .before .before .before
-        .before .before .require-non-null in
+    .before .before .require-non-null in
     let enter4 = c .before .before .before .before .before .before .before .enter4 in
     let require-non-null2 = c .before .before .require-non-null2 in
     let h : l1 .i < st .args .n = ltb-true _ _ (and-left (ltb (l1 .i) (st .args .n)) (not (l1 .unsat)) (t1
-        .taken)) in
+    .taken)) in
     let k = read-as _ _ _ _ _ (classify .ensures _) (arm .given .1) in
     let b = subst (ColumnsBelow 64) k (st .pre .1 .1 _ h) in
     let e0 = enter3 .ensures .1 in
-    let e1 = enter4 .ensures .1 in
-    ( omega (arith, h, l1 .inv .0, l1 .inv .1, l1 .inv .2, l1 .inv .3, st .pre .0 .0, st .pre .0 .1), omega
-    (arith, h, l1 .inv .0, l1 .inv .1, l1 .inv .2, l1 .inv .3, st .pre .0 .0, st .pre .0 .1, e0, e1), omega
-    (arith, h, l1 .inv .0, l1 .inv .1, l1 .inv .2, l1 .inv .3, st .pre .0 .0, st .pre .0 .1), omega ( arith, h,
-    l1 .inv .0, l1 .inv .1, l1 .inv .2, l1 .inv .3, st .pre .0 .0, st .pre .0 .1, ), equality-turn _ _ _ _ _ _ _
-    _ _ _ _ _ _ _ _ _ (l1 .inv .4) _ _ (collect-more _ _ _ _ (l1 .inv .4 .stops) (not-true (l1 .unsat)
-    (and-right (ltb (l1 .i) (st .args .n)) (not (l1 .unsat)) (t1 .taken)))) _ _ _ _ _ _ _ _ _ _ _ (not-true (l1
-    .unsat) (and-right (ltb (l1 .i) (st .args .n)) (not (l1 .unsat)) (t1 .taken))) (enter3 .ensures .0)
-    (require-non-null .ensures .0) (enter4 .ensures .0) (require-non-null2 .ensures .0) k (omega ( arith, h, l1
-    .inv .0, l1 .inv .1, l1 .inv .2, l1 .inv .3, st .pre .0 .0, st .pre .0 .1, )) (b .0) (b .1), l1 .inv .5,
-    require-non-null2 .ensures .1 ∙ require-non-null .ensures .1 ∙ l1 .inv .6, )
+    let e1 = enter4 .ensures .1 in (
+      omega (arith, h, l1 .inv .0, l1 .inv .1, l1 .inv .2, l1 .inv .3, st .pre .0 .0, st .pre .0 .1),
+      omega
+          (arith, h, l1 .inv .0, l1 .inv .1, l1 .inv .2, l1 .inv .3, st .pre .0 .0, st .pre .0 .1, e0, e1),
+      omega
+          (arith, h, l1 .inv .0, l1 .inv .1, l1 .inv .2, l1 .inv .3, st .pre .0 .0, st .pre .0 .1),
+      omega (
+        arith,
+        h,
+        l1 .inv .0,
+        l1 .inv .1,
+        l1 .inv .2,
+        l1 .inv .3,
+        st .pre .0 .0,
+        st .pre .0 .1,
+      ),
+      equality-turn _ _ _ _ _ _ _
+          _ _ _ _ _ _ _ _ _ (l1 .inv .4) _ _ (collect-more _ _ _ _ (l1 .inv .4 .stops) (not-true (l1 .unsat)
+          (and-right (ltb (l1 .i) (st .args .n)) (not (l1 .unsat)) (t1 .taken)))) _ _ _ _ _ _ _ _ _ _ _ (not-true (l1
+          .unsat) (and-right (ltb (l1 .i) (st .args .n)) (not (l1 .unsat)) (t1 .taken))) (enter3 .ensures .0)
+          (require-non-null .ensures .0) (enter4 .ensures .0) (require-non-null2 .ensures .0) k (omega (
+            arith,
+            h,
+            l1
+                .inv .0,
+            l1 .inv .1,
+            l1 .inv .2,
+            l1 .inv .3,
+            st .pre .0 .0,
+            st .pre .0 .1,
+          )) (b .0) (b .1),
+      l1 .inv .5,
+      require-non-null2 .ensures .1 ∙ require-non-null .ensures .1 ∙ l1 .inv .6,
+    )
 
 -- src/collect.rt:168:32
 enum-known-k-4 : tie.Need-enum-known-k-4 Inv-loop μ-loop
@@ -564,65 +677,79 @@ slice-aggregate-enter-5 c = search needs
 enter-requires-5 : tie.Need-enter-requires-5 Inv-loop μ-loop
 enter-requires-5 c κs =
     let st = c .before .before .before .before .before .before .before .before .before .before .before .before
-        .before .before .before .before .before .before .before .before .before .before .before in
+    .before .before .before .before .before .before .before .before .before .before .before in
     let l1 = c .before .before .before .before .before .before .before .before .loop in
     let t1 = c .before .before .before .before .before .before .before .loop-test in
     let classify = c .before .before .before .before .before .classify in
     let arm = c .before .before .before .k4 in
     let h : l1 .i < st .args .n = ltb-true _ _ (and-left (ltb (l1 .i) (st .args .n)) (not (l1 .unsat)) (t1
-        .taken)) in
+    .taken)) in
     let k = read-as _ _ _ _ _ (classify .ensures _) (arm .given .1) in
-    let b = subst (ColumnsBelow 64) k (st .pre .1 .1 _ h) in
-    ( b, omega (arith, h, l1 .inv .0, l1 .inv .1, l1 .inv .2, l1 .inv .3, st .pre .0 .0, st .pre .0 .1), l1 .inv
-    .4 .entered .seen-size, l1 .inv .4 .entered .order-size, )
+    let b = subst (ColumnsBelow 64) k (st .pre .1 .1 _ h) in (
+      b,
+      omega (arith, h, l1 .inv .0, l1 .inv .1, l1 .inv .2, l1 .inv .3, st .pre .0 .0, st .pre .0 .1),
+      l1 .inv
+          .4 .entered .seen-size,
+      l1 .inv .4 .entered .order-size,
+    )
 
 -- src/collect.rt:171:23
 add-to-column-requires-3 : tie.Need-add-to-column-requires-3 Inv-loop μ-loop
 add-to-column-requires-3 c κs =
     let st = c .before .before .before .before .before .before .before .before .before .before .before .before
-        .before .before .before .before .before .before .before .before .before .before .before .before .before
-        .before .before .before .before in
+    .before .before .before .before .before .before .before .before .before .before .before .before .before
+    .before .before .before .before in
     let l1 = c .before .before .before .before .before .before .before .before .before .before .before .before
-        .before .before .loop in
+    .before .before .loop in
     let t1 = c .before .before .before .before .before .before .before .before .before .before .before .before
-        .before .loop-test in
+    .before .loop-test in
     let classify = c .before .before .before .before .before .before .before .before .before .before .before
-        .classify in
+    .classify in
     let arm = c .before .before .before .before .before .before .before .before .before .k4 in
     let h : l1 .i < st .args .n = ltb-true _ _ (and-left (ltb (l1 .i) (st .args .n)) (not (l1 .unsat)) (t1
-        .taken)) in
+    .taken)) in
     let k = read-as _ _ _ _ _ (classify .ensures _) (arm .given .1) in
-    let b = subst (ColumnsBelow 64) k (st .pre .1 .1 _ h) in
-    ( ( record { size = l1 .inv .6 ∙ st .pre .0 .3; narrow = omega (arith, l1 .inv .5, st .pre .0 .1); fine = l1
-    .inv .4 .shows .fine; }, b, omega (arith, h, l1 .inv .5, st .pre .0 .0), ), subst (ToldConjunct _ _) k (st
-    .pre .1 .0 _ h), )
+    let b = subst (ColumnsBelow 64) k (st .pre .1 .1 _ h) in (
+      (
+        record {
+          size = l1 .inv .6 ∙ st .pre .0 .3;
+          narrow = omega (arith, l1 .inv .5, st .pre .0 .1);
+          fine = l1
+              .inv .4 .shows .fine;
+        },
+        b,
+        omega (arith, h, l1 .inv .5, st .pre .0 .0),
+      ),
+      subst (ToldConjunct _ _) k (st
+          .pre .1 .0 _ h),
+    )
 
 -- src/collect.rt:172:17
 mul-kept : tie.Need-mul-kept Inv-loop μ-loop
 mul-kept c =
     let st = c .before .before .before .before .before .before .before .before .before .before .before .before
-        .before .before .before .before .before .before .before .before .before .before .before .before .before
-        .before .before .before .before .before .before .before .before .before in
+    .before .before .before .before .before .before .before .before .before .before .before .before .before
+    .before .before .before .before .before .before .before .before .before in
     let l1 = c .before .before .before .before .before .before .before .before .before .before .before .before
-        .before .before .before .before .before .before .before .loop in
+    .before .before .before .before .before .before .before .loop in
     let t1 = c .before .before .before .before .before .before .before .before .before .before .before .before
-        .before .before .before .before .before .before .loop-test in
+    .before .before .before .before .before .before .loop-test in
     let h : l1 .i < st .args .n = ltb-true _ _ (and-left (ltb (l1 .i) (st .args .n)) (not (l1 .unsat)) (t1
-        .taken)) in
+    .taken)) in
     omega (arith, h, l1 .inv .0, l1 .inv .1, l1 .inv .2, l1 .inv .3, st .pre .0 .0, st .pre .0 .1)
 
 -- src/collect.rt:172:17
 slice-write-kept : tie.Need-slice-write-kept Inv-loop μ-loop
 slice-write-kept c =
     let st = c .before .before .before .before .before .before .before .before .before .before .before .before
-        .before .before .before .before .before .before .before .before .before .before .before .before .before
-        .before .before .before .before .before .before .before .before .before in
+    .before .before .before .before .before .before .before .before .before .before .before .before .before
+    .before .before .before .before .before .before .before .before .before in
     let l1 = c .before .before .before .before .before .before .before .before .before .before .before .before
-        .before .before .before .before .before .before .before .loop in
+    .before .before .before .before .before .before .before .loop in
     let t1 = c .before .before .before .before .before .before .before .before .before .before .before .before
-        .before .before .before .before .before .before .loop-test in
+    .before .before .before .before .before .before .loop-test in
     let h : l1 .i < st .args .n = ltb-true _ _ (and-left (ltb (l1 .i) (st .args .n)) (not (l1 .unsat)) (t1
-        .taken)) in
+    .taken)) in
     let z = l1 .inv .4 .keeping .size in
     omega (arith, h, l1 .inv .0, l1 .inv .1, l1 .inv .2, l1 .inv .3, st .pre .0 .0, st .pre .0 .1, z)
 
@@ -630,60 +757,93 @@ slice-write-kept c =
 add-keeps : tie.Need-add-keeps Inv-loop μ-loop
 add-keeps c =
     let st = c .before .before .before .before .before .before .before .before .before .before .before .before
-        .before .before .before .before .before .before .before .before .before .before .before .before .before
-        .before .before .before .before .before .before .before .before .before in
+    .before .before .before .before .before .before .before .before .before .before .before .before .before
+    .before .before .before .before .before .before .before .before .before in
     let l1 = c .before .before .before .before .before .before .before .before .before .before .before .before
-        .before .before .before .before .before .before .before .loop in
+    .before .before .before .before .before .before .before .loop in
     let t1 = c .before .before .before .before .before .before .before .before .before .before .before .before
-        .before .before .before .before .before .before .loop-test in
+    .before .before .before .before .before .before .loop-test in
     let h : l1 .i < st .args .n = ltb-true _ _ (and-left (ltb (l1 .i) (st .args .n)) (not (l1 .unsat)) (t1
-        .taken)) in
+    .taken)) in
     omega (arith, h, l1 .inv .0, l1 .inv .1, l1 .inv .2, l1 .inv .3, st .pre .0 .0, st .pre .0 .1)
 
 -- src/collect.rt:138:5
 loop-less-4 : tie.Need-loop-less-4 Inv-loop μ-loop
 loop-less-4 c =
     let st = c .before .before .before .before .before .before .before .before .before .before .before .before
-        .before .before .before .before .before .before .before .before .before .before .before .before .before
-        .before .before .before .before .before .before .before .before .before in
+    .before .before .before .before .before .before .before .before .before .before .before .before .before
+    .before .before .before .before .before .before .before .before .before in
     let l1 = c .before .before .before .before .before .before .before .before .before .before .before .before
-        .before .before .before .before .before .before .before .loop in
+    .before .before .before .before .before .before .before .loop in
     let t1 = c .before .before .before .before .before .before .before .before .before .before .before .before
-        .before .before .before .before .before .before .loop-test in
+    .before .before .before .before .before .before .loop-test in
     let h : l1 .i < st .args .n = ltb-true _ _ (and-left (ltb (l1 .i) (st .args .n)) (not (l1 .unsat)) (t1
-        .taken)) in
+    .taken)) in
     omega (arith, h, l1 .inv .0, l1 .inv .1, l1 .inv .2, l1 .inv .3, st .pre .0 .0, st .pre .0 .1)
 
 -- src/collect.rt:138:5
 loop-again-4 : tie.Need-loop-again-4 Inv-loop μ-loop
 loop-again-4 c =
     let st = c .before .before .before .before .before .before .before .before .before .before .before .before
-        .before .before .before .before .before .before .before .before .before .before .before .before .before
-        .before .before .before .before .before .before .before .before .before in
+    .before .before .before .before .before .before .before .before .before .before .before .before .before
+    .before .before .before .before .before .before .before .before .before in
     let l1 = c .before .before .before .before .before .before .before .before .before .before .before .before
-        .before .before .before .before .before .before .before .loop in
+    .before .before .before .before .before .before .before .loop in
     let t1 = c .before .before .before .before .before .before .before .before .before .before .before .before
-        .before .before .before .before .before .before .loop-test in
+    .before .before .before .before .before .before .loop-test in
     let classify = c .before .before .before .before .before .before .before .before .before .before .before
-        .before .before .before .before .before .classify in
+    .before .before .before .before .before .classify in
     let arm = c .before .before .before .before .before .before .before .before .before .before .before .before
-        .before .before .k4 in
+    .before .before .k4 in
     let enter5 = c .before .before .before .before .before .before .before .before .before .before .enter5 in
     let add-to-column3 = c .before .before .before .before .add-to-column3 in
     let h : l1 .i < st .args .n = ltb-true _ _ (and-left (ltb (l1 .i) (st .args .n)) (not (l1 .unsat)) (t1
-        .taken)) in
+    .taken)) in
     let k = read-as _ _ _ _ _ (classify .ensures _) (arm .given .1) in
     let b = subst (ColumnsBelow 64) k (st .pre .1 .1 _ h) in
-    let e0 = enter5 .ensures .1 in
-    ( omega (arith, h, l1 .inv .0, l1 .inv .1, l1 .inv .2, l1 .inv .3, st .pre .0 .0, st .pre .0 .1), omega
-    (arith, h, l1 .inv .0, l1 .inv .1, l1 .inv .2, l1 .inv .3, st .pre .0 .0, st .pre .0 .1, e0), omega ( arith,
-    h, l1 .inv .0, l1 .inv .1, l1 .inv .2, l1 .inv .3, st .pre .0 .0, st .pre .0 .1, ), omega ( arith, h, l1
-    .inv .0, l1 .inv .1, l1 .inv .2, l1 .inv .3, st .pre .0 .0, st .pre .0 .1, ), recorded-turn _ _ _ _ _ _ _ _
-    _ _ _ _ _ _ _ _ (l1 .inv .4) _ _ (collect-more _ _ _ _ (l1 .inv .4 .stops) (not-true (l1 .unsat) (and-right
-    (ltb (l1 .i) (st .args .n)) (not (l1 .unsat)) (t1 .taken)))) _ _ _ _ _ _ _ _ _ _ k (omega ( arith, h, l1
-    .inv .0, l1 .inv .1, l1 .inv .2, l1 .inv .3, st .pre .0 .0, st .pre .0 .1, )) (enter5 .ensures .0)
-    (add-to-column3 .ensures .0), add-to-column3 .ensures .1 .1 ∙ l1 .inv .5, add-to-column3 .ensures .1 .0 ∙ l1
-    .inv .6, )
+    let e0 = enter5 .ensures .1 in (
+      omega (arith, h, l1 .inv .0, l1 .inv .1, l1 .inv .2, l1 .inv .3, st .pre .0 .0, st .pre .0 .1),
+      omega
+          (arith, h, l1 .inv .0, l1 .inv .1, l1 .inv .2, l1 .inv .3, st .pre .0 .0, st .pre .0 .1, e0),
+      omega (
+        arith,
+        h,
+        l1 .inv .0,
+        l1 .inv .1,
+        l1 .inv .2,
+        l1 .inv .3,
+        st .pre .0 .0,
+        st .pre .0 .1,
+      ),
+      omega (
+        arith,
+        h,
+        l1
+            .inv .0,
+        l1 .inv .1,
+        l1 .inv .2,
+        l1 .inv .3,
+        st .pre .0 .0,
+        st .pre .0 .1,
+      ),
+      recorded-turn _ _ _ _ _ _ _ _
+          _ _ _ _ _ _ _ _ (l1 .inv .4) _ _ (collect-more _ _ _ _ (l1 .inv .4 .stops) (not-true (l1 .unsat) (and-right
+          (ltb (l1 .i) (st .args .n)) (not (l1 .unsat)) (t1 .taken)))) _ _ _ _ _ _ _ _ _ _ k (omega (
+            arith,
+            h,
+            l1
+                .inv .0,
+            l1 .inv .1,
+            l1 .inv .2,
+            l1 .inv .3,
+            st .pre .0 .0,
+            st .pre .0 .1,
+          )) (enter5 .ensures .0)
+          (add-to-column3 .ensures .0),
+      add-to-column3 .ensures .1 .1 ∙ l1 .inv .5,
+      add-to-column3 .ensures .1 .0 ∙ l1
+          .inv .6,
+    )
 
 -- src/collect.rt:176:35
 enum-known-k-5 : tie.Need-enum-known-k-5 Inv-loop μ-loop
@@ -697,33 +857,37 @@ slice-aggregate-enter-6 c = search needs
 enter-requires-6 : tie.Need-enter-requires-6 Inv-loop μ-loop
 enter-requires-6 c κs =
     let st = c .before .before .before .before .before .before .before .before .before .before .before .before
-        .before .before .before .before .before .before .before .before .before .before .before in
+    .before .before .before .before .before .before .before .before .before .before .before in
     let l1 = c .before .before .before .before .before .before .before .before .loop in
     let t1 = c .before .before .before .before .before .before .before .loop-test in
     let classify = c .before .before .before .before .before .classify in
     let arm = c .before .before .before .k5 in
     let h : l1 .i < st .args .n = ltb-true _ _ (and-left (ltb (l1 .i) (st .args .n)) (not (l1 .unsat)) (t1
-        .taken)) in
+    .taken)) in
     let k = read-as _ _ _ _ _ (classify .ensures _) (arm .given .1) in
-    let b = subst (ColumnsBelow 64) k (st .pre .1 .1 _ h) in
-    ( b .0, omega (arith, h, l1 .inv .0, l1 .inv .1, l1 .inv .2, l1 .inv .3, st .pre .0 .0, st .pre .0 .1), l1
-    .inv .4 .entered .seen-size, l1 .inv .4 .entered .order-size, )
+    let b = subst (ColumnsBelow 64) k (st .pre .1 .1 _ h) in (
+      b .0,
+      omega (arith, h, l1 .inv .0, l1 .inv .1, l1 .inv .2, l1 .inv .3, st .pre .0 .0, st .pre .0 .1),
+      l1
+          .inv .4 .entered .seen-size,
+      l1 .inv .4 .entered .order-size,
+    )
 
 -- src/collect.rt:178:17
 require-non-null-requires-3 : tie.Need-require-non-null-requires-3 Inv-loop μ-loop
 require-non-null-requires-3 c κs =
     let st = c .before .before .before .before .before .before .before .before .before .before .before .before
-        .before .before .before .before .before .before .before .before .before .before .before .before .before
-        .before .before .before in
+    .before .before .before .before .before .before .before .before .before .before .before .before .before
+    .before .before .before in
     let l1 = c .before .before .before .before .before .before .before .before .before .before .before .before
-        .before .loop in
+    .before .loop in
     let t1 = c .before .before .before .before .before .before .before .before .before .before .before .before
-        .loop-test in
+    .loop-test in
     let classify = c .before .before .before .before .before .before .before .before .before .before .classify
-        in
+    in
     let arm = c .before .before .before .before .before .before .before .before .k5 in
     let h : l1 .i < st .args .n = ltb-true _ _ (and-left (ltb (l1 .i) (st .args .n)) (not (l1 .unsat)) (t1
-        .taken)) in
+    .taken)) in
     let k = read-as _ _ _ _ _ (classify .ensures _) (arm .given .1) in
     let b = subst (ColumnsBelow 64) k (st .pre .1 .1 _ h) in
     (b .0, l1 .inv .6 ∙ st .pre .0 .3)
@@ -736,45 +900,48 @@ slice-aggregate-enter-7 c = search needs
 enter-requires-7 : tie.Need-enter-requires-7 Inv-loop μ-loop
 enter-requires-7 c κs =
     let st = c .before .before .before .before .before .before .before .before .before .before .before .before
-        .before .before .before .before .before .before .before .before .before .before .before .before .before
-        .before .before .before .before .before .before .before .before in
+    .before .before .before .before .before .before .before .before .before .before .before .before .before
+    .before .before .before .before .before .before .before .before in
     let l1 = c .before .before .before .before .before .before .before .before .before .before .before .before
-        .before .before .before .before .before .before .loop in
+    .before .before .before .before .before .before .loop in
     let t1 = c .before .before .before .before .before .before .before .before .before .before .before .before
-        .before .before .before .before .before .loop-test in
+    .before .before .before .before .before .loop-test in
     let classify = c .before .before .before .before .before .before .before .before .before .before .before
-        .before .before .before .before .classify in
+    .before .before .before .before .classify in
     let arm = c .before .before .before .before .before .before .before .before .before .before .before .before
-        .before .k5 in
+    .before .k5 in
     let enter6 = c .before .before .before .before .before .before .before .before .before .enter6 in
     let h : l1 .i < st .args .n = ltb-true _ _ (and-left (ltb (l1 .i) (st .args .n)) (not (l1 .unsat)) (t1
-        .taken)) in
+    .taken)) in
     let k = read-as _ _ _ _ _ (classify .ensures _) (arm .given .1) in
     let b = subst (ColumnsBelow 64) k (st .pre .1 .1 _ h) in
-    let e = enter6 .ensures .1 in
-    ( b .1, omega (arith, h, l1 .inv .0, l1 .inv .1, l1 .inv .2, l1 .inv .3, st .pre .0 .0, st .pre .0 .1, e),
-    enter6 .ensures .0 _ (l1 .inv .4 .entered) .seen-size, enter6 .ensures .0 _ (l1 .inv .4 .entered)
-    .order-size, )
+    let e = enter6 .ensures .1 in (
+      b .1,
+      omega (arith, h, l1 .inv .0, l1 .inv .1, l1 .inv .2, l1 .inv .3, st .pre .0 .0, st .pre .0 .1, e),
+      enter6 .ensures .0 _ (l1 .inv .4 .entered) .seen-size,
+      enter6 .ensures .0 _ (l1 .inv .4 .entered)
+          .order-size,
+    )
 
 -- src/collect.rt:180:17
 require-non-null-requires-4 : tie.Need-require-non-null-requires-4 Inv-loop μ-loop
 require-non-null-requires-4 c κs =
     let st = c .before .before .before .before .before .before .before .before .before .before .before .before
-        .before .before .before .before .before .before .before .before .before .before .before .before .before
-        .before .before .before .before .before .before .before .before .before .before .before .before .before
-        in
+    .before .before .before .before .before .before .before .before .before .before .before .before .before
+    .before .before .before .before .before .before .before .before .before .before .before .before .before
+    in
     let l1 = c .before .before .before .before .before .before .before .before .before .before .before .before
-        .before .before .before .before .before .before .before .before .before .before .before .loop in
+    .before .before .before .before .before .before .before .before .before .before .before .loop in
     let t1 = c .before .before .before .before .before .before .before .before .before .before .before .before
-        .before .before .before .before .before .before .before .before .before .before .loop-test in
+    .before .before .before .before .before .before .before .before .before .before .loop-test in
     let classify = c .before .before .before .before .before .before .before .before .before .before .before
-        .before .before .before .before .before .before .before .before .before .classify in
+    .before .before .before .before .before .before .before .before .before .classify in
     let arm = c .before .before .before .before .before .before .before .before .before .before .before .before
-        .before .before .before .before .before .before .k5 in
+    .before .before .before .before .before .before .k5 in
     let require-non-null3 = c .before .before .before .before .before .before .before .before .before
-        .require-non-null3 in
+    .require-non-null3 in
     let h : l1 .i < st .args .n = ltb-true _ _ (and-left (ltb (l1 .i) (st .args .n)) (not (l1 .unsat)) (t1
-        .taken)) in
+    .taken)) in
     let k = read-as _ _ _ _ _ (classify .ensures _) (arm .given .1) in
     let b = subst (ColumnsBelow 64) k (st .pre .1 .1 _ h) in
     (b .1, require-non-null3 .ensures .1 ∙ l1 .inv .6 ∙ st .pre .0 .3)
@@ -783,34 +950,34 @@ require-non-null-requires-4 c κs =
 mul-kept-2 : tie.Need-mul-kept-2 Inv-loop μ-loop
 mul-kept-2 c =
     let st = c .before .before .before .before .before .before .before .before .before .before .before .before
-        .before .before .before .before .before .before .before .before .before .before .before .before .before
-        .before .before .before .before .before .before .before .before .before .before .before .before .before
-        .before .before .before in
+    .before .before .before .before .before .before .before .before .before .before .before .before .before
+    .before .before .before .before .before .before .before .before .before .before .before .before .before
+    .before .before .before in
     let l1 = c .before .before .before .before .before .before .before .before .before .before .before .before
-        .before .before .before .before .before .before .before .before .before .before .before .before .before
-        .before .loop in
+    .before .before .before .before .before .before .before .before .before .before .before .before .before
+    .before .loop in
     let t1 = c .before .before .before .before .before .before .before .before .before .before .before .before
-        .before .before .before .before .before .before .before .before .before .before .before .before .before
-        .loop-test in
+    .before .before .before .before .before .before .before .before .before .before .before .before .before
+    .loop-test in
     let h : l1 .i < st .args .n = ltb-true _ _ (and-left (ltb (l1 .i) (st .args .n)) (not (l1 .unsat)) (t1
-        .taken)) in
+    .taken)) in
     omega (arith, h, l1 .inv .0, l1 .inv .1, l1 .inv .2, l1 .inv .3, st .pre .0 .0, st .pre .0 .1)
 
 -- src/collect.rt:181:17
 slice-write-kept-2 : tie.Need-slice-write-kept-2 Inv-loop μ-loop
 slice-write-kept-2 c =
     let st = c .before .before .before .before .before .before .before .before .before .before .before .before
-        .before .before .before .before .before .before .before .before .before .before .before .before .before
-        .before .before .before .before .before .before .before .before .before .before .before .before .before
-        .before .before .before in
+    .before .before .before .before .before .before .before .before .before .before .before .before .before
+    .before .before .before .before .before .before .before .before .before .before .before .before .before
+    .before .before .before in
     let l1 = c .before .before .before .before .before .before .before .before .before .before .before .before
-        .before .before .before .before .before .before .before .before .before .before .before .before .before
-        .before .loop in
+    .before .before .before .before .before .before .before .before .before .before .before .before .before
+    .before .loop in
     let t1 = c .before .before .before .before .before .before .before .before .before .before .before .before
-        .before .before .before .before .before .before .before .before .before .before .before .before .before
-        .loop-test in
+    .before .before .before .before .before .before .before .before .before .before .before .before .before
+    .loop-test in
     let h : l1 .i < st .args .n = ltb-true _ _ (and-left (ltb (l1 .i) (st .args .n)) (not (l1 .unsat)) (t1
-        .taken)) in
+    .taken)) in
     let z = l1 .inv .4 .keeping .size in
     omega (arith, h, l1 .inv .0, l1 .inv .1, l1 .inv .2, l1 .inv .3, st .pre .0 .0, st .pre .0 .1, z)
 
@@ -818,76 +985,100 @@ slice-write-kept-2 c =
 add-keeps-2 : tie.Need-add-keeps-2 Inv-loop μ-loop
 add-keeps-2 c =
     let st = c .before .before .before .before .before .before .before .before .before .before .before .before
-        .before .before .before .before .before .before .before .before .before .before .before .before .before
-        .before .before .before .before .before .before .before .before .before .before .before .before .before
-        .before .before .before in
+    .before .before .before .before .before .before .before .before .before .before .before .before .before
+    .before .before .before .before .before .before .before .before .before .before .before .before .before
+    .before .before .before in
     let l1 = c .before .before .before .before .before .before .before .before .before .before .before .before
-        .before .before .before .before .before .before .before .before .before .before .before .before .before
-        .before .loop in
+    .before .before .before .before .before .before .before .before .before .before .before .before .before
+    .before .loop in
     let t1 = c .before .before .before .before .before .before .before .before .before .before .before .before
-        .before .before .before .before .before .before .before .before .before .before .before .before .before
-        .loop-test in
+    .before .before .before .before .before .before .before .before .before .before .before .before .before
+    .loop-test in
     let h : l1 .i < st .args .n = ltb-true _ _ (and-left (ltb (l1 .i) (st .args .n)) (not (l1 .unsat)) (t1
-        .taken)) in
+    .taken)) in
     omega (arith, h, l1 .inv .0, l1 .inv .1, l1 .inv .2, l1 .inv .3, st .pre .0 .0, st .pre .0 .1)
 
 -- src/collect.rt:138:5
 loop-less-5 : tie.Need-loop-less-5 Inv-loop μ-loop
 loop-less-5 c =
     let st = c .before .before .before .before .before .before .before .before .before .before .before .before
-        .before .before .before .before .before .before .before .before .before .before .before .before .before
-        .before .before .before .before .before .before .before .before .before .before .before .before .before
-        .before .before .before in
+    .before .before .before .before .before .before .before .before .before .before .before .before .before
+    .before .before .before .before .before .before .before .before .before .before .before .before .before
+    .before .before .before in
     let l1 = c .before .before .before .before .before .before .before .before .before .before .before .before
-        .before .before .before .before .before .before .before .before .before .before .before .before .before
-        .before .loop in
+    .before .before .before .before .before .before .before .before .before .before .before .before .before
+    .before .loop in
     let t1 = c .before .before .before .before .before .before .before .before .before .before .before .before
-        .before .before .before .before .before .before .before .before .before .before .before .before .before
-        .loop-test in
+    .before .before .before .before .before .before .before .before .before .before .before .before .before
+    .loop-test in
     let h : l1 .i < st .args .n = ltb-true _ _ (and-left (ltb (l1 .i) (st .args .n)) (not (l1 .unsat)) (t1
-        .taken)) in
+    .taken)) in
     omega (arith, h, l1 .inv .0, l1 .inv .1, l1 .inv .2, l1 .inv .3, st .pre .0 .0, st .pre .0 .1)
 
 -- src/collect.rt:138:5
 loop-again-5 : tie.Need-loop-again-5 Inv-loop μ-loop
 loop-again-5 c =
     let st = c .before .before .before .before .before .before .before .before .before .before .before .before
-        .before .before .before .before .before .before .before .before .before .before .before .before .before
-        .before .before .before .before .before .before .before .before .before .before .before .before .before
-        .before .before .before in
+    .before .before .before .before .before .before .before .before .before .before .before .before .before
+    .before .before .before .before .before .before .before .before .before .before .before .before .before
+    .before .before .before in
     let l1 = c .before .before .before .before .before .before .before .before .before .before .before .before
-        .before .before .before .before .before .before .before .before .before .before .before .before .before
-        .before .loop in
+    .before .before .before .before .before .before .before .before .before .before .before .before .before
+    .before .loop in
     let t1 = c .before .before .before .before .before .before .before .before .before .before .before .before
-        .before .before .before .before .before .before .before .before .before .before .before .before .before
-        .loop-test in
+    .before .before .before .before .before .before .before .before .before .before .before .before .before
+    .loop-test in
     let classify = c .before .before .before .before .before .before .before .before .before .before .before
-        .before .before .before .before .before .before .before .before .before .before .before .before
-        .classify in
+    .before .before .before .before .before .before .before .before .before .before .before .before
+    .classify in
     let arm = c .before .before .before .before .before .before .before .before .before .before .before .before
-        .before .before .before .before .before .before .before .before .before .k5 in
+    .before .before .before .before .before .before .before .before .before .k5 in
     let enter6 = c .before .before .before .before .before .before .before .before .before .before .before
-        .before .before .before .before .before .before .enter6 in
+    .before .before .before .before .before .before .enter6 in
     let require-non-null3 = c .before .before .before .before .before .before .before .before .before .before
-        .before .before .require-non-null3 in
+    .before .before .require-non-null3 in
     let enter7 = c .before .before .before .before .before .before .before .enter7 in
     let require-non-null4 = c .before .before .require-non-null4 in
     let h : l1 .i < st .args .n = ltb-true _ _ (and-left (ltb (l1 .i) (st .args .n)) (not (l1 .unsat)) (t1
-        .taken)) in
+    .taken)) in
     let k = read-as _ _ _ _ _ (classify .ensures _) (arm .given .1) in
     let b = subst (ColumnsBelow 64) k (st .pre .1 .1 _ h) in
     let e0 = enter6 .ensures .1 in
-    let e1 = enter7 .ensures .1 in
-    ( omega (arith, h, l1 .inv .0, l1 .inv .1, l1 .inv .2, l1 .inv .3, st .pre .0 .0, st .pre .0 .1), omega
-    (arith, h, l1 .inv .0, l1 .inv .1, l1 .inv .2, l1 .inv .3, st .pre .0 .0, st .pre .0 .1, e0, e1), omega
-    (arith, h, l1 .inv .0, l1 .inv .1, l1 .inv .2, l1 .inv .3, st .pre .0 .0, st .pre .0 .1), omega ( arith, h,
-    l1 .inv .0, l1 .inv .1, l1 .inv .2, l1 .inv .3, st .pre .0 .0, st .pre .0 .1, ), pair-turn _ _ _ _ _ _ _ _ _
-    _ _ _ _ _ _ _ (l1 .inv .4) _ _ (collect-more _ _ _ _ (l1 .inv .4 .stops) (not-true (l1 .unsat) (and-right
-    (ltb (l1 .i) (st .args .n)) (not (l1 .unsat)) (t1 .taken)))) _ _ _ _ _ _ _ _ _ _ _ (not-true (l1 .unsat)
-    (and-right (ltb (l1 .i) (st .args .n)) (not (l1 .unsat)) (t1 .taken))) (enter6 .ensures .0)
-    (require-non-null3 .ensures .0) (enter7 .ensures .0) (require-non-null4 .ensures .0) k (omega ( arith, h, l1
-    .inv .0, l1 .inv .1, l1 .inv .2, l1 .inv .3, st .pre .0 .0, st .pre .0 .1, )), l1 .inv .5, require-non-null4
-    .ensures .1 ∙ require-non-null3 .ensures .1 ∙ l1 .inv .6, )
+    let e1 = enter7 .ensures .1 in (
+      omega (arith, h, l1 .inv .0, l1 .inv .1, l1 .inv .2, l1 .inv .3, st .pre .0 .0, st .pre .0 .1),
+      omega
+          (arith, h, l1 .inv .0, l1 .inv .1, l1 .inv .2, l1 .inv .3, st .pre .0 .0, st .pre .0 .1, e0, e1),
+      omega
+          (arith, h, l1 .inv .0, l1 .inv .1, l1 .inv .2, l1 .inv .3, st .pre .0 .0, st .pre .0 .1),
+      omega (
+        arith,
+        h,
+        l1 .inv .0,
+        l1 .inv .1,
+        l1 .inv .2,
+        l1 .inv .3,
+        st .pre .0 .0,
+        st .pre .0 .1,
+      ),
+      pair-turn _ _ _ _ _ _ _ _ _
+          _ _ _ _ _ _ _ (l1 .inv .4) _ _ (collect-more _ _ _ _ (l1 .inv .4 .stops) (not-true (l1 .unsat) (and-right
+          (ltb (l1 .i) (st .args .n)) (not (l1 .unsat)) (t1 .taken)))) _ _ _ _ _ _ _ _ _ _ _ (not-true (l1 .unsat)
+          (and-right (ltb (l1 .i) (st .args .n)) (not (l1 .unsat)) (t1 .taken))) (enter6 .ensures .0)
+          (require-non-null3 .ensures .0) (enter7 .ensures .0) (require-non-null4 .ensures .0) k (omega (
+            arith,
+            h,
+            l1
+                .inv .0,
+            l1 .inv .1,
+            l1 .inv .2,
+            l1 .inv .3,
+            st .pre .0 .0,
+            st .pre .0 .1,
+          )),
+      l1 .inv .5,
+      require-non-null4
+          .ensures .1 ∙ require-non-null3 .ensures .1 ∙ l1 .inv .6,
+    )
 
 -- src/collect.rt:186:17
 enum-told : tie.Need-enum-told Inv-loop μ-loop
@@ -897,22 +1088,22 @@ enum-told c = search needs
 mul-kept-3 : tie.Need-mul-kept-3 Inv-loop μ-loop
 mul-kept-3 c =
     let st = c .before .before .before .before .before .before .before .before .before .before .before .before
-        .before .before .before .before .before .before .before .before in
+    .before .before .before .before .before .before .before .before in
     let l1 = c .before .before .before .before .before .loop in
     let t1 = c .before .before .before .before .loop-test in
     let h : l1 .i < st .args .n = ltb-true _ _ (and-left (ltb (l1 .i) (st .args .n)) (not (l1 .unsat)) (t1
-        .taken)) in
+    .taken)) in
     omega (arith, h, l1 .inv .0, l1 .inv .1, l1 .inv .2, l1 .inv .3, st .pre .0 .0, st .pre .0 .1)
 
 -- src/collect.rt:186:17
 slice-write-kept-3 : tie.Need-slice-write-kept-3 Inv-loop μ-loop
 slice-write-kept-3 c =
     let st = c .before .before .before .before .before .before .before .before .before .before .before .before
-        .before .before .before .before .before .before .before .before in
+    .before .before .before .before .before .before .before .before in
     let l1 = c .before .before .before .before .before .loop in
     let t1 = c .before .before .before .before .loop-test in
     let h : l1 .i < st .args .n = ltb-true _ _ (and-left (ltb (l1 .i) (st .args .n)) (not (l1 .unsat)) (t1
-        .taken)) in
+    .taken)) in
     let z = l1 .inv .4 .keeping .size in
     omega (arith, h, l1 .inv .0, l1 .inv .1, l1 .inv .2, l1 .inv .3, st .pre .0 .0, st .pre .0 .1, z)
 
@@ -920,44 +1111,77 @@ slice-write-kept-3 c =
 add-keeps-3 : tie.Need-add-keeps-3 Inv-loop μ-loop
 add-keeps-3 c =
     let st = c .before .before .before .before .before .before .before .before .before .before .before .before
-        .before .before .before .before .before .before .before .before in
+    .before .before .before .before .before .before .before .before in
     let l1 = c .before .before .before .before .before .loop in
     let t1 = c .before .before .before .before .loop-test in
     let h : l1 .i < st .args .n = ltb-true _ _ (and-left (ltb (l1 .i) (st .args .n)) (not (l1 .unsat)) (t1
-        .taken)) in
+    .taken)) in
     omega (arith, h, l1 .inv .0, l1 .inv .1, l1 .inv .2, l1 .inv .3, st .pre .0 .0, st .pre .0 .1)
 
 -- src/collect.rt:138:5
 loop-less-6 : tie.Need-loop-less-6 Inv-loop μ-loop
 loop-less-6 c =
     let st = c .before .before .before .before .before .before .before .before .before .before .before .before
-        .before .before .before .before .before .before .before .before in
+    .before .before .before .before .before .before .before .before in
     let l1 = c .before .before .before .before .before .loop in
     let t1 = c .before .before .before .before .loop-test in
     let h : l1 .i < st .args .n = ltb-true _ _ (and-left (ltb (l1 .i) (st .args .n)) (not (l1 .unsat)) (t1
-        .taken)) in
+    .taken)) in
     omega (arith, h, l1 .inv .0, l1 .inv .1, l1 .inv .2, l1 .inv .3, st .pre .0 .0, st .pre .0 .1)
 
 -- src/collect.rt:138:5
 loop-again-6 : tie.Need-loop-again-6 Inv-loop μ-loop
 loop-again-6 c =
     let st = c .before .before .before .before .before .before .before .before .before .before .before .before
-        .before .before .before .before .before .before .before .before in
+    .before .before .before .before .before .before .before .before in
     let l1 = c .before .before .before .before .before .loop in
     let t1 = c .before .before .before .before .loop-test in
     let classify = c .before .before .classify in
     let arm = c .enum-told in
     let h : l1 .i < st .args .n = ltb-true _ _ (and-left (ltb (l1 .i) (st .args .n)) (not (l1 .unsat)) (t1
-        .taken)) in
-    let k = read-as _ _ _ _ _ (classify .ensures _) (arm .given .1) in
-    ( omega (arith, h, l1 .inv .0, l1 .inv .1, l1 .inv .2, l1 .inv .3, st .pre .0 .0, st .pre .0 .1), omega
-    (arith, h, l1 .inv .0, l1 .inv .1, l1 .inv .2, l1 .inv .3, st .pre .0 .0, st .pre .0 .1), omega ( arith, h,
-    l1 .inv .0, l1 .inv .1, l1 .inv .2, l1 .inv .3, st .pre .0 .0, st .pre .0 .1, ), omega ( arith, h, l1 .inv
-    .0, l1 .inv .1, l1 .inv .2, l1 .inv .3, st .pre .0 .0, st .pre .0 .1, ), opaque-turn _ _ _ _ _ _ _ _ _ _ _ _
-    _ _ _ _ (l1 .inv .4) _ _ (collect-more _ _ _ _ (l1 .inv .4 .stops) (not-true (l1 .unsat) (and-right (ltb (l1
-    .i) (st .args .n)) (not (l1 .unsat)) (t1 .taken)))) _ k (omega ( arith, h, l1 .inv .0, l1 .inv .1, l1 .inv
-    .2, l1 .inv .3, st .pre .0 .0, st .pre .0 .1, )) (not-true (l1 .unsat) (and-right (ltb (l1 .i) (st .args
-    .n)) (not (l1 .unsat)) (t1 .taken))), l1 .inv .5, l1 .inv .6, )
+    .taken)) in
+    let k = read-as _ _ _ _ _ (classify .ensures _) (arm .given .1) in (
+      omega (arith, h, l1 .inv .0, l1 .inv .1, l1 .inv .2, l1 .inv .3, st .pre .0 .0, st .pre .0 .1),
+      omega
+          (arith, h, l1 .inv .0, l1 .inv .1, l1 .inv .2, l1 .inv .3, st .pre .0 .0, st .pre .0 .1),
+      omega (
+        arith,
+        h,
+        l1 .inv .0,
+        l1 .inv .1,
+        l1 .inv .2,
+        l1 .inv .3,
+        st .pre .0 .0,
+        st .pre .0 .1,
+      ),
+      omega (
+        arith,
+        h,
+        l1 .inv
+            .0,
+        l1 .inv .1,
+        l1 .inv .2,
+        l1 .inv .3,
+        st .pre .0 .0,
+        st .pre .0 .1,
+      ),
+      opaque-turn _ _ _ _ _ _ _ _ _ _ _ _
+          _ _ _ _ (l1 .inv .4) _ _ (collect-more _ _ _ _ (l1 .inv .4 .stops) (not-true (l1 .unsat) (and-right (ltb (l1
+          .i) (st .args .n)) (not (l1 .unsat)) (t1 .taken)))) _ k (omega (
+            arith,
+            h,
+            l1 .inv .0,
+            l1 .inv .1,
+            l1 .inv
+                .2,
+            l1 .inv .3,
+            st .pre .0 .0,
+            st .pre .0 .1,
+          )) (not-true (l1 .unsat) (and-right (ltb (l1 .i) (st .args
+          .n)) (not (l1 .unsat)) (t1 .taken))),
+      l1 .inv .5,
+      l1 .inv .6,
+    )
 
 -- src/collect.rt:98:1
 same-length : tie.Need-same-length Inv-loop μ-loop
@@ -991,12 +1215,23 @@ same-length-7 c = search needs
 returns : tie.Need-returns Inv-loop μ-loop
 returns c =
     let st = c .before .before .before .before .before .before .before .before .before .before .before .before
-        .before .before .before .before in
+    .before .before .before .before in
     let l1 = c .before .loop in
-    let t1 = c .loop-test in
-    ( (l1 .seen, collected-all _ _ _ _ _ _ _ _ _ _ _ _ _ _ _ _ _ _ _ (l1 .inv .4) (l1 .inv .0) (t1 .left)), (
-    omega (arith, l1 .inv .0, l1 .inv .1), omega (arith, l1 .inv .0, l1 .inv .2), omega ( arith, l1 .inv .0, l1
-    .inv .3, ), l1 .inv .6 ∙ st .pre .0 .3, l1 .inv .5, ), )
+    let t1 = c .loop-test in (
+      (l1 .seen, collected-all _ _ _ _ _ _ _ _ _ _ _ _ _ _ _ _ _ _ _ (l1 .inv .4) (l1 .inv .0) (t1 .left)),
+      (
+        omega (arith, l1 .inv .0, l1 .inv .1),
+        omega (arith, l1 .inv .0, l1 .inv .2),
+        omega (
+          arith,
+          l1 .inv .0,
+          l1
+              .inv .3,
+        ),
+        l1 .inv .6 ∙ st .pre .0 .3,
+        l1 .inv .5,
+      ),
+    )
 
 pub collect-spec : {M : Type 1} → statement M
 collect-spec =

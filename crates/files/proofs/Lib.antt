@@ -1,0 +1,15 @@
+pub mod Lists
+pub mod Sums
+pub mod Parts
+pub mod Sizes
+pub mod Making
+pub mod Contents
+pub mod Saving
+pub mod Loading
+pub mod Front
+pub mod OneBlock
+pub mod Sections
+pub mod Unique
+pub mod Survival
+pub mod Called
+pub mod Cases

@@ -1,0 +1,227 @@
+-- A file loaded: what its structure grants, and the checks of the screen held.
+-- Assumes nothing.
+use Prim.Native.Nat.{ℕ, zero, suc, _+_, _-_, _*_, _/_, _%_, _≤_, _<_}
+use mathlib.Core.Path.{_≡_, refl, sym, _∙_, ap, ap₂, subst}
+use mathlib.Core.Bool.{Bool, true, false, cond, true≢false, _&&_, _||_}
+use mathlib.Core.Logic.{⊎-elim}
+use mathlib.Core.List.{List, [], _∷_, _++_}
+use native.Mathlib.Nat.{mul-add, le-of-lt, le-refl}
+use native.Mathlib.Omega.{arith}
+use lib.Dec.{ltb, leb, eqb}
+use lib.ListN.{length, take, drop, length-append}
+use borrow.Author.Tests.{leb-true, eqb-true, eqb-false, lt-leb, ltb-true, ltb-false}
+use Rattle.records.proofs.Laws.{and-left, and-right, by-test, or-yes, or-no}
+use Rattle.records.specs.Bytes.{all}
+use Rattle.checking.specs.Check.{typesKnown, tableOk, sizesOk, recordsAnswer, checkAnswer}
+use Rattle.checking.specs.declared.check.CheckAnswer.{CheckAnswer}
+use Rattle.checking.specs.declared.check.CheckAnswer.the-variants as check
+use Rattle.files.specs.declared.load.LoadAnswer.the-variants as load
+use Rattle.files.specs.Format.{itemSize, overwrite}
+use Rattle.files.specs.Read.{blockAt, blocksIn, kindOf, countOf, contentSize, contentOf, taken, heldTo, held, rootOf}
+use Rattle.files.specs.Read.{countIf, totalTo, total, blockOk, blocksOk, orderOk, endsOk, usedOk, wholeOk, structureOk}
+use Rattle.files.specs.Answers.{roomOk, heldAnswer, loadIf, loadAnswer}
+use Rattle.files.proofs.Lists.{overwrite-front}
+use Rattle.files.proofs.Parts.{length-block}
+use Rattle.files.proofs.Contents.{taken-none, taken-some, length-content, block-is-ok, block-fits}
+
+-- ---- the parts of number 15
+
+module _ (f : List ℕ) (e : structureOk f ≡ true) where
+  pub ok-whole : wholeOk f ≡ true
+  unfolding structureOk
+  ok-whole = and-left (wholeOk f) (blocksOk f && (orderOk f && (endsOk f && usedOk f))) e
+
+  behind-whole : (blocksOk f && (orderOk f && (endsOk f && usedOk f))) ≡ true
+  unfolding structureOk
+  behind-whole = and-right (wholeOk f) (blocksOk f && (orderOk f && (endsOk f && usedOk f))) e
+
+  pub ok-blocks : blocksOk f ≡ true
+  ok-blocks = and-left (blocksOk f) (orderOk f && (endsOk f && usedOk f)) behind-whole
+
+  behind-blocks : (orderOk f && (endsOk f && usedOk f)) ≡ true
+  behind-blocks = and-right (blocksOk f) (orderOk f && (endsOk f && usedOk f)) behind-whole
+
+  pub ok-order : orderOk f ≡ true
+  ok-order = and-left (orderOk f) (endsOk f && usedOk f) behind-blocks
+
+  behind-order : (endsOk f && usedOk f) ≡ true
+  behind-order = and-right (orderOk f) (endsOk f && usedOk f) behind-blocks
+
+  pub ok-ends : endsOk f ≡ true
+  ok-ends = and-left (endsOk f) (usedOk f) behind-order
+
+  pub ok-used : usedOk f ≡ true
+  ok-used = and-right (endsOk f) (usedOk f) behind-order
+
+  pub ok-length : 512 ≤ length f
+  unfolding wholeOk
+  ok-length = leb-true 512 (length f) (and-right (eqb (length f % 512) 0) (leb 512 (length f)) ok-whole)
+
+  pub ok-multiple : length f % 512 ≡ 0
+  unfolding wholeOk
+  ok-multiple = eqb-true (length f % 512) 0 (and-left (eqb (length f % 512) 0) (leb 512 (length f)) ok-whole)
+
+-- ---- the bytes held are as many as the counts say
+
+length-taken : (k : ℕ) (b : List ℕ) → length b ≡ 512 → contentSize b ≤ 496 → length (taken k b) ≡ itemSize k * countIf k b
+unfolding countIf contentSize
+length-taken k b h g =
+    by-test (eqb (kindOf b) k)
+    (λ y. let q : kindOf b ≡ k = eqb-true (kindOf b) k y in
+    ap length (taken-some k b q) ∙ length-content b h g ∙ rw (y, q))
+    (λ n. ap length (taken-none k b (eqb-false (kindOf b) k n)) ∙ rw n (omega arith))
+
+-- block n lies in the file
+pub within : (f : List ℕ) (n : ℕ) → n < blocksIn f → 512 * n + 512 ≤ length f
+unfolding blocksIn
+within f n h = omega arith
+
+pub length-held-to : (k : ℕ) (f : List ℕ) (n : ℕ) → blocksOk f ≡ true → n ≤ blocksIn f
+    → length (heldTo k f n) ≡ itemSize k * totalTo k f n
+unfolding heldTo totalTo
+length-held-to k f zero e h = omega arith
+length-held-to k f (suc n) e h =
+    length-append (heldTo k f n) (taken k (blockAt f n))
+    ∙ ap₂ (λ (x y : ℕ). x + y) (length-held-to k f n e (le-of-lt h))
+    (length-taken k (blockAt f n) (length-block f n (within f n h))
+    (block-fits (blockAt f n) n (block-is-ok f n e h)))
+    ∙ sym (mul-add (itemSize k) (totalTo k f n) (countIf k (blockAt f n)))
+
+pub length-held : (k : ℕ) (f : List ℕ) → blocksOk f ≡ true → length (held k f) ≡ itemSize k * total k f
+unfolding held total
+length-held k f e = length-held-to k f (blocksIn f) e (le-refl (blocksIn f))
+
+module _ (f : List ℕ) (e : structureOk f ≡ true) where
+  pub columns-held : length (held 1 f) ≡ total 1 f
+  unfolding itemSize
+  columns-held = length-held 1 f (ok-blocks f e) ∙ omega arith
+
+  pub records-held : length (held 2 f) ≡ 16 * total 2 f
+  unfolding itemSize
+  records-held = length-held 2 f (ok-blocks f e)
+
+  pub values-held : length (held 3 f) ≡ 8 * total 3 f
+  unfolding itemSize
+  values-held = length-held 3 f (ok-blocks f e)
+
+-- ---- limits that are passed before the records are looked at
+
+sizes-no : (rs p : List ℕ) (used : ℕ) → (ltb 4096 used || ltb 8192 (length p / 8)) ≡ true → sizesOk rs p used ≡ false
+unfolding sizesOk
+sizes-no rs p used e =
+    by-test (ltb 4096 used)
+    (λ y. rw (lt-leb used 4096 (ltb-true 4096 used y)))
+    (λ n. let g = ltb-true 8192 (length p / 8) (sym (or-no (ltb 4096 used) (ltb 8192 (length p / 8)) n) ∙ e) in
+    no (leb used 4096) (leb used (length rs / 16)) (eqb (length p % 8) 0) (leb (length p / 8) 8192)
+    (lt-leb (length p / 8) 8192 g))
+  where
+    no : (a b c d : Bool) → d ≡ false → (a && (b && (c && d))) ≡ false
+    no true true true d e = e
+    no true true false d e = refl
+    no true false c d e = refl
+    no false b c d e = refl
+
+-- a table of over 64 columns
+pub wide-table : (t rs p : List ℕ) (used root : ℕ) → 64 < length t → check.Refused 1 ≡ checkAnswer t rs p used root
+unfolding checkAnswer tableOk
+wide-table t rs p used root h = rw (lt-leb (length t) 64 h)
+
+-- records or values past their limits: the table alone says whether it is 1 or 2
+pub past-limits : (t a b rs p : List ℕ) (used root : ℕ) → (ltb 4096 used || ltb 8192 (length p / 8)) ≡ true
+    → checkAnswer t a b 4097 0 ≡ checkAnswer t rs p used root
+unfolding checkAnswer
+past-limits t a b rs p used root e = rw (sizes-no a b 4097 refl, sizes-no rs p used e)
+
+-- ---- the checks of the screen held, from its copies
+
+module _ (f : List ℕ) (columns used values root : ℕ) (e : structureOk f ≡ true) (ec : columns ≡ total 1 f)
+    (eu : used ≡ total 2 f) (ev : values ≡ total 3 f) (er : root ≡ rootOf f) where
+  pub held-wide : 64 < columns → check.Refused 1 ≡ heldAnswer f
+  unfolding heldAnswer
+  held-wide h =
+      let c = columns-held f e in
+      wide-table (held 1 f) (held 2 f) (held 3 f) (total 2 f) (rootOf f) (omega (arith, c, ec, h))
+
+  module _ (old t : List ℕ) (et : t ≡ overwrite old 0 (held 1 f)) where
+    table-copy : take columns t ≡ held 1 f
+    table-copy = rw et (overwrite-front old (held 1 f) columns (columns-held f e ∙ sym ec))
+
+    pub held-past : (a : CheckAnswer) → (ltb 4096 used || ltb 8192 values) ≡ true
+        → a ≡ checkAnswer (take columns t) (take columns t) (take columns t) 4097 0 → a ≡ heldAnswer f
+    unfolding heldAnswer
+    held-past a h ea =
+        let v : length (held 3 f) / 8 ≡ values = let n = values-held f e in omega (arith, n, ev) in
+        ea ∙ ap (λ (l : List ℕ). checkAnswer l l l 4097 0) table-copy
+        ∙ past-limits (held 1 f) (held 1 f) (held 1 f) (held 2 f) (held 3 f) (total 2 f) (rootOf f)
+        (rw (← eu, v) h)
+
+    module _ (old2 rs old3 p : List ℕ) (ers : rs ≡ overwrite old2 0 (held 2 f)) (ep : p ≡ overwrite old3 0 (held 3 f)) where
+      pub held-within : (a : CheckAnswer)
+          → a ≡ checkAnswer (take columns t) (take (16 * used) rs) (take (8 * values) p) used root → a ≡ heldAnswer f
+      unfolding heldAnswer
+      held-within a ea =
+          let r : take (16 * used) rs ≡ held 2 f =
+          rw ers (overwrite-front old2 (held 2 f) (16 * used) (records-held f e ∙ ap (λ (n : ℕ). 16 * n) (sym eu))) in
+          let v : take (8 * values) p ≡ held 3 f =
+          rw ep (overwrite-front old3 (held 3 f) (8 * values) (values-held f e ∙ ap (λ (n : ℕ). 8 * n) (sym ev))) in
+          ea ∙ rw (table-copy, r, v, eu, er)
+
+-- the tests of sizes before the copies
+pub both-within : (u v : ℕ) → (ltb 4096 u || ltb 8192 v) ≡ false → (u ≤ 4096) × (v ≤ 8192)
+both-within u v e =
+    by-test (ltb 4096 u) (λ y. absurd (true≢false (sym (or-yes (ltb 4096 u) (ltb 8192 v) y) ∙ e)))
+    (λ n. (ltb-false 4096 u n, ltb-false 8192 v (sym (or-no (ltb 4096 u) (ltb 8192 v) n) ∙ e)))
+
+pub both-small : (u v : ℕ) → (leb u 64 && leb v 64) ≡ true → (u ≤ 64) × (v ≤ 64)
+both-small u v e =
+    (leb-true u 64 (and-left (leb u 64) (leb v 64) e), leb-true v 64 (and-right (leb u 64) (leb v 64) e))
+
+-- the flag of `room_ok`
+pub room-told : (f : List ℕ) (columns used values t rs p : ℕ) (r : Bool) → columns ≡ total 1 f → used ≡ total 2 f
+    → values ≡ total 3 f → r ≡ (leb columns t && (leb used (rs / 16) && leb values (p / 8))) → r ≡ roomOk f t rs p
+unfolding roomOk
+room-told f columns used values t rs p r a b c e = e ∙ rw (a, b, c)
+
+-- ---- what loading answers
+
+pub refused-structure : (f : List ℕ) (t rs p : ℕ) → structureOk f ≡ false → load.Refused 15 ≡ loadAnswer f t rs p
+unfolding loadAnswer
+refused-structure f t rs p e = rw e
+
+pub refused-room : (f : List ℕ) (t rs p : ℕ) → structureOk f ≡ true → roomOk f t rs p ≡ false
+    → load.Refused 14 ≡ loadAnswer f t rs p
+unfolding loadAnswer
+refused-room f t rs p e g = rw (e, g)
+
+pub refused-check : (f : List ℕ) (t rs p k : ℕ) → structureOk f ≡ true → roomOk f t rs p ≡ true
+    → heldAnswer f ≡ check.Refused k → load.Refused k ≡ loadAnswer f t rs p
+unfolding loadAnswer
+refused-check f t rs p k e g h = rw (e, g, h)
+
+pub loaded-all : (f : List ℕ) (t rs p root columns used values : ℕ) → structureOk f ≡ true → roomOk f t rs p ≡ true
+    → heldAnswer f ≡ check.Accepted → root ≡ rootOf f → columns ≡ total 1 f → used ≡ total 2 f → values ≡ total 3 f
+    → load.Loaded root columns used values ≡ loadAnswer f t rs p
+unfolding loadAnswer
+loaded-all f t rs p root columns used values e g h a b c d = rw (e, g, h, a, b, c, d)
+
+-- room for each part
+module _ (f : List ℕ) (t rs p : ℕ) (e : structureOk f ≡ true) (g : roomOk f t rs p ≡ true) where
+  pub room-table : length (held 1 f) ≤ t
+  unfolding roomOk
+  room-table =
+      let h = leb-true (total 1 f) t (and-left (leb (total 1 f) t) (leb (total 2 f) (rs / 16) && leb (total 3 f) (p / 8)) g) in
+      let c = columns-held f e in omega (arith, h, c)
+
+  behind-table : (leb (total 2 f) (rs / 16) && leb (total 3 f) (p / 8)) ≡ true
+  unfolding roomOk
+  behind-table = and-right (leb (total 1 f) t) (leb (total 2 f) (rs / 16) && leb (total 3 f) (p / 8)) g
+
+  pub room-records : length (held 2 f) ≤ rs
+  room-records =
+      let h = leb-true (total 2 f) (rs / 16) (and-left (leb (total 2 f) (rs / 16)) (leb (total 3 f) (p / 8)) behind-table) in
+      let c = records-held f e in omega (arith, h, c)
+
+  pub room-pool : length (held 3 f) ≤ p
+  room-pool =
+      let h = leb-true (total 3 f) (p / 8) (and-right (leb (total 2 f) (rs / 16)) (leb (total 3 f) (p / 8)) behind-table) in
+      let c = values-held f e in omega (arith, h, c)

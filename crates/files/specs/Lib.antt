@@ -1,0 +1,6 @@
+pub mod Checksum
+pub mod Format
+pub mod Read
+pub mod Answers
+pub mod RoundTrip
+pub mod Calls

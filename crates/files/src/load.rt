@@ -1,0 +1,147 @@
+// A screen loaded: 15, then 14, then the checks of the screen held. The records and the pool lie in pieces in the file, so
+// they are copied to local arrays of 64 KB each for the checks; the lent buffers are written when all is passed.
+ghost use mathlib.Core.Path.{_≡_};
+ghost use mathlib.Core.Bool.{true, _&&_, _||_};
+ghost use Prim.Native.Nat.{_+_, _*_, _/_, _≤_};
+ghost use lib.Dec.{ltb, leb};
+ghost use lib.ListN.{length};
+ghost use Rattle.checking.specs.Check.{checkAnswer};
+ghost use Rattle.files.specs.Read.{structureOk, held, total, rootOf};
+ghost use Rattle.files.specs.Answers.{heldAnswer, roomOk, loadAnswer, loadedBytes};
+use crate::held::gather;
+use crate::structure::end_word;
+use crate::structure::structure_ok;
+use crate::structure::total_of;
+use checking::check::CheckAnswer;
+use checking::check::check_screen;
+
+// What loading answers: a refusal with its number, or the root and the totals of columns, records and values.
+pub enum LoadAnswer {
+    Refused(u32),
+    Loaded(u64, u64, u64, u64),
+}
+
+fn check_table(t: &[u8]) -> CheckAnswer
+    ensures { λ a. ⌜ a ≡ checkAnswer (now (t .entry)) (now (t .entry)) (now (t .entry)) 4097 0 ⌝ }
+{
+    check_screen(t, t, t, 4097, 0)
+}
+
+// The checks of a screen of too many records or values: 1 or 2, by its table alone. `t` is room for it.
+fn check_columns(
+    f: &[u8],
+    columns: usize,
+    used: usize,
+    values: usize,
+    root: u32,
+    t: &mut [u8],
+) -> CheckAnswer
+    requires { ⌜ structureOk (now f) ≡ true ⌝ }
+    requires { ⌜ columns ≡ total 1 (now f) ⌝ }
+    requires { ⌜ used ≡ total 2 (now f) ⌝ }
+    requires { ⌜ values ≡ total 3 (now f) ⌝ }
+    requires { ⌜ root ≡ rootOf (now f) ⌝ }
+    requires { ⌜ (ltb 4096 used || ltb 8192 values) ≡ true ⌝ }
+    requires { ⌜ columns ≤ length (now t) ⌝ }
+    ensures { λ a. ⌜ a ≡ heldAnswer (now (f .entry)) ⌝ }
+{
+    gather(1, f, t);
+    check_table(&t[..columns])
+}
+
+// The checks of the screen held, over copies: `t`, `rs` and `p` are room for them.
+fn check_copies(
+    f: &[u8],
+    columns: usize,
+    used: usize,
+    values: usize,
+    root: u32,
+    t: &mut [u8],
+    rs: &mut [u8],
+    p: &mut [u8],
+) -> CheckAnswer
+    requires { ⌜ structureOk (now f) ≡ true ⌝ }
+    requires { ⌜ columns ≡ total 1 (now f) ⌝ }
+    requires { ⌜ used ≡ total 2 (now f) ⌝ }
+    requires { ⌜ values ≡ total 3 (now f) ⌝ }
+    requires { ⌜ root ≡ rootOf (now f) ⌝ }
+    requires { ⌜ columns ≤ length (now t) ⌝ }
+    requires { ⌜ 16 * used ≤ length (now rs) ⌝ }
+    requires { ⌜ 8 * values ≤ length (now p) ⌝ }
+    ensures { λ a. ⌜ a ≡ heldAnswer (now (f .entry)) ⌝ }
+{
+    gather(1, f, t);
+    gather(2, f, rs);
+    gather(3, f, p);
+    let records = 16 * used;
+    let pool = 8 * values;
+    check_screen(
+        &t[..columns],
+        &rs[..records],
+        &p[..pool],
+        used as u64,
+        root as u64,
+    )
+}
+
+// The checks of the screen held. Most screens are small, and small copies cost less to clear.
+fn check_held(f: &[u8], columns: usize, used: usize, values: usize, root: u32) -> CheckAnswer
+    requires { ⌜ structureOk (now f) ≡ true ⌝ }
+    requires { ⌜ columns ≡ total 1 (now f) ⌝ }
+    requires { ⌜ used ≡ total 2 (now f) ⌝ }
+    requires { ⌜ values ≡ total 3 (now f) ⌝ }
+    requires { ⌜ root ≡ rootOf (now f) ⌝ }
+    ensures { λ a. ⌜ a ≡ heldAnswer (now (f .entry)) ⌝ }
+{
+    if 64 < columns {
+        return CheckAnswer::Refused(1);
+    }
+    let mut t = [0u8; 64];
+    if (4096 < used) | (8192 < values) {
+        return check_columns(f, columns, used, values, root, &mut t);
+    }
+    if (used <= 64) & (values <= 64) {
+        let mut few = [0u8; 1024];
+        let mut small = [0u8; 512];
+        return check_copies(f, columns, used, values, root, &mut t, &mut few, &mut small);
+    }
+    let mut rs = [0u8; 65536];
+    let mut p = [0u8; 65536];
+    check_copies(f, columns, used, values, root, &mut t, &mut rs, &mut p)
+}
+
+fn room_ok(columns: usize, used: usize, values: usize, t: usize, rs: usize, p: usize) -> bool
+    ensures { λ r. ⌜ r ≡ (leb columns t && (leb used (rs / 16) && leb values (p / 8))) ⌝ }
+{
+    (columns <= t) & ((used <= rs / 16) & (values <= p / 8))
+}
+
+pub fn load_screen(f: &[u8], t: &mut [u8], rs: &mut [u8], p: &mut [u8]) -> LoadAnswer
+    ensures answer { λ a. ⌜ a ≡ loadAnswer (now (f .entry)) (length (now (t .entry))) (length (now (rs .entry)))
+        (length (now (p .entry))) ⌝ }
+    ensures table { λ a. ⌜ now (t .exit) ≡ loadedBytes a (now (t .entry)) (held 1 (now (f .entry))) ⌝ }
+    ensures records { λ a. ⌜ now (rs .exit) ≡ loadedBytes a (now (rs .entry)) (held 2 (now (f .entry))) ⌝ }
+    ensures pool { λ a. ⌜ now (p .exit) ≡ loadedBytes a (now (p .entry)) (held 3 (now (f .entry))) ⌝ }
+{
+    if !structure_ok(f) {
+        return LoadAnswer::Refused(15);
+    }
+    let columns = total_of(1, f);
+    let used = total_of(2, f);
+    let values = total_of(3, f);
+    if !room_ok(columns, used, values, t.len(), rs.len(), p.len()) {
+        return LoadAnswer::Refused(14);
+    }
+    let root = end_word(f, 20);
+    match check_held(f, columns, used, values, root) {
+        CheckAnswer::Refused(k) => {
+            return LoadAnswer::Refused(k);
+        }
+        CheckAnswer::Accepted => {
+            gather(1, f, t);
+            gather(2, f, rs);
+            gather(3, f, p);
+            return LoadAnswer::Loaded(root as u64, columns as u64, used as u64, values as u64);
+        }
+    }
+}

@@ -1,0 +1,250 @@
+/* screen_save and screen_load: round trips, every refusal, every limit, and that nothing but the answer is written. */
+#include "lend.h"
+
+enum { INT = SCREEN_TYPE_INT, DAY = SCREEN_TYPE_DAY, TRUTH = SCREEN_TYPE_TRUTH };
+
+#define MARK UINT64_C(0x0123456789abcdef)
+
+static uint8_t file[SCREEN_MAX_FILE_BYTES + 1024]; /* the file of the last screen saved */
+static size_t file_len;
+
+/* ----------------------------------------------------------------------------------------------------------- saving */
+
+/* Saves the screen under construction into `room` bytes; the bytes go to `file`. */
+static void save(const char *name, size_t room, uint32_t want)
+{
+    struct slices s = lend();
+    uint8_t *old = malloc(room + 1);
+    uint64_t length = MARK;
+    if (old == NULL)
+        abort();
+    for (size_t i = 0; i < room; i++)
+        old[i] = (uint8_t)(7 * i + 3);
+    uint8_t *out = lent(old, room);
+    uint32_t got = screen_save(s.table, sent.table_len, s.records, sent.records_len, s.pool, sent.pool_len, sent.used,
+                               sent.root, out, room, &length);
+    report(got == want, name, screen_refusal_text(got));
+    report(all_kept(&s), name, "saving changed a lent byte");
+    if (got == SCREEN_SAVED) {
+        report(length <= room && length % SCREEN_BLOCK_BYTES == 0, name, "another length than blocks in the room lent");
+        report(kept(out + length, old + length, room - (size_t)length), name, "a byte behind the file was written");
+        file_len = (size_t)length;
+        memcpy(file, out, file_len);
+    } else {
+        report(length == MARK && kept(out, old, room), name, "a refusal wrote a byte");
+    }
+    free(old);
+    free(out);
+    give_back(&s);
+}
+
+/* ---------------------------------------------------------------------------------------------------------- loading */
+
+struct rooms {
+    size_t table, records, pool;
+};
+
+static const struct rooms enough = {64, 65536, 65536};
+
+/* Loads `file`; what is loaded must be the screen under construction. */
+static void load(const char *name, struct rooms room, uint32_t want)
+{
+    static uint8_t old[3][17 * 4096 + 64];
+    uint64_t root = MARK, columns = MARK + 1, used = MARK + 2, values = MARK + 3;
+    memset(old, 0xa5, sizeof old);
+    uint8_t *bytes = lent(file, file_len);
+    uint8_t *table = lent(old[0], room.table);
+    uint8_t *records = lent(old[1], room.records);
+    uint8_t *pool = lent(old[2], room.pool);
+    uint32_t got = screen_load(bytes, file_len, table, room.table, records, room.records, pool, room.pool, &root,
+                               &columns, &used, &values);
+    report(got == want, name, screen_refusal_text(got));
+    report(kept(bytes, file, file_len), name, "loading changed the file");
+    if (got == SCREEN_LOADED) {
+        size_t record_bytes = 16 * (size_t)used;
+        size_t pool_bytes = 8 * (size_t)values;
+        report(root == sent.root && columns == sent.table_len && used == sent.used && pool_bytes == sent.pool_len, name,
+               "other numbers than were saved");
+        report(kept(table, sent.table, columns) && kept(records, sent.records, record_bytes) &&
+                   kept(pool, sent.pool, pool_bytes),
+               name, "another screen than was saved");
+        report(kept(table + columns, old[0], room.table - (size_t)columns) &&
+                   kept(records + record_bytes, old[1], room.records - record_bytes) &&
+                   kept(pool + pool_bytes, old[2], room.pool - pool_bytes),
+               name, "a byte behind the screen was written");
+    } else {
+        report(root == MARK && columns == MARK + 1 && used == MARK + 2 && values == MARK + 3 &&
+                   kept(table, old[0], room.table) && kept(records, old[1], room.records) &&
+                   kept(pool, old[2], room.pool),
+               name, "a refusal wrote a byte");
+    }
+    free(bytes);
+    free(table);
+    free(records);
+    free(pool);
+}
+
+/* RFC 1071, so that a changed block can be given its right checksum. */
+static void repair(size_t block)
+{
+    uint8_t *b = file + 512 * block;
+    uint32_t sum = 0;
+    for (size_t i = 2; i < 512; i += 2)
+        sum += (uint32_t)b[i] << 8 | b[i + 1];
+    while (sum >> 16 != 0)
+        sum = (sum & 0xffff) + (sum >> 16);
+    b[0] = (uint8_t)(~sum >> 8);
+    b[1] = (uint8_t)~sum;
+}
+
+/* ------------------------------------------------------------------------------------------------------------ cases */
+
+/* `records` true literals, the last the root; `values` pool values that no list reads. */
+static void make(size_t columns, uint32_t records, size_t values)
+{
+    uint8_t table[LEND_TABLE];
+    memset(table, INT, sizeof table);
+    begin(table, columns);
+    while (sent.used < records)
+        literal(TRUTH, 1);
+    for (size_t i = 0; i < values; i++)
+        pool_value((int64_t)i - 5);
+}
+
+static void round_trip(const char *name, size_t columns, uint32_t records, size_t values)
+{
+    size_t blocks = 2 + (records + 30) / 31 + (values + 61) / 62;
+    struct rooms exact = {columns, 16 * (size_t)records, 8 * values};
+    make(columns, records, values);
+    save(name, 512 * blocks, SCREEN_SAVED);
+    report(file_len == 512 * blocks, name, "another length than its blocks");
+    load(name, exact, SCREEN_LOADED);
+    save(name, 512 * blocks + 100, SCREEN_SAVED);
+    load(name, enough, SCREEN_LOADED);
+    save(name, 512 * blocks - 1, SCREEN_REFUSED_SHORT);
+    if (columns > 0) {
+        exact.table--;
+        load(name, exact, SCREEN_REFUSED_SHORT);
+        exact.table++;
+    }
+    exact.records--;
+    load(name, exact, SCREEN_REFUSED_SHORT);
+    exact.records += 40;
+    if (values > 0) {
+        exact.pool--;
+        load(name, exact, SCREEN_REFUSED_SHORT);
+    }
+}
+
+static void test_round_trips(void)
+{
+    round_trip("the smallest screen", 0, 1, 0);
+    round_trip("one of each", 1, 1, 1);
+    round_trip("one full block of each", 64, 31, 62);
+    round_trip("one more than a full block", 64, 32, 63);
+    round_trip("the largest screen", 64, 4096, 8192);
+    report(file_len == SCREEN_MAX_FILE_BYTES, "the largest screen", "another length than SCREEN_MAX_FILE_BYTES");
+    begin_mixed();
+    uint32_t low = line(SCREEN_OP_GT_EQ, 0, INT, -7);
+    pool_value(3);
+    pool_value(4);
+    uint32_t days = list(0, DAY, 0, 2);
+    uint32_t member = is_in(0, column(1), days);
+    uint32_t both = binary(SCREEN_OP_AND, low, member);
+    binary(SCREEN_OP_OR, both, column(2));
+    save("a screen of lines", 4096, SCREEN_SAVED);
+    load("a screen of lines", enough, SCREEN_LOADED);
+    sent.used--;
+    sent.root = both;
+    save("fewer records used than lent", 4096, SCREEN_SAVED);
+    load("fewer records used than lent", enough, SCREEN_LOADED);
+    sent.root = sent.used;
+    save("a root that is not used", 4096, SCREEN_REFUSED_ROOT);
+    sent.root = low;
+    sent.table[0] = 9;
+    save("an unknown type", 4096, SCREEN_REFUSED_TABLE);
+    save("an unknown type, and no room", 0, SCREEN_REFUSED_TABLE);
+}
+
+/* Every byte of a small file, changed alone, is told; most changes also with the checksum made right. */
+static void test_damage(void)
+{
+    static uint8_t whole[1536];
+    make(2, 1, 0);
+    save("a file to damage", 1536, SCREEN_SAVED);
+    memcpy(whole, file, sizeof whole);
+    unsigned told = 0;
+    for (size_t at = 0; at < sizeof whole; at++) {
+        uint64_t n[4];
+        file[at] ^= 0x10;
+        uint8_t *bytes = lent(file, file_len);
+        uint8_t table[64], records[64], pool[64];
+        told += screen_load(bytes, file_len, table, 64, records, 64, pool, 64, n, n + 1, n + 2, n + 3) ==
+                SCREEN_REFUSED_FILE;
+        free(bytes);
+        file[at] = whole[at];
+    }
+    report(told == sizeof whole, "each byte changed alone", "a change was not told");
+    static const struct {
+        const char *name;
+        size_t at;
+        uint8_t value;
+        uint32_t want;
+    } changes[] = {
+        {"a number that is not the block's", 512 + 2, 2, SCREEN_REFUSED_FILE},
+        {"an unknown kind", 512 + 4, 5, SCREEN_REFUSED_FILE},
+        {"the table's kind again", 512 + 4, 1, SCREEN_REFUSED_FILE},
+        {"a count of none", 512 + 5, 0, SCREEN_REFUSED_FILE},
+        {"a count that the block cannot hold", 512 + 5, 32, SCREEN_REFUSED_FILE},
+        {"an end that counts two", 1024 + 5, 2, SCREEN_REFUSED_FILE},
+        {"a header byte that is not zero", 15, 1, SCREEN_REFUSED_FILE},
+        {"an unused byte that is not zero", 511, 1, SCREEN_REFUSED_FILE},
+        {"an unused byte behind the end", 1024 + 24, 1, SCREEN_REFUSED_FILE},
+        {"a used that is not the records held", 1024 + 16, 2, SCREEN_REFUSED_FILE},
+        {"a root that is not used", 1024 + 20, 1, SCREEN_REFUSED_ROOT},
+        {"a type that is none", 17, 9, SCREEN_REFUSED_TABLE},
+        {"a record of unknown kind", 512 + 16, 11, SCREEN_REFUSED_RECORD},
+    };
+    for (size_t i = 0; i < sizeof changes / sizeof changes[0]; i++) {
+        memcpy(file, whole, sizeof whole);
+        file[changes[i].at] = changes[i].value;
+        repair(changes[i].at / 512);
+        load(changes[i].name, enough, changes[i].want);
+    }
+    memcpy(file, whole, sizeof whole);
+    file_len = 1535;
+    load("a byte missing", enough, SCREEN_REFUSED_FILE);
+    file_len = 1024;
+    load("no end", enough, SCREEN_REFUSED_FILE);
+    file_len = 0;
+    load("no byte", enough, SCREEN_REFUSED_FILE);
+    memcpy(file, whole, sizeof whole);
+    memset(file + 1536, 0, 512);
+    file_len = 1537;
+    load("a trailing byte", enough, SCREEN_REFUSED_FILE);
+    file_len = 2048;
+    load("a trailing block", enough, SCREEN_REFUSED_FILE);
+}
+
+/* Over 64 columns are number 1 where there is room for them. */
+static void test_wide(void)
+{
+    struct rooms room = {255, 65536, 65536};
+    make(1, 1, 0);
+    save("a file of one column", 1536, SCREEN_SAVED);
+    for (unsigned columns = 65; columns <= 255; columns += 38) {
+        memset(file + 16, INT, columns);
+        file[5] = (uint8_t)columns;
+        repair(0);
+        load("a file of too many columns", room, SCREEN_REFUSED_TABLE);
+        load("a file of too many columns for 64", enough, SCREEN_REFUSED_SHORT);
+    }
+}
+
+int main(void)
+{
+    test_round_trips();
+    test_damage();
+    test_wide();
+    return finish();
+}
