@@ -64,7 +64,7 @@
  *
  * PLATFORM
  *
- * x86-64 Linux, two's complement. The archive needs nothing but memcpy and memset, has some 32 KB of code, keeps no
+ * x86-64 Linux, two's complement. The archive needs nothing but memcpy and memset, has some 41 KB of code, keeps no
  * state and opens no file. MIT licence: LICENSE, and NOTICE for the Rust sources that it follows.
  *
  * "Document 01" in this file and in the sources is docs/01-scope.md, the paper that the library is made from.
@@ -269,6 +269,8 @@ enum screen_check_answer {
  *   pool, pool_len        the values of lists; pool_len is 8 times their number
  *   used                  how many of the records belong to the screen; any number, one too large is refused
  *   root                  the record that the screen means; any number, one not below used is refused
+ *
+ * The call needs some 50 KB of stack, whatever the screen.
  */
 SCREEN_MUST_USE
 uint32_t screen_check(const uint8_t *table, size_t table_len, const uint8_t *records, size_t records_len,
@@ -324,6 +326,8 @@ enum screen_rewrite_answer {
  *   is_between of a column and two literals
  *   is_in of a column over a list of at most 100 values that holds no null; Not of that
  *   is_null or is_not_null of a column; Not of that
+ *
+ * The call needs some 62 KB of stack, whatever the screen.
  */
 SCREEN_MUST_USE
 uint32_t screen_rewrite(const uint8_t *table, size_t table_len, uint8_t *records, size_t records_len,
@@ -375,6 +379,8 @@ enum screen_columns_read_answer {
  *                  reaches a record of column i. Keeps its value with a refusal
  *   count          not NULL, and not the same as columns. Written with SCREEN_COLUMNS: the number of ones in *columns.
  *                  Keeps its value with a refusal
+ *
+ * The call needs some 75 KB of stack, whatever the screen.
  */
 SCREEN_MUST_USE
 uint32_t screen_columns_read(const uint8_t *table, size_t table_len, const uint8_t *records, size_t records_len,
