@@ -449,8 +449,8 @@ enum screen_load_answer {
  * Since 14 comes before 1 to 7, a file of more than 64 columns, 4,096 records or 8,192 values is answered 14 by a host
  * that lends the room above, and 1 or 2 by one that lends more. A file with room for all is never answered 14.
  *
- * The records and the pool lie in pieces in the file, so they are copied for the checks: the call needs some 146 KB of
- * stack, whatever the screen; saving needs some 16 KB.
+ * The records and the pool lie in pieces in the file, so they are copied for the checks: the call needs less than
+ * 192 KB of stack, whatever the screen; saving needs some 50 KB.
  */
 SCREEN_MUST_USE
 uint32_t screen_load(const uint8_t *file, size_t file_len, uint8_t *table, size_t table_len, uint8_t *records,

@@ -1,5 +1,8 @@
 /* screen_save and screen_load: round trips, every refusal, every limit, and that nothing but the answer is written. */
+#define _POSIX_C_SOURCE 200809L
 #include "lend.h"
+
+#include <pthread.h>
 
 enum { INT = SCREEN_TYPE_INT, DAY = SCREEN_TYPE_DAY, TRUTH = SCREEN_TYPE_TRUTH };
 
@@ -136,13 +139,30 @@ static void round_trip(const char *name, size_t columns, uint32_t records, size_
     }
 }
 
+/* On a thread with as much stack as the header asks for. */
+static void *largest(void *unused)
+{
+    round_trip("the largest screen", 64, 4096, 8192);
+    return unused;
+}
+
+static void test_largest(void)
+{
+    pthread_attr_t attributes;
+    pthread_t thread;
+    if (pthread_attr_init(&attributes) != 0 || pthread_attr_setstacksize(&attributes, (size_t)3 << 16) != 0 ||
+        pthread_create(&thread, &attributes, largest, NULL) != 0 || pthread_join(thread, NULL) != 0)
+        abort();
+    pthread_attr_destroy(&attributes);
+}
+
 static void test_round_trips(void)
 {
     round_trip("the smallest screen", 0, 1, 0);
     round_trip("one of each", 1, 1, 1);
     round_trip("one full block of each", 64, 31, 62);
     round_trip("one more than a full block", 64, 32, 63);
-    round_trip("the largest screen", 64, 4096, 8192);
+    test_largest();
     report(file_len == SCREEN_MAX_FILE_BYTES, "the largest screen", "another length than SCREEN_MAX_FILE_BYTES");
     begin_mixed();
     uint32_t low = line(SCREEN_OP_GT_EQ, 0, INT, -7);
