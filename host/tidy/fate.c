@@ -172,6 +172,38 @@ static void trace_back(struct tidied *t, struct tidied_line *tidied)
     }
 }
 
+/* Has a typed line this comparison? */
+static bool is_typed(const struct tidied *t, struct comparison wanted)
+{
+    struct conjuncts conjuncts = {NULL, 0, 0};
+    bool found = false;
+    add_conjuncts(&conjuncts, &t->typed, t->typed.root);
+    for (size_t i = 0; i < conjuncts.count && !found; i++) {
+        struct comparison typed[2];
+        size_t count = comparisons_of(&t->typed, conjuncts.records[i], typed);
+        for (size_t j = 0; j < count; j++)
+            found |= same(typed[j], wanted);
+    }
+    free(conjuncts.records);
+    return found;
+}
+
+/* An open end that is typed closed, at the same value of the same column, and nowhere open. */
+static bool only_opened(const struct tidied *t, uint64_t record)
+{
+    struct comparison tidied[2];
+    size_t count = comparisons_of(&t->returned, record, tidied);
+    bool opened = false;
+    for (size_t i = 0; i < count; i++) {
+        struct comparison closed = tidied[i];
+        if (closed.code != SCREEN_OP_LT && closed.code != SCREEN_OP_GT)
+            continue;
+        closed.code = is_lower(closed) ? SCREEN_OP_GT_EQ : SCREEN_OP_LT_EQ;
+        opened |= is_typed(t, closed) && !is_typed(t, tidied[i]);
+    }
+    return opened;
+}
+
 void fates_told(struct tidied *t)
 {
     if (t->answer == SCREEN_NOTHING_PASSES) {
@@ -180,6 +212,8 @@ void fates_told(struct tidied *t)
     }
     for (size_t i = 0; i < t->build->line_count; i++)
         trace_line(t, i);
-    for (size_t i = 0; i < t->line_count; i++)
+    for (size_t i = 0; i < t->line_count; i++) {
         trace_back(t, &t->lines[i]);
+        t->lines[i].opened = only_opened(t, t->lines[i].record);
+    }
 }

@@ -7,7 +7,7 @@
 
 #include "tidy.h"
 
-/* Fills `fates`, and `typed` of each tidied line. */
+/* Fills `fates`, and `typed` and `opened` of each tidied line. */
 void fates_told(struct tidied *tidied);
 
 #endif

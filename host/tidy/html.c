@@ -68,12 +68,14 @@ static void add_typed(struct text *out, const struct tidied *tidied)
 
 static void add_tidied(struct text *out, const struct tidied *tidied)
 {
+    const char *usual = tidied->answer == SCREEN_NOTHING_PASSES ? "contradicts" : "tidied";
     text_add(out, "<section><h3>as tidied</h3><ul>\n");
     for (size_t i = 0; i < tidied->line_count; i++) {
-        struct slice text = {tidied->lines[i].text.bytes, tidied->lines[i].text.len};
-        add_item(out, "tidied", i + 1, text, tidied->answer == SCREEN_NOTHING_PASSES ? "contradicts" : "tidied");
-        text_add(out, "<i>%s ", tidied->lines[i].typed.count == 1 ? "line" : "lines");
-        add_numbers(out, &tidied->lines[i].typed);
+        const struct tidied_line *line = &tidied->lines[i];
+        struct slice text = {line->text.bytes, line->text.len};
+        add_item(out, "tidied", i + 1, text, line->opened ? "opened" : usual);
+        text_add(out, "<i>%s ", line->typed.count == 1 ? "line" : "lines");
+        add_origin_text(out, line);
         text_add(out, "</i></li>\n");
     }
     text_add(out, "</ul></section>\n");

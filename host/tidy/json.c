@@ -93,7 +93,7 @@ static void add_tidied(struct text *out, const struct tidied *tidied)
         add_word(out, "text", tidied->lines[i].text.bytes);
         text_add(out, ", ");
         add_list(out, "lines", &tidied->lines[i].typed);
-        text_add(out, "}");
+        text_add(out, ", \"opened\": %s}", tidied->lines[i].opened ? "true" : "false");
     }
     text_add(out, "\n  ],\n");
 }

@@ -22,6 +22,12 @@ void add_fate_text(struct text *text, const struct tidied *tidied, size_t line)
     add_numbers(text, &fate->lines);
 }
 
+void add_origin_text(struct text *text, const struct tidied_line *line)
+{
+    add_numbers(text, &line->typed);
+    text_add(text, "%s", line->opened ? "; end opened" : "");
+}
+
 const char *type_text(unsigned type)
 {
     static const char *const NAMES[] = {"", "Int", "Day", "Truth"};
@@ -61,9 +67,8 @@ static void add_tidied(struct text *out, struct page page, const struct tidied *
     for (size_t i = 0; i < tidied->line_count; i++) {
         struct text left = {NULL, 0, 0}, right = {NULL, 0, 0};
         text_add(&left, "%*zu  %s", width, i + 1, tidied->lines[i].text.bytes);
-        text_add(&right, "%s", "");
-        add_numbers(&right, &tidied->lines[i].typed);
-        table_add(&table, left, (size_t)width + 2, right, STYLE_PLAIN);
+        add_origin_text(&right, &tidied->lines[i]);
+        table_add(&table, left, (size_t)width + 2, right, tidied->lines[i].opened ? STYLE_CHANGED : STYLE_PLAIN);
     }
     table_end(&table, out, page, "as tidied", "typed lines on its columns");
 }

@@ -11,6 +11,9 @@ void add_fate_text(struct text *text, const struct tidied *tidied, size_t line);
 /* 1, 2, 3 */
 void add_numbers(struct text *text, const struct numbers *numbers);
 
+/* The typed lines that a tidied one comes from, and whether its end was opened: 15, 22, 23; end opened. */
+void add_origin_text(struct text *text, const struct tidied_line *line);
+
 /* The rows that pass, by their line in the file: neighbours as 12-15. */
 void add_passing(struct text *text, const struct chain *chain, const struct run *run);
 

@@ -31,6 +31,7 @@ struct tidied_line {
     uint64_t record;
     struct text text;
     struct numbers typed; /* the typed lines on its columns, by their number in the file */
+    bool opened; /* its end only became open: strike < 5300 from strike <= 5300 and strike != 5300 */
 };
 
 /* What rewriting answered, and the screens. */

@@ -12,13 +12,15 @@ use borrow.Author.Tests.{ne-eqb}
 use Rattle.constraints.specs.Values.{contains, insert, extend, retain, subset}
 use Rattle.constraints.specs.Column as q
 use Rattle.constraints.specs.Payload.{payload}
+use Rattle.constraints.specs.Scalars.{opposite}
+use Rattle.constraints.specs.declared.column.BoundChange.the-variants.{NoChange}
 use Rattle.columns.specs.Abstraction.{Conjuncts, columnOf, boundOf, gather, ofKind, listOf, excludedBy}
 use Rattle.columns.specs.Abstraction.{allowedBy, disallowedBy}
 use Rattle.columns.specs.Abstraction.{Numbered}
 use Rattle.constraints.proofs.Sets.{contains-extend, contains-retain, subset-contains, extend-subset}
 use Rattle.constraints.proofs.Sets.{retain-subset}
 use Rattle.constraints.specs.Bound as b
-use Rattle.columns.specs.Steps.{Merging, emitting, recording, takeLower, takeUpper, takeMark, takeMarks}
+use Rattle.columns.specs.Steps.{Merging, changesIn, emitting, recording, takeLower, takeUpper, takeMark, takeMarks}
 use Rattle.constraints.proofs.Columns.{swap-mid}
 use Rattle.columns.proofs.Pigeon.{Eq, yes, no, eq-view}
 
@@ -516,3 +518,22 @@ pub mark-else : (t : Conjuncts) (j : ℕ) (m : Merging) (k : ℕ) → getD (t .k
     (k ≡ 2 → ⊥) → m ≡ takeMark t j m
 unfolding takeMark
 mark-else t j m k e x y z = rw (e, ne-eqb k 0 x, ne-eqb k 1 y, ne-eqb k 2 z)
+
+-- What became of a bound, and whether the column changed.
+pub lower-moved : (v : ℕ) (i : Bool) (cc : q.ColumnConstraints ℕ) →
+    b.isChange (q.lowerChange payload v i cc) ≡ changesIn (q.Lower i v) cc
+lower-moved v i cc = go (cc .unsat)
+  where
+    go : (x : Bool) → b.isChange (cond x NoChange (b.tighten payload (cc .lower) i v .change)) ≡
+        (not x && b.isChange (b.tighten payload (cc .lower) i v .change))
+    go true = refl
+    go false = refl
+
+pub upper-moved : (v : ℕ) (i : Bool) (cc : q.ColumnConstraints ℕ) →
+    b.isChange (q.upperChange payload v i cc) ≡ changesIn (q.Upper i v) cc
+upper-moved v i cc = go (cc .unsat)
+  where
+    go : (x : Bool) → b.isChange (cond x NoChange (b.tighten (opposite payload) (cc .upper) i v .change)) ≡
+        (not x && b.isChange (b.tighten (opposite payload) (cc .upper) i v .change))
+    go true = refl
+    go false = refl

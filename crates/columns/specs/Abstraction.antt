@@ -15,6 +15,7 @@ use Rattle.constraints.specs.Column as q
 use Rattle.constraints.specs.Comparisons as e
 use Rattle.constraints.specs.Payload.{payload}
 use Rattle.columns.specs.declared.bound.Bound.{Bound}
+use Rattle.columns.specs.declared.bound.Tightened.{Tightened}
 use Rattle.columns.specs.declared.bound.Bound.the-variants.{Absent, Open, Closed}
 use Rattle.constraints.specs.declared.column.Nullability.{Nullability}
 use Rattle.columns.specs.declared.column.ColumnConstraints.{ColumnConstraints}
@@ -66,6 +67,9 @@ abbrev pub boundOf : Bound → b.Bound ℕ
 boundOf Absent = b.absent
 boundOf (Open s) = b.at false (s .0)
 boundOf (Closed s) = b.at true (s .0)
+
+abbrev pub tightenedOf : Tightened → b.Tightened ℕ
+tightenedOf r = b.tightened (boundOf (r .bound)) (r .change)
 
 -- A column with its numbers. The code keeps the numbers of all columns in one array, a row for each column.
 pub record Numbered : Type 0 where

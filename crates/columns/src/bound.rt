@@ -3,10 +3,12 @@ ghost use mathlib.Core.Path.{_≡_};
 ghost use mathlib.Core.Bool.{true, false};
 ghost use Rattle.truth.specs.Order.{above, isEqual};
 ghost use Rattle.constraints.specs.Scalars.{opposite, scalarCmp};
-ghost use Rattle.constraints.specs.Bound.{at, isAbsent, tightenBy, tighten, tightensBy, tightens};
+ghost use Rattle.constraints.specs.Bound.{at, isAbsent, tightened, openedBy, tightenBy, tighten, isChange};
 ghost use Rattle.constraints.specs.Bound.{crossesBy, crosses, clears};
 ghost use Rattle.constraints.specs.Payload.{payload};
-ghost use Rattle.columns.specs.Abstraction.{boundOf};
+ghost use Rattle.columns.specs.Abstraction.{boundOf, tightenedOf};
+ghost use Rattle.constraints.specs.declared.column.BoundChange.the-variants.{NewValue};
+use constraints::column::BoundChange;
 use truth::scalar::Ordering;
 use truth::scalar::Scalar;
 use truth::scalar::scalar_cmp;
@@ -16,6 +18,12 @@ pub enum Bound {
     Absent,
     Open(Scalar),
     Closed(Scalar),
+}
+
+/// A bound, and what became of it.
+pub struct Tightened {
+    pub bound: Bound,
+    pub change: BoundChange,
 }
 
 pub fn compare(v: Scalar, w: Scalar) -> Ordering
@@ -44,22 +52,46 @@ fn bound_at(v: Scalar, inclusive: bool) -> Bound
     Bound::Open(v)
 }
 
+fn new_value(v: Scalar, inclusive: bool) -> Tightened
+    ensures { λ r. ⌜ tightenedOf r ≡ tightened (at inclusive (v .0)) NewValue ⌝ }
+{
+    Tightened {
+        bound: bound_at(v, inclusive),
+        change: BoundChange::NewValue,
+    }
+}
+
+fn opened_by(held: bool, inclusive: bool) -> BoundChange
+    ensures { λ r. ⌜ r ≡ openedBy held inclusive ⌝ }
+{
+    if held & !inclusive {
+        return BoundChange::NewlyOpen;
+    }
+    BoundChange::NoChange
+}
+
 // `Greater` says that the new value is the tighter one. Of two equal ones the held stays, closed only if both are.
-fn tighten(o: Ordering, held: bool, w: Scalar, inclusive: bool, v: Scalar) -> Bound
-    ensures { λ r. ⌜ boundOf r ≡ tightenBy o held (w .0) inclusive (v .0) ⌝ }
+fn tighten(o: Ordering, held: bool, w: Scalar, inclusive: bool, v: Scalar) -> Tightened
+    ensures { λ r. ⌜ tightenedOf r ≡ tightenBy o held (w .0) inclusive (v .0) ⌝ }
 {
     match o {
-        Ordering::Greater => bound_at(v, inclusive),
-        Ordering::Equal => bound_at(w, inclusive & held),
-        Ordering::Less => bound_at(w, held),
+        Ordering::Greater => new_value(v, inclusive),
+        Ordering::Equal => Tightened {
+            bound: bound_at(w, inclusive & held),
+            change: opened_by(held, inclusive),
+        },
+        Ordering::Less => Tightened {
+            bound: bound_at(w, held),
+            change: BoundChange::NoChange,
+        },
     }
 }
 
-pub fn tighten_lower(held: Bound, v: Scalar, inclusive: bool) -> Bound
-    ensures { λ r. ⌜ boundOf r ≡ tighten payload (boundOf held) inclusive (v .0) ⌝ }
+pub fn tighten_lower(held: Bound, v: Scalar, inclusive: bool) -> Tightened
+    ensures { λ r. ⌜ tightenedOf r ≡ tighten payload (boundOf held) inclusive (v .0) ⌝ }
 {
     match held {
-        Bound::Absent => bound_at(v, inclusive),
+        Bound::Absent => new_value(v, inclusive),
         Bound::Open(w) => {
             let o = compare(v, w);
             tighten(o, false, w, inclusive, v)
@@ -71,11 +103,11 @@ pub fn tighten_lower(held: Bound, v: Scalar, inclusive: bool) -> Bound
     }
 }
 
-pub fn tighten_upper(held: Bound, v: Scalar, inclusive: bool) -> Bound
-    ensures { λ r. ⌜ boundOf r ≡ tighten (opposite payload) (boundOf held) inclusive (v .0) ⌝ }
+pub fn tighten_upper(held: Bound, v: Scalar, inclusive: bool) -> Tightened
+    ensures { λ r. ⌜ tightenedOf r ≡ tighten (opposite payload) (boundOf held) inclusive (v .0) ⌝ }
 {
     match held {
-        Bound::Absent => bound_at(v, inclusive),
+        Bound::Absent => new_value(v, inclusive),
         Bound::Open(w) => {
             let o = compare(w, v);
             tighten(o, false, w, inclusive, v)
@@ -87,47 +119,14 @@ pub fn tighten_upper(held: Bound, v: Scalar, inclusive: bool) -> Bound
     }
 }
 
-fn tightens_by(o: Ordering, held: bool, inclusive: bool) -> bool
-    ensures { λ r. ⌜ r ≡ tightensBy o held inclusive ⌝ }
+/// Both kinds of move are a change.
+pub fn is_change(k: BoundChange) -> bool
+    ensures { λ r. ⌜ r ≡ isChange k ⌝ }
 {
-    match o {
-        Ordering::Greater => true,
-        Ordering::Equal => held & !inclusive,
-        Ordering::Less => false,
-    }
-}
-
-/// Whether `tighten_lower` changes the bound.
-pub fn lower_tightens(held: Bound, v: Scalar, inclusive: bool) -> bool
-    ensures { λ r. ⌜ r ≡ tightens payload (boundOf held) inclusive (v .0) ⌝ }
-{
-    match held {
-        Bound::Absent => true,
-        Bound::Open(w) => {
-            let o = compare(v, w);
-            tightens_by(o, false, inclusive)
-        }
-        Bound::Closed(w) => {
-            let o = compare(v, w);
-            tightens_by(o, true, inclusive)
-        }
-    }
-}
-
-/// Whether `tighten_upper` changes the bound.
-pub fn upper_tightens(held: Bound, v: Scalar, inclusive: bool) -> bool
-    ensures { λ r. ⌜ r ≡ tightens (opposite payload) (boundOf held) inclusive (v .0) ⌝ }
-{
-    match held {
-        Bound::Absent => true,
-        Bound::Open(w) => {
-            let o = compare(w, v);
-            tightens_by(o, false, inclusive)
-        }
-        Bound::Closed(w) => {
-            let o = compare(w, v);
-            tightens_by(o, true, inclusive)
-        }
+    match k {
+        BoundChange::NewValue => true,
+        BoundChange::NewlyOpen => true,
+        BoundChange::NoChange => false,
     }
 }
 

@@ -6,14 +6,13 @@ ghost use Rattle.constraints.specs.Column as q;
 ghost use Rattle.constraints.specs.Column.{isNullRequired};
 ghost use Rattle.constraints.specs.Payload.{payload};
 ghost use Rattle.columns.specs.Abstraction.{Conjuncts, numbered, columnOf};
-ghost use Rattle.columns.specs.Steps.{changesIn, consistent};
+ghost use Rattle.columns.specs.Steps.{consistent};
 ghost use Rattle.constraints.specs.declared.column.Nullability.the-variants.{Null};
 use crate::bound::Bound;
 use crate::bound::crosses;
-use crate::bound::lower_tightens;
 use crate::bound::tighten_lower;
 use crate::bound::tighten_upper;
-use crate::bound::upper_tightens;
+use constraints::column::BoundChange;
 use constraints::column::Nullability;
 use truth::scalar::Scalar;
 
@@ -27,6 +26,12 @@ pub struct ColumnConstraints {
     pub strict: bool,
     pub nullability: Nullability,
     pub unsat: bool,
+}
+
+/// A column that took a bound in, and what became of the one it had.
+pub struct Bounded {
+    pub column: ColumnConstraints,
+    pub change: BoundChange,
 }
 
 pub fn empty() -> ColumnConstraints
@@ -61,68 +66,70 @@ pub fn check_bound_consistency(c: ColumnConstraints) -> ColumnConstraints
     }
 }
 
-pub fn add_lower(c: ColumnConstraints, v: Scalar, inclusive: bool) -> ColumnConstraints
-    ensures { λ r. ⌜ ((t : Conjuncts) (a : List ℕ) → columnOf t (numbered a r) ≡ q.addLower payload (v .0) inclusive (columnOf t (numbered a c))) ⌝ }
-    ensures { λ r. ⌜ r .len ≡ c .len ⌝ }
+pub fn add_lower(c: ColumnConstraints, v: Scalar, inclusive: bool) -> Bounded
+    ensures { λ r. ⌜ ((t : Conjuncts) (a : List ℕ) → columnOf t (numbered a (r .column)) ≡
+        q.addLower payload (v .0) inclusive (columnOf t (numbered a c))) ⌝ }
+    ensures { λ r. ⌜ r .column .len ≡ c .len ⌝ }
+    ensures { λ r. ⌜ ((t : Conjuncts) (a : List ℕ) → r .change ≡
+        q.lowerChange payload (v .0) inclusive (columnOf t (numbered a c))) ⌝ }
 {
     if c.unsat {
-        return c;
+        return Bounded {
+            column: c,
+            change: BoundChange::NoChange,
+        };
     }
     let low = c.lower;
     let upp = c.upper;
     let nul = c.nullability;
-    let low2 = tighten_lower(low, v, inclusive);
-    ColumnConstraints {
-        lower: low2,
+    let m = tighten_lower(low, v, inclusive);
+    let b = m.bound;
+    let k = m.change;
+    let d = ColumnConstraints {
+        lower: b,
         upper: upp,
         len: c.len,
         strict: c.strict,
         nullability: nul,
-        unsat: crosses(low2, upp),
+        unsat: crosses(b, upp),
+    };
+    Bounded {
+        column: d,
+        change: k,
     }
 }
 
-pub fn add_upper(c: ColumnConstraints, v: Scalar, inclusive: bool) -> ColumnConstraints
-    ensures { λ r. ⌜ ((t : Conjuncts) (a : List ℕ) → columnOf t (numbered a r) ≡ q.addUpper payload (v .0) inclusive (columnOf t (numbered a c))) ⌝ }
-    ensures { λ r. ⌜ r .len ≡ c .len ⌝ }
+pub fn add_upper(c: ColumnConstraints, v: Scalar, inclusive: bool) -> Bounded
+    ensures { λ r. ⌜ ((t : Conjuncts) (a : List ℕ) → columnOf t (numbered a (r .column)) ≡
+        q.addUpper payload (v .0) inclusive (columnOf t (numbered a c))) ⌝ }
+    ensures { λ r. ⌜ r .column .len ≡ c .len ⌝ }
+    ensures { λ r. ⌜ ((t : Conjuncts) (a : List ℕ) → r .change ≡
+        q.upperChange payload (v .0) inclusive (columnOf t (numbered a c))) ⌝ }
 {
     if c.unsat {
-        return c;
+        return Bounded {
+            column: c,
+            change: BoundChange::NoChange,
+        };
     }
     let low = c.lower;
     let upp = c.upper;
     let nul = c.nullability;
-    let upp2 = tighten_upper(upp, v, inclusive);
-    ColumnConstraints {
+    let m = tighten_upper(upp, v, inclusive);
+    let b = m.bound;
+    let k = m.change;
+    let d = ColumnConstraints {
         lower: low,
-        upper: upp2,
+        upper: b,
         len: c.len,
         strict: c.strict,
         nullability: nul,
-        unsat: crosses(low, upp2),
+        unsat: crosses(low, b),
+    };
+    Bounded {
+        column: d,
+        change: k,
     }
-}
-
-/// Whether `add_lower` changes the column.
-pub fn lower_changes(c: ColumnConstraints, v: Scalar, inclusive: bool) -> bool
-    ensures { λ r. ⌜ ((t : Conjuncts) (a : List ℕ) → r ≡ changesIn (q.Lower inclusive (v .0)) (columnOf t (numbered a c))) ⌝ }
-{
-    if c.unsat {
-        return false;
-    }
-    let low = c.lower;
-    lower_tightens(low, v, inclusive)
-}
-
-/// Whether `add_upper` changes the column.
-pub fn upper_changes(c: ColumnConstraints, v: Scalar, inclusive: bool) -> bool
-    ensures { λ r. ⌜ ((t : Conjuncts) (a : List ℕ) → r ≡ changesIn (q.Upper inclusive (v .0)) (columnOf t (numbered a c))) ⌝ }
-{
-    if c.unsat {
-        return false;
-    }
-    let upp = c.upper;
-    upper_tightens(upp, v, inclusive)
 }
 
 /// The first requirement stays; the opposite one makes the column impossible.

@@ -10,11 +10,10 @@ ghost use Rattle.columns.specs.Abstraction.{Conjuncts, conjuncts, number
 ghost use Rattle.columns.specs.Steps.{Lists, mergingOf, emitting, recording};
 ghost use Rattle.columns.specs.Steps.{takeLower, takeUpper, takeMark, takeMarks};
 use crate::bound::Bound;
+use crate::bound::is_change;
 use crate::column::ColumnConstraints;
 use crate::column::add_lower;
 use crate::column::add_upper;
-use crate::column::lower_changes;
-use crate::column::upper_changes;
 use crate::marks::add_allowed;
 use crate::marks::add_disallowed;
 use crate::marks::add_excluded;
@@ -36,11 +35,12 @@ fn merge_lower_at(m: Merged, v: Scalar, inclusive: bool) -> Merged
     ensures { λ r. ⌜ r .column .len ≡ m .column .len ⌝ }
 {
     let c = m.column;
-    let changed = lower_changes(c, v, inclusive);
     let d = add_lower(c, v, inclusive);
+    let e = d.column;
+    let k = d.change;
     Merged {
-        column: d,
-        emitted: m.emitted | changed,
+        column: e,
+        emitted: m.emitted | is_change(k),
         any: m.any,
     }
 }
@@ -50,11 +50,12 @@ fn merge_upper_at(m: Merged, v: Scalar, inclusive: bool) -> Merged
     ensures { λ r. ⌜ r .column .len ≡ m .column .len ⌝ }
 {
     let c = m.column;
-    let changed = upper_changes(c, v, inclusive);
     let d = add_upper(c, v, inclusive);
+    let e = d.column;
+    let k = d.change;
     Merged {
-        column: d,
-        emitted: m.emitted | changed,
+        column: e,
+        emitted: m.emitted | is_change(k),
         any: m.any,
     }
 }

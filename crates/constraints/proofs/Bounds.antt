@@ -5,9 +5,12 @@ use Rattle.truth.proofs.Orders.{cmp-eq, cmp-gt, cmp-lt}
 use Rattle.truth.specs.Order.{View, above, is-equal, is-greater, is-less}
 use Rattle.truth.specs.declared.scalar.Ordering.{Ordering}
 use Rattle.truth.specs.declared.scalar.Ordering.the-variants.{Equal, Greater, Less}
-use Rattle.constraints.specs.Bound.{Bound, absent, at, clears, crosses, crossesBy, tighten, tightenBy, tightens}
-use Rattle.constraints.specs.Bound.{tightensBy}
+use Rattle.constraints.specs.Bound.{Bound, absent, at, clears, crosses, crossesBy, isChange, tighten, tightenBy}
 use Rattle.constraints.specs.Scalars.{Scalars, opposite}
+
+-- whether it moves, by how the new value compares with the held one
+abbrev pub tightensBy : {Val : Type 0} → Ordering → Bool → Val → Bool → Val → Bool
+tightensBy o d w c v = isChange (tightenBy o d w c v .change)
 
 module _ {K Val : Type 0} (S : Scalars K Val) where
   -- a key above the higher bound is above the lower one
@@ -34,24 +37,29 @@ module _ {K Val : Type 0} (S : Scalars K Val) where
   above-and false false Equal = refl
   above-and c d Greater = refl
 
-  pub tighten-is-intersection : (b : Bound Val) (c : Bool) (v : Val) (k : K) → clears S (tighten S b c v) k ≡
+  pub tighten-is-intersection : (b : Bound Val) (c : Bool) (v : Val) (k : K) → clears S (tighten S b c v .bound) k ≡
       (clears S b k && clears S (at c v) k)
   tighten-is-intersection absent c v k = refl
   tighten-is-intersection (at d w) c v k = go (S .total .view (S .key v) (S .key w))
     where
-      go : {o : Ordering} → View (S .order .less) (S .key v) (S .key w) o → clears S (tightenBy o d w c v) k ≡
+      go : {o : Ordering} → View (S .order .less) (S .key v) (S .key w) o → clears S (tightenBy o d w c v .bound) k ≡
           (clears S (at d w) k && clears S (at c v) k)
       go (is-less h) = sym (clears-chain (S .key v) (S .key w) k d c h) ∙
           and-comm (clears S (at c v) k) (clears S (at d w) k)
       go (is-equal e) = rw e (above-and c d (S .order .cmp (S .key w) k))
       go (is-greater h) = sym (clears-chain (S .key w) (S .key v) k c d h)
 
+  -- whether the bound moves
+  abbrev pub tightens : Bound Val → Bool → Val → Bool
+  tightens b c v = isChange (tighten S b c v .change)
+
   -- what does not move the bound leaves it
-  pub tighten-changes-nothing : (b : Bound Val) (c : Bool) (v : Val) → tightens S b c v ≡ false → tighten S b c v ≡ b
+  pub tighten-changes-nothing : (b : Bound Val) (c : Bool) (v : Val) → tightens b c v ≡ false →
+      tighten S b c v .bound ≡ b
   tighten-changes-nothing absent c v e = absurd (true≢false e)
   tighten-changes-nothing (at d w) c v e = go (S .order .cmp (S .key v) (S .key w)) c d e
     where
-      go : (o : Ordering) (c d : Bool) → tightensBy o d c ≡ false → tightenBy o d w c v ≡ at d w
+      go : (o : Ordering) (c d : Bool) → tightensBy o d w c v ≡ false → tightenBy o d w c v .bound ≡ at d w
       go Greater c d e = absurd (true≢false e)
       go Equal true true e = refl
       go Equal true false e = refl
@@ -68,7 +76,7 @@ module _ {K Val : Type 0} (S : Scalars K Val) where
 
   abbrev pub tightensFrom : Bound Val → Bound Val → Bool
   tightensFrom b absent = false
-  tightensFrom b (at c v) = tightens S b c v
+  tightensFrom b (at c v) = tightens b c v
 
   pub same-of-still : (a b : Bound Val) → tightensFrom a b ≡ false → tightensFrom b a ≡ false → SameBound a b
   same-of-still absent absent p q = tt
@@ -76,14 +84,14 @@ module _ {K Val : Type 0} (S : Scalars K Val) where
   same-of-still (at c v) absent p q = absurd (true≢false q)
   same-of-still (at c v) (at d w) p q = go (S .total .view (S .key v) (S .key w)) p q
     where
-      both : (c d : Bool) → tightensBy Equal c d ≡ false → tightensBy Equal d c ≡ false → c ≡ d
+      both : (c d : Bool) → tightensBy Equal c v d w ≡ false → tightensBy Equal d w c v ≡ false → c ≡ d
       both true true p q = refl
       both true false p q = absurd (true≢false p)
       both false true p q = absurd (true≢false q)
       both false false p q = refl
 
       go : {o : Ordering} → View (S .order .less) (S .key v) (S .key w) o →
-          tightensBy (S .order .cmp (S .key w) (S .key v)) c d ≡ false → tightensBy o d c ≡ false →
+          tightensBy (S .order .cmp (S .key w) (S .key v)) c v d w ≡ false → tightensBy o d w c v ≡ false →
           (S .key v ≡ S .key w) × (c ≡ d)
       go (is-less h) p q = absurd (true≢false (rw (cmp-gt (S .total) h) at p))
       go (is-equal e) p q = (e, both c d (rw (cmp-eq (S .total) (sym e)) at p) q)

@@ -93,11 +93,11 @@ isEmpty-snoc [] v = refl
 isEmpty-snoc (x ∷ l) v = refl
 
 module _ {K Val : Type 0} (S : Scalars K Val) where
-  pub tighten-present : (b : Bound Val) (c : Bool) (v : Val) → isAbsent (tighten S b c v) ≡ false
+  pub tighten-present : (b : Bound Val) (c : Bool) (v : Val) → isAbsent (tighten S b c v .bound) ≡ false
   tighten-present absent c v = refl
   tighten-present (at d w) c v = go (S .order .cmp (S .key v) (S .key w))
     where
-      go : (o : Ordering) → isAbsent (tightenBy o d w c v) ≡ false
+      go : (o : Ordering) → isAbsent (tightenBy o d w c v .bound) ≡ false
       go Less = refl
       go Equal = refl
       go Greater = refl
@@ -188,11 +188,11 @@ module _ {K Val : Type 0} (S : Scalars K Val) where
   put-unsat : (a : Constraint Val) (q : ColumnConstraints Val) (x : Option K) → q .unsat ≡ false → put S a q .unsat ≡
       true → (admitsEmitted (put S a q) x && (admitsRecorded q x && obeysRecorded a x)) ≡ false
   put-unsat (Lower c v) q none s e = simp tighten-present
-  put-unsat (Lower c v) q (some k) s e = let h = crossing-clears-nothing S (tighten S (q .lower) c v) (q .upper) k e
+  put-unsat (Lower c v) q (some k) s e = let h = crossing-clears-nothing S (tighten S (q .lower) c v .bound) (q .upper) k e
       in rw gone
   put-unsat (Upper c v) q none s e = simp (tighten-present, and-false)
   put-unsat (Upper c v) q (some k) s e = let h = crossing-clears-nothing S (q .lower)
-      (tighten (opposite S) (q .upper) c v) k e in rw gone
+      (tighten (opposite S) (q .upper) c v .bound) k e in rw gone
   put-unsat (Exclude v) q x s e = absurd (true≢false (sym e ∙ s))
   put-unsat (Allow l) q x s e = absurd (true≢false (sym e ∙ s))
   put-unsat (Disallow h l) q x s e = absurd (true≢false (sym e ∙ s))

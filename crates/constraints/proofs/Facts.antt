@@ -12,7 +12,8 @@ use Rattle.truth.specs.declared.scalar.Ordering.the-variants.{Equal, Greater, L
 use Rattle.constraints.proofs.Columns.{add-put, addAll-live}
 use Rattle.constraints.proofs.Merges.{or-no}
 use Rattle.constraints.proofs.Sets.{contains-extend, contains-insert, contains-retain}
-use Rattle.constraints.specs.Bound.{Bound, absent, at, tighten, tightenBy, tightens, tightensBy, ofBound}
+use Rattle.constraints.proofs.Bounds.{tightens, tightensBy}
+use Rattle.constraints.specs.Bound.{Bound, absent, at, isChange, ofBound, openedBy, tighten, tightenBy}
 use Rattle.constraints.specs.Column.{Allow, ColumnConstraints, Constraint, Disallow, Exclude, Lower, Require}
 use Rattle.constraints.specs.Column.{Upper, add, addAll, allowedChanges, allowedOf, changes, changesAll}
 use Rattle.constraints.specs.Column.{common, emitted, mergeAny, mergeFrom, put}
@@ -30,14 +31,15 @@ pub data Fact (K Val : Type 0) : Type 0 where
 
 module _ {K Val : Type 0} (S : Scalars K Val) where
   -- of two bounds, the tighter is at least as tight as a third where one of the two is
-  tightens-chain : (a b : K) (c d : Bool) → S .order .less a b → (k : K) (e : Bool) →
-      tightensBy (S .order .cmp k b) c e ≡ true → tightensBy (S .order .cmp k a) d e ≡ true
-  tightens-chain a b c d h k e m = go (S .total .view k b) m
+  tightens-chain : (w z : Val) (c d : Bool) → S .order .less (S .key w) (S .key z) → (v : Val) (e : Bool) →
+      tightensBy (S .order .cmp (S .key v) (S .key z)) c z e v ≡ true →
+      tightensBy (S .order .cmp (S .key v) (S .key w)) d w e v ≡ true
+  tightens-chain w z c d h v e m = go (S .total .view (S .key v) (S .key z)) m
     where
-      go : {o : Ordering} → View (S .order .less) k b o → tightensBy o c e ≡ true →
-          tightensBy (S .order .cmp k a) d e ≡ true
+      go : {o : Ordering} → View (S .order .less) (S .key v) (S .key z) o → tightensBy o c z e v ≡ true →
+          tightensBy (S .order .cmp (S .key v) (S .key w)) d w e v ≡ true
       go (is-less p) m = absurd (true≢false (sym m))
-      go (is-equal p) m = rw (cmp-gt (S .total) (subst (S .order .less a) (sym p) h))
+      go (is-equal p) m = rw (cmp-gt (S .total) (subst (S .order .less (S .key w)) (sym p) h))
       go (is-greater p) m = rw (cmp-gt (S .total) (S .total .trans h p))
 
   imp-and : (a b : Bool) → (b ≡ true → a ≡ true) → b ≡ (a && b)
@@ -45,31 +47,30 @@ module _ {K Val : Type 0} (S : Scalars K Val) where
   imp-and false true h = sym (h refl)
   imp-and false false h = refl
 
-  tighten-tightens : (b : Bound Val) (d : Bool) (w : Val) (c : Bool) (v : Val) → tightens S (tighten S b d w) c v ≡
-      (tightens S b c v && tightens S (at d w) c v)
+  tighten-tightens : (b : Bound Val) (d : Bool) (w : Val) (c : Bool) (v : Val) →
+      tightens S (tighten S b d w .bound) c v ≡ (tightens S b c v && tightens S (at d w) c v)
   tighten-tightens absent d w c v = refl
   tighten-tightens (at e z) d w c v = go (S .total .view (S .key w) (S .key z))
     where
-      eqs : (o : Ordering) (d e : Bool) → tightensBy o (d && e) c ≡ (tightensBy o e c && tightensBy o d c)
+      eqs : (o : Ordering) (d e : Bool) → tightensBy o (d && e) z c v ≡ (tightensBy o e z c v && tightensBy o d w c v)
       eqs Less d e = refl
       eqs Greater d e = refl
-      eqs Equal true true = sym (and-self (not c))
+      eqs Equal true true = sym (and-self (isChange (openedBy true c)))
       eqs Equal true false = refl
-      eqs Equal false true = sym (and-false (not c))
+      eqs Equal false true = sym (and-false (isChange (openedBy true c)))
       eqs Equal false false = refl
 
-      go : {o : Ordering} → View (S .order .less) (S .key w) (S .key z) o → tightens S (tightenBy o e z d w) c v ≡
-          (tightensBy (S .order .cmp (S .key v) (S .key z)) e c && tightensBy (S .order .cmp (S .key v) (S .key w)) d
-          c)
-      go (is-less h) = imp-and (tightensBy (S .order .cmp (S .key v) (S .key w)) d c)
-          (tightensBy (S .order .cmp (S .key v) (S .key z)) e c)
-          (tightens-chain (S .key w) (S .key z) e d h (S .key v) c) ∙
-          and-comm (tightensBy (S .order .cmp (S .key v) (S .key w)) d c)
-          (tightensBy (S .order .cmp (S .key v) (S .key z)) e c)
+      go : {o : Ordering} → View (S .order .less) (S .key w) (S .key z) o →
+          tightens S (tightenBy o e z d w .bound) c v ≡
+          (tightensBy (S .order .cmp (S .key v) (S .key z)) e z c v && tightensBy (S .order .cmp (S .key v) (S .key w))
+          d w c v)
+      go (is-less h) = imp-and (tightensBy (S .order .cmp (S .key v) (S .key w)) d w c v)
+          (tightensBy (S .order .cmp (S .key v) (S .key z)) e z c v) (tightens-chain w z e d h v c) ∙
+          and-comm (tightensBy (S .order .cmp (S .key v) (S .key w)) d w c v)
+          (tightensBy (S .order .cmp (S .key v) (S .key z)) e z c v)
       go (is-equal h) = rw h (eqs (S .order .cmp (S .key v) (S .key z)) d e)
-      go (is-greater h) = imp-and (tightensBy (S .order .cmp (S .key v) (S .key z)) e c)
-          (tightensBy (S .order .cmp (S .key v) (S .key w)) d c)
-          (tightens-chain (S .key z) (S .key w) d e h (S .key v) c)
+      go (is-greater h) = imp-and (tightensBy (S .order .cmp (S .key v) (S .key z)) e z c v)
+          (tightensBy (S .order .cmp (S .key v) (S .key w)) d w c v) (tightens-chain z w d e h v c)
 
 abbrev pub outOf : {K Val : Type 0} → (K → List Val → Bool) → Option (List Val) → K → Bool
 outOf m none k = false
@@ -377,7 +378,7 @@ module _ {K Val : Type 0} (S : Scalars K Val) where
   unmoved-self : (P : Scalars K Val) (c : Bool) (v : Val) → tightens P (at c v) c v ≡ false
   unmoved-self P c v = rw (cmp-refl (P .total) (P .key v)) (go c)
     where
-      go : (c : Bool) → (c && not c) ≡ false
+      go : (c : Bool) → isChange (openedBy c c) ≡ false
       go true = refl
       go false = refl
 

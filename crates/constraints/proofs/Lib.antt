@@ -1,4 +1,5 @@
 pub mod Bounds
+pub mod Changes
 pub mod Sets
 pub mod Columns
 pub mod Merges

@@ -4,10 +4,12 @@
 use mathlib.Core.Bool.{Bool, true, false, not, _&&_, _||_, cond}
 use mathlib.Core.List.{List, [], _∷_, _++_, map}
 use mathlib.Core.Option.{Option, none, some}
+use Rattle.constraints.specs.declared.column.BoundChange.{BoundChange}
+use Rattle.constraints.specs.declared.column.BoundChange.the-variants.{NoChange}
 use Rattle.constraints.specs.declared.column.Nullability.{Nullability}
 use Rattle.constraints.specs.declared.column.Nullability.the-variants.{Unconstrained, Null, NonNull}
 use Rattle.constraints.specs.Scalars.{Scalars, opposite}
-use Rattle.constraints.specs.Bound.{Bound, absent, ofBound, tighten, tightens, crosses}
+use Rattle.constraints.specs.Bound.{Bound, absent, ofBound, isChange, tighten, crosses}
 use Rattle.constraints.specs.Values.{isEmpty, contains, insert, extend, retain, subset}
 
 pub record ColumnConstraints (Val : Type 0) : Type 0 where
@@ -93,8 +95,8 @@ module _ {K Val : Type 0} (S : Scalars K Val) where
 
   -- A column that is not impossible takes a constraint in.
   abbrev pub put : Constraint Val → ColumnConstraints Val → ColumnConstraints Val
-  put (Lower inclusive v) cc = checkBoundConsistency (setLower (tighten S (cc .lower) inclusive v) cc)
-  put (Upper inclusive v) cc = checkBoundConsistency (setUpper (tighten (opposite S) (cc .upper) inclusive v) cc)
+  put (Lower inclusive v) cc = checkBoundConsistency (setLower (tighten S (cc .lower) inclusive v .bound) cc)
+  put (Upper inclusive v) cc = checkBoundConsistency (setUpper (tighten (opposite S) (cc .upper) inclusive v .bound) cc)
   put (Exclude v) cc =
       column cc.lower cc.upper (insert S v cc.excluded) cc.allowed cc.disallowed cc.strict cc.nullability cc.unsat
   put (Allow values) cc =
@@ -139,10 +141,17 @@ module _ {K Val : Type 0} (S : Scalars K Val) where
   allowedChanges none values = true
   allowedChanges (some held) values = not (subset S held values)
 
+  -- What became of the bound; both kinds of move count. An impossible column's does not move.
+  abbrev pub lowerChange : Val → Bool → ColumnConstraints Val → BoundChange
+  lowerChange v inclusive cc = cond (cc .unsat) NoChange (tighten S (cc .lower) inclusive v .change)
+
+  abbrev pub upperChange : Val → Bool → ColumnConstraints Val → BoundChange
+  upperChange v inclusive cc = cond (cc .unsat) NoChange (tighten (opposite S) (cc .upper) inclusive v .change)
+
   -- `require_nullability` returns nothing, and a merge passes no list that counts: their answers are never asked for.
   abbrev pub changes : Constraint Val → ColumnConstraints Val → Bool
-  changes (Lower inclusive v) cc = tightens S (cc .lower) inclusive v
-  changes (Upper inclusive v) cc = tightens (opposite S) (cc .upper) inclusive v
+  changes (Lower inclusive v) cc = isChange (tighten S (cc .lower) inclusive v .change)
+  changes (Upper inclusive v) cc = isChange (tighten (opposite S) (cc .upper) inclusive v .change)
   changes (Exclude v) cc = not (contains S (S .key v) (cc .excluded))
   changes (Allow values) cc = allowedChanges (cc .allowed) values
   changes (Disallow true values) cc = true

@@ -5,6 +5,15 @@ pub enum Nullability {
     NonNull,
 }
 
+/// What became of a bound that was to be tightened.
+pub enum BoundChange {
+    /// Another value, or the first.
+    NewValue,
+    /// The same value, closed before and open now.
+    NewlyOpen,
+    NoChange,
+}
+
 /// How a `!= value` resolves once the bounds are known.
 pub enum ExcludedResolution {
     /// Outside the range: it says nothing new.

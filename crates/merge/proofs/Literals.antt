@@ -79,11 +79,11 @@ module _ {Val : Type 0} (P P′ : Val → Type 0) (f : (v : Val) → P v → P�
   column-map q h = (bound-map (q .lower) (h .0), bound-map (q .upper) (h .1), list-map (q .excluded) (h .2))
 
 module _ {K Val : Type 0} (P : Val → Type 0) where
-  tighten-p : (S : Scalars K Val) (b : Bound Val) (c : Bool) (v : Val) → BoundP P b → P v → BoundP P (tighten S b c v)
+  tighten-p : (S : Scalars K Val) (b : Bound Val) (c : Bool) (v : Val) → BoundP P b → P v → BoundP P (tighten S b c v .bound)
   tighten-p S absent c v h p = p
   tighten-p S (at d w) c v h p = go (S .order .cmp (S .key v) (S .key w))
     where
-      go : (o : Ordering) → BoundP P (tightenBy o d w c v)
+      go : (o : Ordering) → BoundP P (tightenBy o d w c v .bound)
       go Less = h
       go Equal = h
       go Greater = p

@@ -9,8 +9,8 @@ use Prim.Native.Nat.{ℕ, zero, suc}
 use lib.Dec.{eqb}
 use Rattle.truth.proofs.Orders.{cmp-eq, cmp-refl}
 use Rattle.truth.specs.Order.{isEqual}
-use Rattle.constraints.proofs.Bounds.{SameBound, tighten-changes-nothing}
-use Rattle.constraints.specs.Bound.{Bound, absent, at, crosses, ofBound, tighten, tightens}
+use Rattle.constraints.proofs.Bounds.{SameBound, tighten-changes-nothing, tightens}
+use Rattle.constraints.specs.Bound.{Bound, absent, at, crosses, isChange, ofBound, openedBy, tighten}
 use Rattle.constraints.specs.Column.{Allow, ColumnConstraints, Constraint, Disallow, Exclude, Lower, Upper}
 use Rattle.constraints.specs.Column.{add, addAll, allowedOf, changes, changesAll, column, emitted, mergeEmitted}
 use Rattle.constraints.specs.Column.{mergeFrom, put}
@@ -34,28 +34,28 @@ module _ {K Val : Type 0} (S : Scalars K Val) where
   abbrev Uncrossed : ColumnConstraints Val → Type 0
   Uncrossed q = crosses S (q .lower) (q .upper) ≡ false
 
-  and-not : (c : Bool) → (c && not c) ≡ false
-  and-not true = refl
-  and-not false = refl
+  opened-self : (c : Bool) → isChange (openedBy c c) ≡ false
+  opened-self true = refl
+  opened-self false = refl
 
   same-tightens : (P : Scalars K Val) (c : Bool) (v : Val) (d : Bool) (w : Val) → P .key v ≡ P .key w → c ≡ d →
       tightens P (at c v) d w ≡ false
-  same-tightens P c v d w e f = rw (cmp-eq (P .total) (sym e), f) (and-not d)
+  same-tightens P c v d w e f = rw (cmp-eq (P .total) (sym e), f) (opened-self d)
 
   -- ---- adding what is there already
   put-lower : (q : ColumnConstraints Val) (c : Bool) (v : Val) → tightens S (q .lower) c v ≡ false → Uncrossed q →
       q .unsat ≡ false → put S (Lower c v) q ≡ q
   put-lower q c v t x s =
-      let e : tighten S (q .lower) c v ≡ q .lower = tighten-changes-nothing S (q .lower) c v t in
-      let u : crosses S (tighten S (q .lower) c v) (q .upper) ≡ q .unsat =
+      let e : tighten S (q .lower) c v .bound ≡ q .lower = tighten-changes-nothing S (q .lower) c v t in
+      let u : crosses S (tighten S (q .lower) c v .bound) (q .upper) ≡ q .unsat =
       ap (λ b. crosses S b (q .upper)) e ∙ x ∙ sym s in
       λ i. column (e i) (q .upper) (q .excluded) (q .allowed) (q .disallowed) (q .strict) (q .nullability) (u i)
 
   put-upper : (q : ColumnConstraints Val) (c : Bool) (v : Val) → tightens (opposite S) (q .upper) c v ≡ false →
       Uncrossed q → q .unsat ≡ false → put S (Upper c v) q ≡ q
   put-upper q c v t x s =
-      let e : tighten (opposite S) (q .upper) c v ≡ q .upper = tighten-changes-nothing (opposite S) (q .upper) c v t in
-      let u : crosses S (q .lower) (tighten (opposite S) (q .upper) c v) ≡ q .unsat =
+      let e : tighten (opposite S) (q .upper) c v .bound ≡ q .upper = tighten-changes-nothing (opposite S) (q .upper) c v t in
+      let u : crosses S (q .lower) (tighten (opposite S) (q .upper) c v .bound) ≡ q .unsat =
       ap (crosses S (q .lower)) e ∙ x ∙ sym s in
       λ i. column (q .lower) (e i) (q .excluded) (q .allowed) (q .disallowed) (q .strict) (q .nullability) (u i)
 

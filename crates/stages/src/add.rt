@@ -23,14 +23,33 @@ use rewrite::classify::Comparison;
 use rewrite::classify::Says;
 use truth::scalar::Scalar;
 
+// The column alone; what became of its bound matters to a merge.
+fn with_lower(c: ColumnConstraints, v: Scalar, inclusive: bool) -> ColumnConstraints
+    ensures { λ r. ⌜ ((t : Conjuncts) (a : List ℕ) → columnOf t (numbered a r) ≡ q.addLower payload (v .0) inclusive (columnOf t (numbered a c))) ⌝ }
+    ensures { λ r. ⌜ r .len ≡ c .len ⌝ }
+{
+    let b = add_lower(c, v, inclusive);
+    let d = b.column;
+    d
+}
+
+fn with_upper(c: ColumnConstraints, v: Scalar, inclusive: bool) -> ColumnConstraints
+    ensures { λ r. ⌜ ((t : Conjuncts) (a : List ℕ) → columnOf t (numbered a r) ≡ q.addUpper payload (v .0) inclusive (columnOf t (numbered a c))) ⌝ }
+    ensures { λ r. ⌜ r .len ≡ c .len ⌝ }
+{
+    let b = add_upper(c, v, inclusive);
+    let d = b.column;
+    d
+}
+
 // `==` is a lower and an upper bound, both inclusive.
 fn add_equal(c: ColumnConstraints, v: Scalar) -> ColumnConstraints
     ensures { λ r. ⌜ ((t : Conjuncts) (a : List ℕ) → columnOf t (numbered a r) ≡ q.addUpper payload (v .0) true
         (q.addLower payload (v .0) true (columnOf t (numbered a c)))) ⌝ }
     ensures { λ r. ⌜ r .len ≡ c .len ⌝ }
 {
-    let d = add_lower(c, v, true);
-    add_upper(d, v, true)
+    let d = with_lower(c, v, true);
+    with_upper(d, v, true)
 }
 
 // `column k v`, of conjunct j. Only `!=` gives the number j to the column.
@@ -52,10 +71,10 @@ fn add_comparison(
     match k {
         Comparison::Eq => add_equal(c, v),
         Comparison::NotEq => add_excluded(kinds, values, marks, c, j),
-        Comparison::Lt => add_upper(c, v, false),
-        Comparison::LtEq => add_upper(c, v, true),
-        Comparison::Gt => add_lower(c, v, false),
-        Comparison::GtEq => add_lower(c, v, true),
+        Comparison::Lt => with_upper(c, v, false),
+        Comparison::LtEq => with_upper(c, v, true),
+        Comparison::Gt => with_lower(c, v, false),
+        Comparison::GtEq => with_lower(c, v, true),
     }
 }
 
@@ -91,8 +110,8 @@ fn add_between(
         (q.addLower payload (v .0) (closesLow ends) (columnOf t (numbered a c)))) ⌝ }
     ensures { λ r. ⌜ r .len ≡ c .len ⌝ }
 {
-    let d = add_lower(c, v, closes_low(ends));
-    add_upper(d, w, closes_high(ends))
+    let d = with_lower(c, v, closes_low(ends));
+    with_upper(d, w, closes_high(ends))
 }
 
 /// What conjunct j says of its column, whose numbers are in `marks`.

@@ -2,56 +2,56 @@ use borrow.Author.Needs.{needs}
 use Rattle.columns.proofs.bound.tighten_upper.Statement.{statement}
 use Rattle.columns.proofs.bound.tighten_upper.Tie as tie
 
--- src/bound.rt:77:26
 enum-told : tie.Need-enum-told
 enum-told c = search needs
 
--- src/bound.rt:77:26
-bound-at-requires : tie.Need-bound-at-requires
-bound-at-requires c κs = search needs
+new-value-requires : tie.Need-new-value-requires
+new-value-requires c κs = search needs
 
--- src/bound.rt:78:21
 enum-known-held : tie.Need-enum-known-held
 enum-known-held c = search needs
 
--- src/bound.rt:79:17
 compare-requires : tie.Need-compare-requires
 compare-requires c κs = search needs
 
--- src/bound.rt:80:13
 tighten-requires : tie.Need-tighten-requires
 tighten-requires c κs = search needs
 
--- src/bound.rt:82:23
 enum-known-held-2 : tie.Need-enum-known-held-2
 enum-known-held-2 c = search needs
 
--- src/bound.rt:83:17
 compare-requires-2 : tie.Need-compare-requires-2
 compare-requires-2 c κs = search needs
 
--- src/bound.rt:84:13
 tighten-requires-2 : tie.Need-tighten-requires-2
 tighten-requires-2 c κs = search needs
 
--- src/bound.rt:73:1
 returns : tie.Need-returns
-returns c = rw (c .before .enum-told .given .1, c .bound-at .ensures)
+returns c =
+    let enum-told = c .before .enum-told in
+    let new-value = c .new-value in
+    rw (enum-told .given .1, new-value .ensures)
 
--- src/bound.rt:73:1
 returns-2 : tie.Need-returns-2
-returns-2 c = rw (c .before .before .before .held .given .1, c .tighten .ensures, c .before .compare .ensures)
+returns-2 c =
+    let held = c .before .before .before .held in
+    let compare = c .before .compare in
+    let tighten = c .tighten in
+    rw (held .given .1, tighten .ensures, compare .ensures)
 
--- src/bound.rt:73:1
 returns-3 : tie.Need-returns-3
-returns-3 c = rw (c .before .before .before .held2 .given .1, c .tighten2 .ensures, c .before .compare2 .ensures)
+returns-3 c =
+    let held2 = c .before .before .before .held2 in
+    let compare2 = c .before .compare2 in
+    let tighten2 = c .tighten2 in
+    rw (held2 .given .1, tighten2 .ensures, compare2 .ensures)
 
 pub tighten-upper-spec : {M : Type 1} → statement M
 tighten-upper-spec =
     tie.close
     (tie.spec
     enum-told
-    bound-at-requires
+    new-value-requires
     enum-known-held
     compare-requires
     tighten-requires

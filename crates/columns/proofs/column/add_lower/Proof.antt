@@ -1,30 +1,29 @@
-use mathlib.Core.Path.{refl}
+use mathlib.Core.Path.{refl, ap}
+use Prim.Native.Nat.{ℕ}
 use borrow.Author.Needs.{needs}
+use Rattle.constraints.specs.Bound.{Tightened}
 use Rattle.columns.proofs.column.add_lower.Statement.{statement}
 use Rattle.columns.proofs.column.add_lower.Tie as tie
 
--- src/column.rt:87:9
 returns : tie.Need-returns
-returns c = ((λ t a. rw (c .if1 .taken)), refl)
+returns c = ((λ t a. rw (c .if1 .taken)), (refl, λ t a. rw (c .if1 .taken)))
 
--- src/column.rt:93:9
 tighten-lower-requires : tie.Need-tighten-lower-requires
 tighten-lower-requires c κs = search needs
 
--- src/column.rt:101:16
 crosses-requires : tie.Need-crosses-requires
 crosses-requires c κs = search needs
 
--- src/column.rt:82:1
 returns-2 : tie.Need-returns-2
-returns-2 c = (
-  (λ t a. rw (
-    c .before .before .if1 .left,
-    c .crosses .ensures,
-    c .before .tighten-lower .ensures,
-  )),
-  refl,
-)
+returns-2 c =
+    let e = c .before .tighten-lower .ensures in (
+      (λ t a. rw (
+        c .before .before .if1 .left,
+        c .crosses .ensures,
+        ap (λ (x : Tightened ℕ). x .bound) e,
+      )),
+      (refl, λ t a. rw (c .before .before .if1 .left) (ap (λ (x : Tightened ℕ). x .change) e)),
+    )
 
 pub add-lower-spec : {M : Type 1} → statement M
 add-lower-spec = tie.close (tie.spec returns tighten-lower-requires crosses-requires returns-2)

@@ -3,8 +3,8 @@ use Rattle.stages.proofs.add.add_between.Statement.{statement}
 use Rattle.stages.proofs.add.add_between.Tie as tie
 use Rattle.stages.proofs.add.add_between.Reads as reads
 use Rattle.stages.proofs.add.add_between.Lts as lts
-use Rattle.columns.proofs.column.add_lower.Reads as add-lower-reads
-use Rattle.columns.proofs.column.add_upper.Reads as add-upper-reads
+use Rattle.stages.proofs.add.with_lower.Reads as with-lower-reads
+use Rattle.stages.proofs.add.with_upper.Reads as with-upper-reads
 use Rattle.stages.proofs.add.closes_high.Reads as closes-high-reads
 use Rattle.stages.proofs.add.closes_low.Reads as closes-low-reads
 use Rattle.constraints.specs.Payload.{payload}
@@ -16,29 +16,29 @@ closes-low-requires : tie.Need-closes-low-requires
 closes-low-requires c κs = search needs
 
 -- src/add.rt:94:9
-add-lower-requires : tie.Need-add-lower-requires
-add-lower-requires c κs = search needs
+with-lower-requires : tie.Need-with-lower-requires
+with-lower-requires c κs = search needs
 
 -- src/add.rt:95:21
 closes-high-requires : tie.Need-closes-high-requires
 closes-high-requires c κs = search needs
 
 -- src/add.rt:95:5
-add-upper-requires : tie.Need-add-upper-requires
-add-upper-requires c κs = search needs
+with-upper-requires : tie.Need-with-upper-requires
+with-upper-requires c κs = search needs
 
 -- src/add.rt:84:1
 returns : tie.Need-returns
 returns c =
     let closes-low = c .before .before .before .closes-low in
     let st = c .before .before .before .before in
-    let add-lower = c .before .before .add-lower in
+    let with-lower = c .before .before .with-lower in
     let closes-high = c .before .closes-high in
-    let add-upper = c .add-upper in (
-      (λ t a. rw (← closes-high .ensures, ← closes-low .ensures) (add-upper .ensures .0 t a ∙ ap (λ x. q.addUpper
-          payload (st .args .w .0) (closes-high .result) x) (add-lower .ensures .0 t a))),
-      add-upper .ensures .1 ∙
-          add-lower .ensures .1,
+    let with-upper = c .with-upper in (
+      (λ t a. rw (← closes-high .ensures, ← closes-low .ensures) (with-upper .ensures .0 t a ∙ ap (λ x. q.addUpper
+          payload (st .args .w .0) (closes-high .result) x) (with-lower .ensures .0 t a))),
+      with-upper .ensures .1 ∙
+          with-lower .ensures .1,
     )
 
 pub add-between-spec : {M : Type 1} → statement M
@@ -46,7 +46,7 @@ add-between-spec =
     tie.close
     (tie.spec
     closes-low-requires
-    add-lower-requires
+    with-lower-requires
     closes-high-requires
-    add-upper-requires
+    with-upper-requires
     returns)

@@ -3,8 +3,8 @@ use Rattle.stages.proofs.add.add_comparison.Statement.{statement}
 use Rattle.stages.proofs.add.add_comparison.Tie as tie
 use Rattle.stages.proofs.add.add_comparison.Reads as reads
 use Rattle.stages.proofs.add.add_comparison.Lts as lts
-use Rattle.columns.proofs.column.add_lower.Reads as add-lower-reads
-use Rattle.columns.proofs.column.add_upper.Reads as add-upper-reads
+use Rattle.stages.proofs.add.with_lower.Reads as with-lower-reads
+use Rattle.stages.proofs.add.with_upper.Reads as with-upper-reads
 use Rattle.columns.proofs.marks.add_excluded.Reads as add-excluded-reads
 use Rattle.stages.proofs.add.add_equal.Reads as add-equal-reads
 use Rattle.rewrite.proofs.Telling.{fine-same}
@@ -38,32 +38,32 @@ enum-told-3 : tie.Need-enum-told-3
 enum-told-3 c = search needs
 
 -- src/add.rt:55:27
-add-upper-requires : tie.Need-add-upper-requires
-add-upper-requires c κs = search needs
+with-upper-requires : tie.Need-with-upper-requires
+with-upper-requires c κs = search needs
 
 -- src/add.rt:56:29
 enum-told-4 : tie.Need-enum-told-4
 enum-told-4 c = search needs
 
 -- src/add.rt:56:29
-add-upper-requires-2 : tie.Need-add-upper-requires-2
-add-upper-requires-2 c κs = search needs
+with-upper-requires-2 : tie.Need-with-upper-requires-2
+with-upper-requires-2 c κs = search needs
 
 -- src/add.rt:57:27
 enum-told-5 : tie.Need-enum-told-5
 enum-told-5 c = search needs
 
 -- src/add.rt:57:27
-add-lower-requires : tie.Need-add-lower-requires
-add-lower-requires c κs = search needs
+with-lower-requires : tie.Need-with-lower-requires
+with-lower-requires c κs = search needs
 
 -- src/add.rt:58:29
 enum-told-6 : tie.Need-enum-told-6
 enum-told-6 c = search needs
 
 -- src/add.rt:58:29
-add-lower-requires-2 : tie.Need-add-lower-requires-2
-add-lower-requires-2 c κs = search needs
+with-lower-requires-2 : tie.Need-with-lower-requires-2
+with-lower-requires-2 c κs = search needs
 
 -- src/add.rt:37:1
 returns : tie.Need-returns
@@ -98,10 +98,10 @@ returns-3 : tie.Need-returns-3
 returns-3 c =
     let st = c .before .before .before .before .before .before in
     let enum-told3 = c .before .enum-told3 in
-    let add-upper = c .add-upper in (
-      (λ t e f. rw (enum-told3 .given .1) (add-upper .ensures .0 t (st .args .marks .now))),
+    let with-upper = c .with-upper in (
+      (λ t e f. rw (enum-told3 .given .1) (with-upper .ensures .0 t (st .args .marks .now))),
       fine-same _ _ _ _
-          (add-upper .ensures .1) (st .pre .0),
+          (with-upper .ensures .1) (st .pre .0),
     )
 
 -- src/add.rt:37:1
@@ -109,10 +109,10 @@ returns-4 : tie.Need-returns-4
 returns-4 c =
     let st = c .before .before .before .before .before .before in
     let enum-told4 = c .before .enum-told4 in
-    let add-upper2 = c .add-upper2 in (
-      (λ t e f. rw (enum-told4 .given .1) (add-upper2 .ensures .0 t (st .args .marks .now))),
+    let with-upper2 = c .with-upper2 in (
+      (λ t e f. rw (enum-told4 .given .1) (with-upper2 .ensures .0 t (st .args .marks .now))),
       fine-same _ _ _ _
-          (add-upper2 .ensures .1) (st .pre .0),
+          (with-upper2 .ensures .1) (st .pre .0),
     )
 
 -- src/add.rt:37:1
@@ -120,10 +120,10 @@ returns-5 : tie.Need-returns-5
 returns-5 c =
     let st = c .before .before .before .before .before .before in
     let enum-told5 = c .before .enum-told5 in
-    let add-lower = c .add-lower in (
-      (λ t e f. rw (enum-told5 .given .1) (add-lower .ensures .0 t (st .args .marks .now))),
+    let with-lower = c .with-lower in (
+      (λ t e f. rw (enum-told5 .given .1) (with-lower .ensures .0 t (st .args .marks .now))),
       fine-same _ _ _ _
-          (add-lower .ensures .1) (st .pre .0),
+          (with-lower .ensures .1) (st .pre .0),
     )
 
 -- src/add.rt:37:1
@@ -131,10 +131,10 @@ returns-6 : tie.Need-returns-6
 returns-6 c =
     let st = c .before .before .before .before .before .before in
     let enum-told6 = c .before .enum-told6 in
-    let add-lower2 = c .add-lower2 in (
-      (λ t e f. rw (enum-told6 .given .1) (add-lower2 .ensures .0 t (st .args .marks .now))),
+    let with-lower2 = c .with-lower2 in (
+      (λ t e f. rw (enum-told6 .given .1) (with-lower2 .ensures .0 t (st .args .marks .now))),
       fine-same _ _ _ _
-          (add-lower2 .ensures .1) (st .pre .0),
+          (with-lower2 .ensures .1) (st .pre .0),
     )
 
 pub add-comparison-spec : {M : Type 1} → statement M
@@ -146,13 +146,13 @@ add-comparison-spec =
     enum-told-2
     add-excluded-requires
     enum-told-3
-    add-upper-requires
+    with-upper-requires
     enum-told-4
-    add-upper-requires-2
+    with-upper-requires-2
     enum-told-5
-    add-lower-requires
+    with-lower-requires
     enum-told-6
-    add-lower-requires-2
+    with-lower-requires-2
     returns
     same-length
     returns-2
