@@ -102,11 +102,14 @@ static int refers(const struct screen_lent *s, struct fields f, uint64_t node)
 }
 
 /* 6: what is left out. */
-static int left_out(const struct screen_lent *s, struct fields f)
+static int left_out(struct fields f)
 {
-    if (f.kind == SCREEN_KIND_BINARY)
-        return f.code > SCREEN_OP_GT_EQ && f.code < SCREEN_OP_AND;
-    return f.kind == SCREEN_KIND_NOT && s->records[16 * (size_t)f.a] == SCREEN_KIND_BINARY;
+    return f.kind == SCREEN_KIND_BINARY && f.code > SCREEN_OP_GT_EQ && f.code < SCREEN_OP_FLOOR_DIVIDE;
+}
+
+static int divides(struct fields f)
+{
+    return f.kind == SCREEN_KIND_BINARY && (f.code == SCREEN_OP_FLOOR_DIVIDE || f.code == SCREEN_OP_MODULUS);
 }
 
 /* 7: the type of a record whose inputs fit, or 0. */
@@ -127,6 +130,8 @@ static unsigned type_of(const struct screen_lent *s, struct fields f, const uint
     case SCREEN_KIND_BINARY:
         if (a != types[f.b] || (f.code >= SCREEN_OP_AND && a != SCREEN_TYPE_TRUTH))
             return 0;
+        if (divides(f))
+            return a == SCREEN_TYPE_INT ? SCREEN_TYPE_INT : 0;
         break;
     case SCREEN_KIND_NOT:
         if (a != SCREEN_TYPE_TRUTH)
@@ -158,7 +163,7 @@ uint32_t plain_check(const struct screen_lent *s)
             return SCREEN_REFUSED_RECORD;
         if (!refers(s, f, node))
             return SCREEN_REFUSED_REFERENCE;
-        if (left_out(s, f))
+        if (left_out(f))
             return SCREEN_REFUSED_OPERATOR;
         type = type_of(s, f, types);
         if (type == 0)
@@ -234,10 +239,26 @@ struct eval {
 };
 
 static unsigned truth_at(const struct eval *e, uint64_t node);
+static struct scalar scalar_at(const struct eval *e, uint64_t node);
 
 static unsigned of(int holds)
 {
     return holds ? TRUE : FALSE;
+}
+
+/* C rounds toward zero: where the remainder has not the divisor's sign the quotient is one too large. */
+static struct scalar divided(unsigned code, struct scalar a, struct scalar b)
+{
+    struct scalar found = {0, 0};
+    int64_t remainder, up;
+    if (a.null || b.null || b.v == 0 || (a.v == INT64_MIN && b.v == -1)) {
+        found.null = 1;
+        return found;
+    }
+    remainder = a.v % b.v;
+    up = remainder != 0 && (remainder < 0) != (b.v < 0);
+    found.v = code == SCREEN_OP_MODULUS ? remainder + up * b.v : a.v / b.v - up;
+    return found;
 }
 
 static struct scalar scalar_at(const struct eval *e, uint64_t node)
@@ -255,6 +276,8 @@ static struct scalar scalar_at(const struct eval *e, uint64_t node)
     case SCREEN_KIND_LITERAL: found.v = value(e->s->records + 16 * node + 8); return found;
     case SCREEN_KIND_NULL: return null;
     default:
+        if (divides(f))
+            return divided(f.code, scalar_at(e, f.a), scalar_at(e, f.b));
         truth = truth_at(e, node);
         if (truth == UNKNOWN)
             return null;

@@ -64,7 +64,7 @@
  *
  * PLATFORM
  *
- * x86-64 Linux, two's complement. The archive needs nothing but memcpy and memset, has some 41 KB of code, keeps no
+ * x86-64 Linux, two's complement. The archive needs nothing but memcpy and memset, has some 42 KB of code, keeps no
  * state and opens no file. MIT licence: LICENSE, and NOTICE for the Rust sources that it follows.
  *
  * "Document 01" in this file and in the sources is docs/01-scope.md, the paper that the library is made from.
@@ -77,8 +77,8 @@
 
 /* Of this interface: the major number rises if a host must be changed to compile, the minor one if something is new. */
 #define SCREEN_VERSION_MAJOR 2
-#define SCREEN_VERSION_MINOR 0
-#define SCREEN_VERSION "2.0"
+#define SCREEN_VERSION_MINOR 1
+#define SCREEN_VERSION "2.1"
 
 /* A host that leaves an answer unread is warned, by compilers that can. */
 #if defined(__GNUC__)
@@ -125,7 +125,10 @@ enum screen_kind {
     SCREEN_KIND_IS_IN = 10
 };
 
-/* The code of a binary record. Codes 8 to 14 are arithmetic, which is left out: a record with one is refused. */
+/*
+ * The code of a binary record. Codes 8 to 12 are arithmetic that is left out: a record with one is refused. FloorDivide
+ * and Modulus are values, of type Int; every other binary record is a truth.
+ */
 enum screen_operator {
     SCREEN_OP_EQ = 0,
     SCREEN_OP_EQ_VALIDITY = 1, /* equal, null taken as a value */
@@ -135,6 +138,8 @@ enum screen_operator {
     SCREEN_OP_LT_EQ = 5,
     SCREEN_OP_GT = 6,
     SCREEN_OP_GT_EQ = 7,
+    SCREEN_OP_FLOOR_DIVIDE = 13, /* of two Ints: the quotient, rounded down */
+    SCREEN_OP_MODULUS = 14,      /* of two Ints: the remainder, with the divisor's sign or zero */
     SCREEN_OP_AND = 15,
     SCREEN_OP_OR = 16,
     SCREEN_OP_XOR = 17,
@@ -170,11 +175,12 @@ enum screen_refusal {
      * is past the pool (also with count 0) or that has a value outside its type. Pool values in no list do not matter.
      */
     SCREEN_REFUSED_REFERENCE = 5,
-    /* A binary record with an arithmetic operator. */
+    /* A binary record with an arithmetic operator that is left out, codes 8 to 12. */
     SCREEN_REFUSED_OPERATOR = 6,
     /*
-     * Types that do not fit. Comparisons and is_between take values of one type, Truth too; logic and Not take Truth; a
-     * list serves only as the second input of is_in, and is of the type of its first. The root must be Truth.
+     * Types that do not fit. Comparisons and is_between take values of one type, Truth too; FloorDivide and Modulus
+     * take Int; logic and Not take Truth; a list serves only as the second input of is_in, and is of the type of its
+     * first. The root must be Truth.
      */
     SCREEN_REFUSED_TYPES = 7,
     /* The root's tree has over 4,096 records, a shared record counted each time it is reached, lists too. */
@@ -230,7 +236,7 @@ static inline const char *screen_refusal_text(uint32_t answer)
         return "A record names an input that is not before it, a column that does not exist, or a list that is not in "
                "the pool or has a value outside its type.";
     case SCREEN_REFUSED_OPERATOR:
-        return "A record uses an arithmetic operator.";
+        return "A record uses an arithmetic operator other than FloorDivide and Modulus.";
     case SCREEN_REFUSED_TYPES:
         return "The types of a record's inputs do not fit it, or the root is not a truth.";
     case SCREEN_REFUSED_TREE:
@@ -315,17 +321,21 @@ enum screen_rewrite_answer {
  * Rewriting the screen returned once more answers SCREEN_UNCHANGED; or SCREEN_REFUSED_CONJUNCTS, if it has over 128
  * conjuncts, as equalities that carry bounds to many columns can make it.
  *
- * What holds of the screen returned: a row passes it exactly if it passes the screen sent, whatever the row holds; so
- * with SCREEN_NOTHING_PASSES no row passes. That answer is not given of every screen that no row passes: "c0 > 3" and
- * "c0 < 4" are left as they are, though no whole number passes both. Of a plain screen that is not refused it is given
- * exactly if no row passes even where values half way between two whole numbers are allowed. A screen is plain if it
- * reads no Truth column and each of its conjuncts is one of these:
+ * What holds of the screen returned: a row passes it exactly if it passes the screen sent. That is so whatever the row
+ * holds, or, if the root sent reaches a FloorDivide or Modulus record, of every row whose values are within the types
+ * of their columns; screen_test_row takes no others. So with SCREEN_NOTHING_PASSES no such row passes. That answer is
+ * not given of every screen that no row passes: "c0 > 3" and "c0 < 4" are left as they are, though no whole number
+ * passes both. Of a plain screen that is not refused it is given exactly if no row passes even where values half way
+ * between two whole numbers are allowed. A screen is plain if it reads no Truth column and each of its conjuncts is one
+ * of these, whatever stands among the records that the root does not reach:
  *
  *   a column against a literal, either way round, by Eq, NotEq, Lt, LtEq, Gt or GtEq; Not of that
  *   a column against a column by Eq
  *   is_between of a column and two literals
  *   is_in of a column over a list of at most 100 values that holds no null; Not of that
  *   is_null or is_not_null of a column; Not of that
+ *
+ * A conjunct with a FloorDivide or Modulus in it is none of these: it stays as it is and says nothing of its columns.
  *
  * The call needs some 62 KB of stack, whatever the screen.
  */
@@ -339,7 +349,7 @@ uint32_t screen_rewrite(const uint8_t *table, size_t table_len, uint8_t *records
 /* The answers of screen_test_row. A row passes on SCREEN_TRUE only. */
 enum screen_test_row_answer {
     SCREEN_FALSE = 256,
-    SCREEN_UNKNOWN = 257, /* a null stood in the way of an answer */
+    SCREEN_UNKNOWN = 257, /* a null, of the row or of a division, stood in the way of an answer */
     SCREEN_TRUE = 258
 };
 
@@ -356,8 +366,13 @@ enum screen_test_row_answer {
  * list holds a null; false of a list without an entry, whatever x is. With nulls_equal null is a value like another, so
  * the answer is true or false: null is found exactly if the list holds one.
  *
+ * FloorDivide and Modulus are the two answers of one division: quotient * divisor + remainder is the dividend, the
+ * quotient is rounded down, and the remainder has the divisor's sign or is zero. So -7 by 2 has the quotient -4 and the
+ * remainder 1, and 7 by -2 has -4 and -1; C's / and % round toward zero and differ where the signs do. Both are null if
+ * an input is null, if the divisor is zero, and for -2^63 by -1, whose quotient is beyond 64 bits.
+ *
  * The depth of the calls inside follows the depth of the screen; the deepest, a chain of 4,096 records, needs less than
- * 1.25 MB of stack.
+ * 1.5 MB of stack.
  */
 SCREEN_MUST_USE
 uint32_t screen_test_row(const uint8_t *table, size_t table_len, const uint8_t *records, size_t records_len,

@@ -213,7 +213,7 @@ static inline uint32_t screen_put_null(struct screen_lent *s, unsigned type)
     return screen_put(s, SCREEN_KIND_NULL, 0, type, 0, 0, 0);
 }
 
-/* A comparison, or logic: SCREEN_OP_.. between two records. */
+/* A comparison, a division or logic: SCREEN_OP_.. between two records. */
 static inline uint32_t screen_put_binary(struct screen_lent *s, unsigned op, uint32_t left, uint32_t right)
 {
     return screen_put(s, SCREEN_KIND_BINARY, op, 0, left, right, 0);
@@ -227,6 +227,18 @@ static inline uint32_t screen_put_and(struct screen_lent *s, uint32_t left, uint
 static inline uint32_t screen_put_or(struct screen_lent *s, uint32_t left, uint32_t right)
 {
     return screen_put_binary(s, SCREEN_OP_OR, left, right);
+}
+
+/* The quotient of two Ints, rounded down; screen_test_row says when it is null. */
+static inline uint32_t screen_put_floor_divide(struct screen_lent *s, uint32_t dividend, uint32_t divisor)
+{
+    return screen_put_binary(s, SCREEN_OP_FLOOR_DIVIDE, dividend, divisor);
+}
+
+/* The remainder of that division, with the divisor's sign or zero. */
+static inline uint32_t screen_put_modulus(struct screen_lent *s, uint32_t dividend, uint32_t divisor)
+{
+    return screen_put_binary(s, SCREEN_OP_MODULUS, dividend, divisor);
 }
 
 static inline uint32_t screen_put_not(struct screen_lent *s, uint32_t input)

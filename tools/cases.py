@@ -103,6 +103,40 @@ def negated_shared():
     return chain(b, x, b.put(m.NOT, a=x))
 
 
+def divided(code, by, compared, v, *more):
+    """Column 0 divided by a number, compared with another; then further lines."""
+    b = table()
+    x = b.put(m.BINARY, code, 0, b.column(0), b.literal(m.INT, by))
+    return chain(b, b.put(m.BINARY, compared, 0, x, b.literal(m.INT, v)), *(line(b, *part) for part in more))
+
+
+def negated_division():
+    b = table()
+    x = b.put(m.BINARY, m.FLOOR_DIVIDE, 0, b.column(0), b.literal(m.INT, 100))
+    return chain(b, b.put(m.NOT, a=b.put(m.BINARY, m.LT, 0, x, b.literal(m.INT, 3))))
+
+
+def divided_columns(*more):
+    """c0 // c1 == c1, then further lines: no edge."""
+    b = table()
+    x = b.put(m.BINARY, m.FLOOR_DIVIDE, 0, b.column(0), b.column(1))
+    return chain(b, b.put(m.BINARY, m.EQ, 0, x, b.column(1)), *(line(b, *part) for part in more))
+
+
+def unreached_division(*parts):
+    """Plain lines, and a division that the root does not reach."""
+    b = table()
+    b.put(m.BINARY, m.MODULUS, 0, b.column(0), b.literal(m.INT, 100))
+    return chain(b, *(line(b, *part) for part in parts))
+
+
+def division_of(type_):
+    """is_null of a division of two values of this type."""
+    b = g.Builder(random.Random(0), [m.INT, m.DAY, m.TRUTH], share=0)
+    x = b.literal(type_, 1)
+    return chain(b, b.put(m.IS_NULL, a=b.put(m.BINARY, m.FLOOR_DIVIDE, 0, x, x)))
+
+
 def conjuncts(n):
     """n times one line, by sharing; merging them leaves one."""
     b = table()
@@ -155,6 +189,19 @@ def cases():
         *((negated_logic(code), UNCHANGED, None) for code in (m.AND, m.OR, m.XOR, m.LOGICAL_AND, m.LOGICAL_OR)),
         (negated_twice(), UNCHANGED, None),
         (negated_shared(), NOTHING_PASSES, 1),
+        # divisions: such lines are opaque and stay, those beside them merge
+        (divided(m.FLOOR_DIVIDE, 100, ge, 3), UNCHANGED, None),
+        (divided(m.MODULUS, 100, eq, 0), UNCHANGED, None),
+        (divided(m.FLOOR_DIVIDE, 100, ge, 3, (gt, 0, 3), (gt, 0, 5)), REWRITTEN, 4),
+        (divided(m.MODULUS, 0, eq, 0, (ge, 0, 3), (lt, 0, 3)), NOTHING_PASSES, 1),
+        (divided(m.FLOOR_DIVIDE, 1, lt, 0, (gt, 0, 3)), UNCHANGED, None),
+        (negated_division(), UNCHANGED, None),
+        (divided_columns((gt, 0, 5)), UNCHANGED, None),
+        (unreached_division((ge, 0, 3), (le, 0, 3)), REWRITTEN, 3),
+        (unreached_division((ge, 0, 3), (lt, 0, 3)), NOTHING_PASSES, 1),
+        (division_of(m.INT), UNCHANGED, None),
+        (division_of(m.DAY), 7, None),
+        (division_of(m.TRUTH), 7, None),
         (conjuncts(128), REWRITTEN, 3),
         (conjuncts(129), 9, None),
         (lines((gt, 0, 3)).but(root=3), 3, None),

@@ -4,6 +4,8 @@
   plain    conjunctions of plain lines: comparisons either way round, ranges, lists, null tests, Not of these, equalities
   merging  plain lines that some row passes, so that there is more to merge than a contradiction
   mixed    plain lines among all others: every record kind, operator and type, nested, with shared records
+  divided  plain lines among those that divide: in every place of an Int, nested, by zero, at the ends of 64 bits, some
+           where the root does not reach them, some of wrong types
   limits   127 to 129 conjuncts, trees of 4,095 to 4,097, full tables, pools and records, long lists
   damaged  one of the above with bytes, lengths or numbers changed
   garbage  bytes that were never a screen
@@ -18,6 +20,8 @@ PLAIN_COMPARISONS = (m.EQ, m.NOT_EQ, m.LT, m.LT_EQ, m.GT, m.GT_EQ)
 COMPARISONS = tuple(range(m.EQ, m.GT_EQ + 1))
 LOGIC = (m.AND, m.OR, m.XOR, m.LOGICAL_AND, m.LOGICAL_OR)
 EXTREMES = {m.INT: (-2**63, 2**63 - 1, 2**31, -2**31 - 1, 2**32), m.DAY: (-2**31, 2**31 - 1), m.TRUTH: (0, 1)}
+DIVIDED = (-2**63, 1 - 2**63, 2**63 - 1, -101, -100, -7, -1, 0, 1, 7, 99, 100, 101)
+DIVISORS = (0, 0, 1, -1, -1, 2, -2, 3, -3, 7, -7, 100, -100, -2**63, 2**63 - 1)
 ODD_NUMBERS = (2**64 - 1, 2**63, 2**60, 2**32, 2**32 + 1, 2**16, 4096, 4097, 8192)
 
 
@@ -193,6 +197,57 @@ class Builder:
             code = rng.choice(COMPARISONS)
         return self.put(m.BINARY, code, 0, *((x, other) if rng.random() < 0.6 else (other, x)))
 
+    # Divisions. They stand apart from the lines above, so that a seed's other screens stay what they were.
+
+    def dividend(self, depth, values=DIVIDED):
+        """An Int: a column, a value, a null, or a division again."""
+        rng, kind = self.rng, self.rng.random()
+        if depth > 0 and kind < 0.3:
+            return self.division(depth - 1)
+        if kind < 0.65 and self.columns((m.INT,)):
+            return self.column(rng.choice(self.columns((m.INT,))))
+        if kind < 0.7:
+            return self.put(m.NULL, type_=m.INT)
+        return self.literal(m.INT, rng.choice(values) if rng.random() < 0.6 else None)
+
+    def division(self, depth=1):
+        return self.put(m.BINARY, self.rng.choice(m.DIVISIONS), 0, self.dividend(depth), self.dividend(depth, DIVISORS))
+
+    def misfit(self):
+        """A division of other types: of a Day, a Truth, a list."""
+        rng = self.rng
+        type_ = rng.choice((m.DAY, m.TRUTH))
+        odd = self.list(m.INT) if rng.random() < 0.2 else self.truth(2) if type_ == m.TRUTH else self.literal(m.DAY)
+        columns = self.columns((type_,))
+        if columns and rng.random() < 0.5:
+            odd = self.column(rng.choice(columns))
+        sides = rng.choice(((odd, odd), (odd, self.dividend(0)), (self.dividend(0), odd)))
+        return self.put(m.BINARY, rng.choice(m.DIVISIONS), 0, *sides)
+
+    def dividing_line(self, depth=2):
+        """A truth that divides, in any place of an Int; some stand below Not or beside other truths."""
+        rng = self.rng
+        x, kind = self.division(rng.randrange(3)), rng.randrange(10)
+        if depth > 0 and kind == 0:
+            return self.put(m.NOT, a=self.dividing_line(depth - 1))
+        if depth > 0 and kind == 1:
+            sides = [self.dividing_line(depth - 1), self.plain_line()]
+            rng.shuffle(sides)
+            return self.put(m.BINARY, rng.choice(LOGIC), 0, *sides)
+        if depth > 0 and kind == 2:  # a truth that is compared as a value
+            return self.put(m.BINARY, rng.choice(COMPARISONS), 0, self.dividing_line(depth - 1), self.truth(1))
+        if kind == 3:
+            return self.put(rng.choice((m.IS_NULL, m.IS_NOT_NULL)), a=x)
+        if kind == 4:
+            places = [x, self.dividend(1), self.dividend(0)]
+            rng.shuffle(places)
+            return self.put(m.IS_BETWEEN, rng.randrange(4), 0, *places)
+        if kind == 5:
+            return self.put(m.IS_IN, rng.randrange(2), 0, x, self.list(m.INT, holds_null=rng.randrange(2)))
+        sides = [x, self.dividend(1)]
+        rng.shuffle(sides)
+        return self.put(m.BINARY, rng.choice(COMPARISONS), 0, *sides)
+
     # Conjunctions
 
     def conjunction(self, lines):
@@ -251,6 +306,20 @@ def mixed(rng, most=8):
     weights = rng.choice(((3, 1, 1), (1, 1, 1), (0, 0, 1), (6, 1, 0)))
     lines = [rng.choices(makes, weights)[0]() for _ in range(rng.randint(1, rng.choice((1, 3, most))))]
     return b.screen(b.conjunction(b.repeat(lines)), room(rng))
+
+
+def divided(rng, most=8):
+    b = Builder(rng, table_of(rng), rng.choice((3, 5, 20)), rng.choice((0, 0.3, 0.9)))
+    makes = (b.plain_line, b.dividing_line)
+    weights = rng.choice(((3, 1), (1, 1), (0, 1), (1, 0)))  # with (1, 0) the only division is one that is not reached
+    before = [b.division(2) for _ in range(rng.choice((0, 0, 0, 1)))]
+    lines = [rng.choices(makes, weights)[0]() for _ in range(rng.randint(1, rng.choice((1, 3, most))))]
+    if rng.random() < 0.1:
+        lines.append(b.put(m.IS_NULL, a=b.misfit()))
+    root = b.conjunction(b.repeat(lines))
+    if weights == (1, 0) and not before or rng.random() < 0.2:  # behind the root, and reached by nothing
+        rng.choices((b.division, b.dividing_line, b.misfit), (10, 10, 1))[0]()
+    return b.screen(root, room(rng))
 
 
 def many_conjuncts(rng):
@@ -362,7 +431,14 @@ def odd_number(rng, below):
 
 
 def damaged(rng):
-    s = rng.choice((plain, merging, mixed))(rng)
+    return damage(rng, rng.choice((plain, merging, mixed))(rng))
+
+
+def damaged_division(rng):
+    return damage(rng, divided(rng))
+
+
+def damage(rng, s):
     for _ in range(rng.choice((1, 1, 1, 2, 5))):
         kind = rng.randrange(16)
         if kind == 0:
@@ -432,7 +508,8 @@ def garbage(rng):
 
 
 def screen(rng):
-    return rng.choices((plain, merging, mixed, limits, damaged, garbage), (20, 20, 29, 2, 25, 4))[0](rng)
+    return rng.choices((plain, merging, mixed, divided, limits, damaged, damaged_division, garbage),
+                       (20, 20, 25, 15, 2, 20, 4, 4))[0](rng)
 
 
 # Rows
@@ -446,6 +523,8 @@ def literals(s):
         if r.kind == m.LITERAL:
             found.add(r.value)
     found.update(m.number(s.pool[i:i + 8], True) for i in range(0, min(len(s.pool), 800), 8))
+    if m.check(s) == m.ACCEPTED and m.reaches_division(s):
+        found.update(DIVIDED)
     return sorted(v + d for v in found for d in (-1, 0, 1))
 
 
@@ -469,6 +548,17 @@ def equal_cells(rng, s):
     """A row without nulls that holds one value wherever it fits, so that lines which compare columns hold."""
     v = rng.choice(literals(s)) + rng.choice((0, 0, 0.5))
     return [rng.randrange(2) if type_ == m.TRUTH else v for type_ in s.table]
+
+
+def demanded_cells(rng, s, equal):
+    """A row that demand 3 speaks of: where the root reaches a division, one with values of the column types only."""
+    if m.reaches_division(s):
+        row = cells(rng, s)
+        v = rng.choice(row) if row else None
+        if equal and v is not None:
+            row = [v if m.in_type(type_, v) and type_ != m.TRUTH else old for type_, old in zip(s.table, row)]
+        return row
+    return equal_cells(rng, s) if equal else cells(rng, s, halves=True)
 
 
 def critical_rows(s, most):

@@ -14,6 +14,7 @@ COLUMN, LITERAL, NULL, BINARY, NOT, IS_NULL, IS_NOT_NULL, IS_BETWEEN, LIST, IS_I
  FLOOR_DIVIDE, MODULUS, AND, OR, XOR, LOGICAL_AND, LOGICAL_OR) = range(20)
 BOTH, LEFT, RIGHT, NONE = range(4)
 PLAIN = (EQ, NOT_EQ, LT, LT_EQ, GT, GT_EQ)
+DIVISIONS = (FLOOR_DIVIDE, MODULUS)
 
 MAX_COLUMNS, MAX_RECORDS, MAX_POOL, MAX_TREE, MAX_CONJUNCTS = 64, 4096, 8192, 4096, 128
 
@@ -113,7 +114,11 @@ def fault_5(s, pool, n, r):
 
 def fault_6(r):
     """A left-out operator."""
-    return r.kind == BINARY and PLUS <= r.code <= MODULUS
+    return r.kind == BINARY and PLUS <= r.code <= TRUE_DIVIDE
+
+
+def divides(r):
+    return r.kind == BINARY and r.code in DIVISIONS
 
 
 def type_of(s, r):
@@ -122,6 +127,8 @@ def type_of(s, r):
         return s.table[r.a]
     if r.kind in (LITERAL, NULL):
         return r.type
+    if divides(r):
+        return INT
     return ("list", r.type) if r.kind == LIST else TRUTH
 
 
@@ -134,6 +141,8 @@ def fault_7(types, r):
         return True
     if r.kind in (BINARY, IS_BETWEEN) and len(set(got)) > 1:
         return True
+    if divides(r):
+        return got[0] != INT
     logic = r.kind == NOT or r.kind == BINARY and r.code >= AND
     return logic and got[0] != TRUTH
 
@@ -181,6 +190,11 @@ def reached(s):
             seen.add(n)
             todo.extend(records[n].inputs())
     return seen
+
+
+def reaches_division(s):
+    """Whether demand 3 speaks of rows with values of the column types only."""
+    return any(divides(records_of(s)[n]) for n in reached(s))
 
 
 def columns_read(s):
@@ -241,6 +255,19 @@ def is_plain(s):
 # The row test. A cell is a number, or None for null; of a truth 0 false, 1 true, None unknown.
 
 
+def divided(a, b):
+    """Quotient and remainder of one division, or None for both. The quotient is the largest whole number whose product
+    with the divisor is not past the dividend, so that the remainder has the divisor's sign or is zero."""
+    if a is None or b is None or b == 0:
+        return None, None
+    quotient = abs(a) // abs(b)
+    if (a < 0) != (b < 0):
+        quotient = -quotient if quotient * abs(b) == abs(a) else -quotient - 1
+    if not in_type(INT, quotient):
+        return None, None
+    return quotient, a - quotient * b
+
+
 def and3(a, b):
     if a == 0 or b == 0:
         return 0
@@ -269,11 +296,13 @@ def compare(code, a, b):
     return int({EQ: a == b, NOT_EQ: a != b, LT: a < b, LT_EQ: a <= b, GT: a > b, GT_EQ: a >= b}[code])
 
 
-def binary(code, a, b):
+def binary(code, a, b, divide=divided):
     if code in (AND, LOGICAL_AND):
         return and3(a, b)
     if code in (OR, LOGICAL_OR):
         return or3(a, b)
+    if code in DIVISIONS:
+        return divide(a, b)[DIVISIONS.index(code)]
     return xor3(a, b) if code == XOR else compare(code, a, b)
 
 
@@ -294,7 +323,7 @@ def member(x, values, holds_null, nulls_equal):
     return found
 
 
-def evaluate(s, row, root=None):
+def evaluate(s, row, root=None, divide=divided):
     """The root's cell on a row, a cell for each column; its numbers may be any, halves too."""
     pool, cells = pool_of(s), []
     for r in records_of(s):
@@ -306,7 +335,7 @@ def evaluate(s, row, root=None):
         elif r.kind == NULL:
             cell = None
         elif r.kind == BINARY:
-            cell = binary(r.code, *got)
+            cell = binary(r.code, *got, divide)
         elif r.kind == NOT:
             cell = not3(got[0])
         elif r.kind == IS_NULL:

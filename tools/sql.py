@@ -10,6 +10,11 @@ TRUE in PostgreSQL.
   is_between      BETWEEN where both ends belong to the range, else the AND of its two comparisons
   is_in           IN (1, 2, NULL), the list's own null as NULL. The standard has no empty list: SQLite writes it IN (),
                   PostgreSQL = ANY of an empty array
+  FloorDivide     the standard leaves a quotient's rounding to the engine, and both engines truncate: x / y, less one
+                  where a remainder is left and the signs differ. NULLIF makes a zero divisor null, since PostgreSQL has
+                  an error for it, and CASE the one quotient beyond 64 bits. So what is compared is the truncated
+                  quotient with a floor expression around it, not a floor division of the engine's own: neither has one
+  Modulus         x % y, whose sign is the dividend's, plus the divisor in the same case
   nulls_equal     the standard has no such IN: x IS NULL OR x IN .. if the list holds a null, else x IS NOT NULL AND
                   x IN .., over the list's values without its null
 """
@@ -39,6 +44,15 @@ def member(dialect, x, pool, list_, nulls_equal):
     return f"({x} IS NULL OR {found})" if list_.code == 1 else f"({x} IS NOT NULL AND {found})"
 
 
+def division(dialect, code, x, y):
+    """Each side stands once in the text, so that nested divisions do not double it."""
+    lowest, minus_one = dialect.literal(m.INT, -2**63), dialect.literal(m.INT, -1)
+    truncated, corrected = ("x / y", "x / y - 1") if code == m.FLOOR_DIVIDE else ("x % y", "x % y + y")
+    return (f"(SELECT CASE WHEN x = {lowest} AND y = {minus_one} THEN {dialect.null(m.INT)} "
+            f"WHEN x % y <> 0 AND (x < 0) <> (y < 0) THEN {corrected} ELSE {truncated} END "
+            f"FROM (SELECT {x} AS x, NULLIF({y}, 0) AS y) AS sides)")
+
+
 def expression(s, dialect):
     """The root as an SQL expression over columns c0, c1, .."""
     pool, records, texts = m.pool_of(s), m.records_of(s), []
@@ -51,6 +65,8 @@ def expression(s, dialect):
             text = dialect.literal(r.type, r.value)
         elif r.kind == m.NULL:
             text = dialect.null(r.type)
+        elif m.divides(r):
+            text = division(dialect, r.code, *got)
         elif r.kind == m.BINARY:
             text = f"({got[0]} {words[r.code]} {got[1]})"
         elif r.kind == m.NOT:
@@ -87,6 +103,20 @@ def decides(s, row):
     return m.evaluate(s, row) != m.evaluate(without_nulls(s), row)
 
 
+def truncated(a, b):
+    """The division that rounds toward zero, as C has it."""
+    quotient, _ = m.divided(a, b)
+    if quotient is None:
+        return None, None
+    quotient = abs(a) // abs(b) * (1 if (a < 0) == (b < 0) else -1)
+    return quotient, a - quotient * b
+
+
+def rounds(s, row):
+    """Whether rounding down decides this row: truncated, the screen would say something else of it."""
+    return m.evaluate(s, row) != m.evaluate(s, row, divide=truncated)
+
+
 def deep(rng):
     """Nested logic without any line that is read by itself."""
     b = g.Builder(rng, g.table_of(rng), 4, 0.3)
@@ -108,13 +138,30 @@ def nulled(rng):
     return b.screen(line(rng.randrange(3)))
 
 
+def lots(rng):
+    """Small divisions of either sign, compared with small numbers, so that rounding decides."""
+    b = g.Builder(rng, [m.INT, m.INT], 5, 0.3)
+
+    def line():
+        sides = b.column(0), rng.choice((b.column(1), b.literal(m.INT, rng.choice((-7, -3, -2, 2, 3, 7)))))
+        x = b.put(m.BINARY, rng.choice(m.DIVISIONS), 0, *sides)
+        return b.put(m.BINARY, rng.choice(g.COMPARISONS), 0, x, b.literal(m.INT, rng.randrange(-4, 5)))
+
+    return b.screen(b.put(m.BINARY, rng.choice((m.AND, m.OR)), 0, line(), line()))
+
+
+def small_cells(rng, s):
+    return [None if rng.random() < 0.05 else rng.randrange(-9, 10) for _ in s.table]
+
+
 def draw(rng):
     """A screen, and rows to ask it of."""
     while True:
-        kind = rng.choice((g.plain, g.mixed, deep, nulled))
+        kind = rng.choice((g.plain, g.mixed, deep, nulled, g.divided, lots))
         s = kind(rng)
-        if m.tree_count(s) <= 250:  # an engine's parser has limits of its own
-            return s, [g.cells(rng, s) for _ in range(16 if kind is nulled else 4)]
+        if m.check(s) == m.ACCEPTED and m.tree_count(s) <= 250:  # an engine's parser has limits of its own
+            cells = small_cells if kind is lots else g.cells
+            return s, [cells(rng, s) for _ in range(16 if kind in (nulled, lots) else 4)]
 
 
 class Tally:
@@ -130,6 +177,7 @@ class Tally:
             got = [m.test_row(s, data, nulls)] + ([self.lib.test_row(s, data, nulls)] if self.lib else [])
             self.seen[truth] += 1
             self.seen["decided"] += decides(s, row)
+            self.seen["rounded"] += rounds(s, row)
             if got == [truth] * len(got):
                 self.passed += 1
                 continue
@@ -145,6 +193,7 @@ class Tally:
         records = sorted((key[1:], n) for key, n in self.seen.items() if isinstance(key, tuple))
         print("records by kind and code:", dict(records))
         print("rows that a null in a list decides:", self.seen["decided"])
+        print("rows that rounding down decides:", self.seen["rounded"])
         print(self.engine)
         print(f"{self.passed} passed, {self.failed} failed")
         return self.failed != 0

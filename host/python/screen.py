@@ -6,21 +6,22 @@
     s.rewrite()                                     # 'rewritten'
     s.test_row({"strike": 7, "expiry": None, "halted": False})   # True, False, or None for unknown
 
-Columns are attributes of the screen (or s["strike"]); comparisons of them, joined by & and |, are lines. A value is an
-int, a datetime.date, a bool, or None for null. A refusal raises Refused, which has the library's number; then nothing
-is changed. include/screen.h says of each call what is promised.
+Columns are attributes of the screen (or s["strike"]); comparisons of them, joined by & and |, are lines, and // and % of
+Ints are values: s.size // 100 >= 3. A value is an int, a datetime.date, a bool, or None for null. A refusal raises
+Refused, which has the library's number; then nothing is changed. include/screen.h says of each call what is promised.
 """
 
 import ctypes
 import datetime
 import os
 
-VERSION = (2, 0)  # of include/screen.h
+VERSION = (2, 1)  # of include/screen.h
 
 INT, DAY, TRUTH = 1, 2, 3
 TYPES = {"Int": INT, "Day": DAY, "Truth": TRUTH}
 (COLUMN, LITERAL, NULL, BINARY, NOT, IS_NULL, IS_NOT_NULL, IS_BETWEEN, LIST, IS_IN) = range(1, 11)
 (EQ, EQ_VALIDITY, NOT_EQ, NOT_EQ_VALIDITY, LT, LT_EQ, GT, GT_EQ) = range(8)
+FLOOR_DIVIDE, MODULUS = 13, 14
 AND, OR, XOR = 15, 16, 17
 CLOSED = {"both": 0, "left": 1, "right": 2, "none": 3}
 INPUTS = {BINARY: 2, NOT: 1, IS_NULL: 1, IS_NOT_NULL: 1, IS_BETWEEN: 3, IS_IN: 2}
@@ -34,7 +35,7 @@ REFUSALS = {
     4: "A record has an unknown kind, code or type, an unused field that is not zero, or a literal outside its type.",
     5: "A record names an input that is not before it, a column that does not exist, or a list that is not in the pool "
        "or has a value outside its type.",
-    6: "A record uses an arithmetic operator.",
+    6: "A record uses an arithmetic operator other than FloorDivide and Modulus.",
     7: "The types of a record's inputs do not fit it, or the root is not a truth.",
     8: "The screen has more than 4,096 records, shared ones counted each time they are reached.",
     9: "The screen has more than 128 conjuncts, shared ones counted each time they are reached.",
@@ -105,7 +106,10 @@ def _kind_of(value):
 
 
 class Part:
-    """A part of a screen: a column, a value, or what is said of them. Comparisons and &, | and ~ make new ones."""
+    """A part of a screen: a column, a value, or what is said of them. Comparisons, //, %, &, | and ~ make new ones.
+
+    // and % are Python's own, rounded down, but a null, a zero divisor and -2**63 by -1 give null.
+    """
 
     def __init__(self, screen, record, kind):
         self.screen, self.record, self.kind = screen, record, kind
@@ -131,6 +135,22 @@ class Part:
 
     def __ge__(self, other):
         return self._compare(GT_EQ, other)
+
+    def _divide(self, code, dividend, divisor):
+        dividend, divisor = self.screen.part(dividend, INT), self.screen.part(divisor, INT)
+        return self.screen.put(BINARY, code=code, a=dividend.record, b=divisor.record, result=INT)
+
+    def __floordiv__(self, other):
+        return self._divide(FLOOR_DIVIDE, self, other)
+
+    def __rfloordiv__(self, other):
+        return self._divide(FLOOR_DIVIDE, other, self)
+
+    def __mod__(self, other):
+        return self._divide(MODULUS, self, other)
+
+    def __rmod__(self, other):
+        return self._divide(MODULUS, other, self)
 
     def __and__(self, other):
         return self._compare(AND, other)

@@ -27,10 +27,11 @@ static void test_records(void)
     static const uint8_t null[16] = {3, 0, 2};
     static const uint8_t greater[16] = {4, 6, 0, 0, 0, 0, 0, 0, 1}, both[16] = {4, 15, 0, 0, 7, 0, 0, 0, 8};
     static const uint8_t either[16] = {4, 16, 0, 0, 9, 0, 0, 0, 8}, not[16] = {5, 0, 0, 0, 0x0a};
-    static const uint8_t is[16] = {6, 0, 0, 0, 0x0b}, is_not[16] = {7, 0, 0, 0, 0x0c};
+    static const uint8_t is[16] = {6, 0, 0, 0, 0x0b}, is_not[16] = {7, 0, 0, 0, 0x0c}, rest[16] = {7, 0, 0, 0, 0x12};
     static const uint8_t range[16] = {8, 2, 0, 0, 0, 0, 0, 0, 1, 0, 0, 0, 2};
     static const uint8_t values[16] = {9, 1, 1, 0, 1, 0, 0, 0, 2}, member[16] = {10, 1, 0, 0, 0, 0, 0, 0, 0x0f};
     static const uint8_t pool[24] = {7, 0, 0, 0, 0, 0, 0, 0, 0xff, 0xff, 0xff, 0xff, 0xff, 0xff, 0xff, 0xff, 5};
+    static const uint8_t quotient[16] = {4, 13, 0, 0, 0, 0, 0, 0, 1}, remainder[16] = {4, 14, 0, 0, 0x11, 0, 0, 0, 2};
     static const int64_t listed[2] = {-1, 5};
     begin_mixed();
     record_is("a column", screen_put_column(&sent, 3), column3);
@@ -51,6 +52,9 @@ static void test_records(void)
     report(screen_put_pool(&sent, 7) == 0, "a pool value", "another number");
     record_is("a list", screen_put_list(&sent, INT, listed, 2, 1), values);
     record_is("a member", screen_put_is_in(&sent, 0, 15, 1), member);
+    record_is("a quotient", screen_put_floor_divide(&sent, 0, 1), quotient);
+    record_is("a remainder", screen_put_modulus(&sent, 17, 2), remainder);
+    record_is("a test for a remainder", screen_put_is_not_null(&sent, 18), rest);
     report(sent.pool_len == 24 && memcmp(sent.pool, pool, 24) == 0, "the pool", "other bytes");
     sent.root = sent.used - 1;
     report(screen_lent_check(&sent) == SCREEN_ACCEPTED, "all of them", "not accepted");
@@ -159,13 +163,26 @@ static unsigned some_operator(unsigned type)
     return type == TRUTH && choice(2) ? SCREEN_OP_AND + choice(5) : choice(8);
 }
 
+/* FloorDivide or Modulus of two Ints. */
+static unsigned put_division(const uint8_t *types)
+{
+    uint32_t left = some_record(types, INT), right = some_record(types, INT);
+    if (choice(2))
+        screen_put_floor_divide(&sent, left, right);
+    else
+        screen_put_modulus(&sent, left, right);
+    return INT;
+}
+
 /* Puts a record of any kind over those before it, well formed or nearly so, and answers its type. */
 static unsigned put_some(const uint8_t *types)
 {
     unsigned type = 1 + choice(3);
     uint32_t left = some_record(types, type), right = some_record(types, type);
     int64_t values[3] = {choice(3), choice(4), choice(2)};
-    switch (choice(9)) {
+    switch (choice(10)) {
+    case 8:
+        return put_division(types);
     case 0:
         return screen_put_literal(&sent, type, choice(type == TRUTH ? 2 : 6)), type;
     case 1:

@@ -421,8 +421,10 @@ static void test_operators(void)
         int logic = code >= SCREEN_OP_AND;
         begin_mixed();
         binary(code, column(logic ? 2 : 0), column(logic ? 2 : 3));
-        if (code >= 8 && code <= 14)
+        if (code >= 8 && code <= 12)
             refuse("an arithmetic operator", SCREEN_REFUSED_OPERATOR);
+        else if (code == SCREEN_OP_FLOOR_DIVIDE || code == SCREEN_OP_MODULUS)
+            refuse("a division as the root", SCREEN_REFUSED_TYPES);
         else
             accept("an operator", logic ? 1 << 2 : 1 << 0 | 1 << 3, logic ? 1 : 2);
     }
@@ -441,6 +443,56 @@ static void test_operators(void)
     begin_mixed();
     not_of(not_of(is_null(column(0))));
     accept("Not of Not", 1 << 0, 1);
+}
+
+/* FloorDivide and Modulus take two Ints and give an Int, which may stand wherever an Int may. */
+static void test_divisions(void)
+{
+    for (unsigned code = SCREEN_OP_FLOOR_DIVIDE; code <= SCREEN_OP_MODULUS; code++) {
+        for (uint32_t left = 0; left < 3; left++)
+            for (uint32_t right = 0; right < 3; right++) {
+                begin_mixed();
+                is_null(binary(code, column(left), column(right)));
+                if (left == 0 && right == 0)
+                    accept("a division of two Ints", 1 << 0, 1);
+                else
+                    refuse("a division of other types", SCREEN_REFUSED_TYPES);
+                literal(TRUTH, 1);
+                if (left != 0 || right != 0)
+                    refuse("a division of other types, not reached", SCREEN_REFUSED_TYPES);
+            }
+        begin_mixed();
+        uint32_t quotient = binary(code, column(0), literal(INT, 100));
+        uint32_t again = binary(code, quotient, binary(code, null_of(INT), column(3)));
+        uint32_t low = binary(SCREEN_OP_GT_EQ, again, literal(INT, 3));
+        uint32_t listed = is_in(0, quotient, list(0, INT, 0, 0));
+        uint32_t range = is_between(SCREEN_CLOSED_BOTH, column(3), quotient, again);
+        binary(SCREEN_OP_AND, binary(SCREEN_OP_AND, low, listed), range);
+        accept("divisions of divisions, in every place", 1 << 0 | 1 << 3, 2);
+        begin_mixed();
+        quotient = binary(code, column(0), literal(INT, 100));
+        binary(SCREEN_OP_EQ, quotient, column(1));
+        refuse("a quotient beside a Day", SCREEN_REFUSED_TYPES);
+        begin_mixed();
+        quotient = binary(code, column(0), literal(INT, 100));
+        not_of(quotient);
+        refuse("Not of a quotient", SCREEN_REFUSED_TYPES);
+        begin_mixed();
+        quotient = binary(code, column(0), literal(INT, 100));
+        binary(SCREEN_OP_AND, quotient, quotient);
+        refuse("logic of quotients", SCREEN_REFUSED_TYPES);
+        begin_mixed();
+        uint32_t x = column(0);
+        binary(code, x, list(0, INT, 0, 0));
+        refuse("a division by a list", SCREEN_REFUSED_TYPES);
+        begin_mixed();
+        x = column(0);
+        is_in(0, x, binary(code, x, x));
+        refuse("a quotient as a list", SCREEN_REFUSED_TYPES);
+        begin_mixed();
+        binary(code, 0, 1);
+        refuse("a division of itself", SCREEN_REFUSED_REFERENCE);
+    }
 }
 
 /* -------------------------------------------------------------------------------------------------- 7: types */
@@ -568,7 +620,7 @@ static void test_order(void)
     binary(8, 5, 0);
     refuse("5 before 6 of one record", SCREEN_REFUSED_REFERENCE);
     begin_mixed();
-    binary(14, column(0), column(1));
+    binary(12, column(0), column(1));
     refuse("6 before 7 of one record", SCREEN_REFUSED_OPERATOR);
     begin_mixed();
     not_of(column(0));
@@ -666,6 +718,7 @@ int main(void)
     test_inputs();
     test_lists();
     test_operators();
+    test_divisions();
     test_types();
     test_list_places();
     test_root_type();

@@ -32,7 +32,8 @@ static uint32_t put_screen(struct screen_lent *s)
     uint32_t listed = screen_put_is_in(s, x, screen_put_list(s, SCREEN_TYPE_INT, values, 2, 0), 0);
     uint32_t day = screen_put_day(s, screen_day(2026, 12, 18));
     uint32_t until = screen_put_between(s, SCREEN_CLOSED_BOTH, y, screen_put_null(s, SCREEN_TYPE_DAY), day);
-    uint32_t either = screen_put_or(s, listed, screen_put_not(s, screen_put_is_null(s, x)));
+    uint32_t rest = screen_put_modulus(s, screen_put_floor_divide(s, x, screen_put_int(s, 2)), screen_put_int(s, 3));
+    uint32_t either = screen_put_or(s, listed, screen_put_not(s, screen_put_is_null(s, rest)));
     uint32_t both = screen_put_and(s, low, either);
     screen_put_and(s, both, screen_put_or(s, until, screen_put_truth(s, 1)));
     return screen_put_and(s, both, screen_put_is_not_null(s, y));

@@ -72,6 +72,15 @@ def test_cases():
         ("distinct", "unchanged", [{"c0": 1}], [{}], [lambda s: s.c0.is_distinct_from(None)]),
         ("not distinct", "unchanged", [{}], [{"c0": 1}], [lambda s: s.c0.is_not_distinct_from(None)]),
         ("not in", "unchanged", [{"c0": 3}], [{"c0": 2}], [lambda s: ~s.c0.is_in([1, 2])]),
+        ("lots", "unchanged", [{"c0": 300}, {"c0": 399}], [{"c0": 299}, {"c0": -1}, {}], [lambda s: s.c0 // 100 >= 3]),
+        ("odd lots", "unchanged", [{"c0": 0}, {"c0": -200}], [{"c0": 50}, {}], [lambda s: s.c0 % 100 == 0]),
+        ("lots beside bounds", "rewritten", [{"c0": 300}], [{"c0": 100}, {"c0": 301}],
+         [lambda s: s.c0 % 100 == 0, lambda s: s.c0 > 3, lambda s: s.c0 > 200]),
+        ("a number divided", "unchanged", [{"c0": 3}, {"c0": -4}], [{"c0": 0}, {}, {"c0": 5}],
+         [lambda s: (7 // s.c0 == 2) | (7 % s.c0 == -1)]),
+        ("divided twice", "unchanged", [{"c0": -7, "c1": 2}], [{"c0": 7, "c1": 2}, {"c0": 7, "c1": 0}],
+         [lambda s: s.c0 // s.c1 % 3 == 2]),
+        ("divided by null", "unchanged", [{}, {"c0": 1}], [], [lambda s: (s.c0 // None).is_null()]),
         ("nulls equal", "unchanged", [{}, {"c0": 1}], [{"c0": 2}],
          [lambda s: s.c0.is_in([1, None], nulls_equal=True)]),
     ]
@@ -109,6 +118,12 @@ def test_refusals():
     s = screen.Screen(c0="Int")
     s.add(~(s.c0 < 100))
     report(s.rewrite() == "rewritten" and s.columns_read() == ["c0"], "not above a comparison is turned")
+    s = screen.Screen(c0="Int", c1="Day")
+    s.add(s.c1 // 7 == 1)
+    refused(7, "a day divided", s.check)
+    s = screen.Screen(c0="Int")
+    s.add(s.put(screen.BINARY, code=12, a=s.c0.record, b=s.part(2).record) == 1)
+    refused(6, "arithmetic that is left out", s.check)
     s = screen.Screen(**{f"c{i}": "Int" for i in range(65)})
     s.add(s.c0 > 1)
     refused(1, "65 columns", s.columns_read)
@@ -173,6 +188,20 @@ def test_python():
     raises(screen.Full, "too many values", lambda: screen.Screen(c0="Int").c0.is_in(range(8193)))
 
 
+def test_divisions():
+    """// and % are Python's, but for the three ways to a null."""
+    least, values = -2**63, (-2**63, 1 - 2**63, -101, -100, -99, -7, -2, -1, 0, 1, 2, 7, 99, 100, 101, 2**63 - 1)
+    s = screen.Screen(a="Int", b="Int", q="Int", r="Int")
+    s.add((s.a // s.b).is_not_distinct_from(s.q), (s.a % s.b).is_not_distinct_from(s.r))
+    for a in (None, *values):
+        for b in (None, *values):
+            null = a is None or b is None or b == 0 or (a, b) == (least, -1)
+            row = {"a": a, "b": b, "q": None if null else a // b, "r": None if null else a % b}
+            report(s.test_row(row) is True, f"{a} by {b}")
+            report(s.test_row({**row, "q": 77}) is (row["q"] == 77), f"another quotient of {a} by {b}")
+            report(s.test_row({**row, "r": 77}) is (row["r"] == 77), f"another remainder of {a} by {b}")
+
+
 def test_random():
     """The same rows pass before and after, and of the copy; Python itself says which rows are true."""
     pick = random.Random(1)
@@ -208,7 +237,8 @@ def test_told():
     report(len(screen.REFUSALS) == sum(name.startswith("REFUSED_") for name in numbers), "as many sentences")
     for name in ("COLUMN", "LITERAL", "NULL", "BINARY", "NOT", "IS_NULL", "IS_NOT_NULL", "IS_BETWEEN", "LIST", "IS_IN"):
         report(getattr(screen, name) == numbers[f"KIND_{name}"], f"the kind {name}")
-    for name in ("EQ", "EQ_VALIDITY", "NOT_EQ", "NOT_EQ_VALIDITY", "LT", "LT_EQ", "GT", "GT_EQ", "AND", "OR", "XOR"):
+    for name in ("EQ", "EQ_VALIDITY", "NOT_EQ", "NOT_EQ_VALIDITY", "LT", "LT_EQ", "GT", "GT_EQ", "FLOOR_DIVIDE",
+                 "MODULUS", "AND", "OR", "XOR"):
         report(getattr(screen, name) == numbers[f"OP_{name}"], f"the operator {name}")
     for name in ("MAX_RECORDS", "MAX_POOL_VALUES", "RECORD_BYTES", "VALUE_BYTES", "MAX_FILE_BYTES"):
         report(getattr(screen, name) == numbers[name], name)
@@ -219,7 +249,7 @@ def test_told():
     report(calls == used, f"the calls of the header: {calls ^ used}")
 
 
-for test in (test_cases, test_types, test_refusals, test_files, test_python, test_random, test_told):
+for test in (test_cases, test_types, test_refusals, test_files, test_python, test_divisions, test_random, test_told):
     test()
 print(f"{counts[True]} passed, {counts[False]} failed")
 sys.exit(counts[False] != 0)

@@ -435,6 +435,65 @@ static void test_negated(void)
     unchanged("not of an And");
 }
 
+/* Column 0 divided by 5, compared with 1. */
+static uint32_t divided(unsigned code, unsigned compared)
+{
+    uint32_t x = column(0);
+    uint32_t quotient = binary(code, x, literal(INT, 5));
+    return binary(compared, quotient, literal(INT, 1));
+}
+
+/* Lines that divide are opaque: they stay as they are and say nothing of their columns. */
+static void test_divided(void)
+{
+    for (unsigned code = SCREEN_OP_FLOOR_DIVIDE; code <= SCREEN_OP_MODULUS; code++) {
+        begin_ints(1);
+        join(divided(code, GE));
+        join(divided(code, LT));
+        room(9, 0);
+        unchanged("two lines that divide and contradict");
+
+        begin_ints(1);
+        join(not_of(divided(code, GE)));
+        room(9, 0);
+        unchanged("Not of a line that divides");
+
+        begin_ints(1);
+        uint32_t lots = divided(code, GE);
+        join(lots);
+        compare(GT, 0, 3);
+        compare(GT, 0, 5);
+        room(9, 0);
+        run();
+        uint32_t over = line(GT, 0, INT, 5);
+        binary(AND, lots, over);
+        rewritten("a line that divides, c0>3, c0>5", 4);
+
+        begin_ints(1);
+        join(divided(code, EQ));
+        compare(GE, 0, 3);
+        compare(LT, 0, 3);
+        room(1, 0);
+        nothing_passes("a line that divides, c0>=3, c0<3");
+
+        begin_ints(2);
+        uint32_t x = column(0);
+        join(binary(EQ, binary(code, x, column(1)), column(1)));
+        compare(GT, 1, 5);
+        room(9, 0);
+        unchanged("a quotient equal to a column carries nothing");
+
+        begin_ints(1);
+        binary(code, column(0), literal(INT, 0));
+        compare(GT, 0, 3);
+        compare(GT, 0, 5);
+        room(9, 0);
+        run();
+        line(GT, 0, INT, 5);
+        rewritten("a division that the root does not reach, c0>3, c0>5", 3);
+    }
+}
+
 static void test_members(void)
 {
     begin_ints(2);
@@ -670,6 +729,8 @@ static void test_check_refusals(void)
     sent.records[6 * 16 + 8] = 5;
     sent.records[2 * 16 + 1] = 8;
     refused("arithmetic", SCREEN_REFUSED_OPERATOR);
+    sent.records[2 * 16 + 1] = SCREEN_OP_MODULUS;
+    refused("a division as a conjunct", SCREEN_REFUSED_TYPES);
     sent.records[2 * 16 + 1] = GT;
     sent.records[16 + 2] = DAY;
     refused("two types", SCREEN_REFUSED_TYPES);
@@ -898,6 +959,7 @@ int main(void)
     test_bounds();
     test_equalities();
     test_negated();
+    test_divided();
     test_members();
     test_long_lists();
     test_order();

@@ -88,6 +88,19 @@ static void test_check_refusals(void)
     begin_mixed();
     not_of(binary(10, column(0), column(3)));
     expect("Not above arithmetic", SCREEN_REFUSED_OPERATOR);
+    for (unsigned code = 8; code <= 12; code++) {
+        begin_mixed();
+        is_null(binary(code, column(0), column(3)));
+        expect("arithmetic that is left out", SCREEN_REFUSED_OPERATOR);
+    }
+    for (unsigned code = SCREEN_OP_FLOOR_DIVIDE; code <= SCREEN_OP_MODULUS; code++) {
+        begin_mixed();
+        is_null(binary(code, column(1), column(1)));
+        expect("a Day divided", SCREEN_REFUSED_TYPES);
+        begin_mixed();
+        is_null(binary(code, column(0), column(2)));
+        expect("a division by a Truth", SCREEN_REFUSED_TYPES);
+    }
     begin_mixed();
     binary(SCREEN_OP_EQ, column(0), column(1));
     expect("two types", SCREEN_REFUSED_TYPES);
@@ -382,6 +395,153 @@ static void test_members(void)
         }
 }
 
+/* ------------------------------------------------------------------------------------------------------- divisions */
+
+/* The four columns are Int: a, b, and what a // b and a % b are to be, null or a number. */
+static void division_is(int64_t a, int64_t b, int null, int64_t quotient, int64_t remainder)
+{
+    static const uint8_t table[4] = {INT, INT, INT, INT};
+    const int64_t wants[2] = {quotient, remainder};
+    for (uint32_t which = 0; which < 2; which++)
+        for (unsigned literals = 0; literals < 4; literals++) {
+            begin(table, 4);
+            uint32_t left = literals & 1 ? literal(INT, a) : column(0);
+            uint32_t right = literals & 2 ? literal(INT, b) : column(1);
+            uint32_t divided = binary(SCREEN_OP_FLOOR_DIVIDE + which, left, right);
+            binary(SCREEN_OP_EQ_VALIDITY, divided, column(2));
+            zero_row();
+            cell(0, a);
+            cell(1, b);
+            if (null)
+                null_cell(2);
+            else
+                cell(2, wants[which]);
+            expect(which == 0 ? "a quotient" : "a remainder", T);
+            if (null) {
+                cell(2, 0);
+                nulls = 0;
+            } else {
+                cell(2, wants[which] == INT64_MAX ? 0 : wants[which] + 1);
+            }
+            expect("another number", F);
+        }
+}
+
+/* Rounded down, the remainder with the divisor's sign: quotient * divisor + remainder is the dividend. */
+static void test_divisions(void)
+{
+    static const struct { int64_t a, b, quotient, remainder; } known[] = {
+        {7, 2, 3, 1},     {-7, 2, -4, 1},   {7, -2, -4, -1},  {-7, -2, 3, -1}, {6, 3, 2, 0},     {-6, 3, -2, 0},
+        {6, -3, -2, 0},   {-6, -3, 2, 0},   {0, 5, 0, 0},     {0, -5, 0, 0},   {1, 5, 0, 1},     {-1, 5, -1, 4},
+        {1, -5, -1, -4},  {-1, -5, 0, -1},  {399, 100, 3, 99}, {-1, 100, -1, 99}, {-100, 100, -1, 0},
+        {-101, 100, -2, 99},
+        {INT64_MIN, 1, INT64_MIN, 0},
+        {INT64_MAX, 1, INT64_MAX, 0},
+        {INT64_MAX, -1, -INT64_MAX, 0},
+        {-INT64_MAX, -1, INT64_MAX, 0},
+        {INT64_MIN, 2, INT64_MIN / 2, 0},
+        {INT64_MIN, -2, INT64_MAX / 2 + 1, 0},
+        {INT64_MIN, 3, -3074457345618258603, 1},
+        {INT64_MAX, 2, INT64_MAX / 2, 1},
+        {INT64_MIN, INT64_MIN, 1, 0},
+        {INT64_MAX, INT64_MAX, 1, 0},
+        {INT64_MIN, INT64_MAX, -2, INT64_MAX - 1},
+        {INT64_MAX, INT64_MIN, -1, -1},
+        {1, INT64_MIN, -1, -INT64_MAX},
+        {-1, INT64_MIN, 0, -1},
+        {1, INT64_MAX, 0, 1},
+        {-1, INT64_MAX, -1, INT64_MAX - 1},
+    };
+    for (size_t i = 0; i < sizeof known / sizeof known[0]; i++)
+        division_is(known[i].a, known[i].b, 0, known[i].quotient, known[i].remainder);
+    division_is(INT64_MIN, -1, 1, 0, 0);
+    static const int64_t some[] = {INT64_MIN, -7, -1, 0, 1, 7, INT64_MAX};
+    for (size_t i = 0; i < sizeof some / sizeof some[0]; i++)
+        division_is(some[i], 0, 1, 0, 0);
+    for (int64_t a = -9; a <= 9; a++) /* C's own, corrected where the remainder's sign is not the divisor's */
+        for (int64_t b = -4; b <= 4; b++) {
+            if (b == 0)
+                continue;
+            int64_t up = a % b != 0 && (a % b < 0) != (b < 0);
+            division_is(a, b, 0, a / b - up, a % b + up * b);
+        }
+}
+
+/* A null on either side, from a column or written, is null; so is what is divided further. */
+static void test_divided_nulls(void)
+{
+    for (unsigned code = SCREEN_OP_FLOOR_DIVIDE; code <= SCREEN_OP_MODULUS; code++) {
+        begin_mixed();
+        is_null(binary(code, column(0), column(3)));
+        zero_row();
+        cell(0, 7);
+        cell(3, 2);
+        expect("no null", F);
+        null_cell(3);
+        expect("a null divisor is not zero, and not a number", T);
+        cell(3, 2);
+        nulls = 0;
+        null_cell(0);
+        expect("a null dividend", T);
+        null_cell(3);
+        expect("two nulls", T);
+        zero_row();
+        cell(0, 7);
+        expect("a zero divisor", T);
+
+        begin_mixed();
+        binary(SCREEN_OP_EQ, binary(code, column(0), null_of(INT)), literal(INT, 0));
+        zero_row();
+        expect("a comparison with what a null divides", U);
+        begin_mixed();
+        binary(SCREEN_OP_EQ, binary(code, null_of(INT), column(0)), literal(INT, 0));
+        cell(0, 5);
+        expect("a comparison with a null that is divided", U);
+        begin_mixed();
+        uint32_t null = binary(code, column(0), literal(INT, 0));
+        is_null(binary(code, literal(INT, 100), binary(code, literal(INT, 7), null)));
+        zero_row();
+        expect("a division of a division of null", T);
+        begin_mixed();
+        null = binary(code, column(0), literal(INT, 0));
+        not_of(binary(SCREEN_OP_EQ, null, null));
+        expect("Not of a comparison that is unknown", U);
+        begin_mixed();
+        null = binary(code, column(0), literal(INT, 0));
+        pool_value(0);
+        is_in(0, null, list(0, INT, 0, 1));
+        expect("a null quotient in a list", U);
+        begin_mixed();
+        null = binary(code, column(0), literal(INT, 0));
+        binary(SCREEN_OP_OR, binary(SCREEN_OP_GT, null, literal(INT, 1)), literal(TRUTH, 1));
+        expect("unknown Or true", T);
+    }
+}
+
+/* "size // 100 >= 3", "size % 100 == 0", and a division in every other place of an Int. */
+static void test_divided_lines(void)
+{
+    static const int64_t sizes[] = {-100, -1, 0, 299, 300, 399};
+    static const uint32_t lots[] = {F, F, F, F, T, T}, whole[] = {T, F, T, F, T, F}, ranges[] = {F, F, F, T, T, T};
+    static const uint32_t in[] = {F, F, F, F, T, T};
+    begin_mixed();
+    binary(SCREEN_OP_GT_EQ, binary(SCREEN_OP_FLOOR_DIVIDE, column(0), literal(INT, 100)), literal(INT, 3));
+    one_line("size // 100 >= 3", U, sizes, lots, 6);
+    begin_mixed();
+    binary(SCREEN_OP_EQ, binary(SCREEN_OP_MODULUS, column(0), literal(INT, 100)), literal(INT, 0));
+    one_line("size % 100 == 0", U, sizes, whole, 6);
+    begin_mixed();
+    uint32_t hundreds = binary(SCREEN_OP_FLOOR_DIVIDE, column(0), literal(INT, 100));
+    is_between(SCREEN_CLOSED_BOTH, hundreds, binary(SCREEN_OP_FLOOR_DIVIDE, literal(INT, 5), literal(INT, 2)),
+               literal(INT, 3));
+    one_line("size // 100 between 5 // 2 and 3", U, sizes, ranges, 6);
+    begin_mixed();
+    pool_value(3);
+    hundreds = binary(SCREEN_OP_FLOOR_DIVIDE, column(0), literal(INT, 100));
+    is_in(0, hundreds, list(0, INT, 0, 1));
+    one_line("size // 100 in (3)", U, sizes, in, 6);
+}
+
 /* The deepest screens, on a thread with as much stack as the header asks for. */
 static void *deep(void *unused)
 {
@@ -418,6 +578,19 @@ static void *deep(void *unused)
         top = is_not_null(top);
     zero_row();
     expect("4,095 null tests", T);
+
+    /* Divisions of divisions: a tree of 4,090, the divisor in it each time. */
+    begin_mixed();
+    uint32_t divisor = literal(INT, 1);
+    top = column(0);
+    while (sent.used < 2046)
+        top = binary(SCREEN_OP_FLOOR_DIVIDE, top, divisor);
+    is_not_null(top);
+    zero_row();
+    cell(0, INT64_MIN);
+    expect("2,044 divisions", T);
+    null_cell(0);
+    expect("2,044 divisions of null", F);
     return unused;
 }
 
@@ -425,7 +598,7 @@ static void test_deep(void)
 {
     pthread_attr_t attributes;
     pthread_t thread;
-    if (pthread_attr_init(&attributes) != 0 || pthread_attr_setstacksize(&attributes, (size_t)5 << 18) != 0 ||
+    if (pthread_attr_init(&attributes) != 0 || pthread_attr_setstacksize(&attributes, (size_t)3 << 19) != 0 ||
         pthread_create(&thread, &attributes, deep, NULL) != 0 || pthread_join(thread, NULL) != 0)
         abort();
     pthread_attr_destroy(&attributes);
@@ -448,6 +621,9 @@ int main(void)
     test_single();
     test_between();
     test_members();
+    test_divisions();
+    test_divided_nulls();
+    test_divided_lines();
     test_deep();
     test_texts();
     return finish();

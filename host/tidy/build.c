@@ -68,6 +68,12 @@ void add_column(struct build *build, struct slice name, uint8_t type, size_t lin
     screen_declare(&build->lent, type);
 }
 
+bool is_division(struct screen_record fields)
+{
+    return fields.kind == SCREEN_KIND_BINARY &&
+           (fields.code == SCREEN_OP_FLOOR_DIVIDE || fields.code == SCREEN_OP_MODULUS);
+}
+
 unsigned type_of(const struct build *build, uint32_t record)
 {
     struct screen_record fields = screen_record_at(&build->lent, record);
@@ -78,6 +84,8 @@ unsigned type_of(const struct build *build, uint32_t record)
     case SCREEN_KIND_NULL:
     case SCREEN_KIND_LIST:
         return fields.type;
+    case SCREEN_KIND_BINARY:
+        return is_division(fields) ? SCREEN_TYPE_INT : SCREEN_TYPE_TRUTH;
     default:
         return SCREEN_TYPE_TRUTH;
     }

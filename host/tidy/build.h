@@ -51,6 +51,9 @@ size_t nearest_column(const struct build *build, struct slice name);
 
 void add_column(struct build *build, struct slice name, uint8_t type, size_t line);
 
+/* Is it // or %, whose value is an Int? */
+bool is_division(struct screen_record fields);
+
 /* The type of a record's value; 0 of a null or an empty list that has none yet. */
 unsigned type_of(const struct build *build, uint32_t record);
 

@@ -37,6 +37,8 @@ static const struct sign {
     {">=", TOKEN_COMPARISON, SCREEN_OP_GT_EQ},
     {"&&", TOKEN_LOGIC, SCREEN_OP_LOGICAL_AND},
     {"||", TOKEN_LOGIC, SCREEN_OP_LOGICAL_OR},
+    {"//", TOKEN_DIVISION, SCREEN_OP_FLOOR_DIVIDE},
+    {"%", TOKEN_DIVISION, SCREEN_OP_MODULUS},
     {"=", TOKEN_COMPARISON, SCREEN_OP_EQ},
     {"<", TOKEN_COMPARISON, SCREEN_OP_LT},
     {">", TOKEN_COMPARISON, SCREEN_OP_GT},
@@ -121,7 +123,7 @@ static void read_sign(struct lexer *lexer, struct slice rest, struct token *toke
     token->kind = TOKEN_FAULT;
     token->text.len = 1;
     unsigned char c = (unsigned char)rest.at[0];
-    const char *expected = "a name, a number, a day or a sign";
+    const char *expected = c == '/' ? "//, which divides whole numbers" : "a name, a number, a day or a sign";
     if (c > ' ' && c < 127)
         fault_add(lexer->faults, lexer->number, token->place, "expected %s, found '%c'", expected, c);
     else

@@ -15,6 +15,7 @@ enum token_kind {
     TOKEN_TRUTH,
     TOKEN_NULL,
     TOKEN_COMPARISON,
+    TOKEN_DIVISION,
     TOKEN_LOGIC,
     TOKEN_NOT,
     TOKEN_BETWEEN,
@@ -33,7 +34,7 @@ struct token {
     enum token_kind kind;
     struct slice text;
     size_t place;
-    unsigned code; /* SCREEN_OP_.. of a comparison or of logic */
+    unsigned code; /* SCREEN_OP_.. of a comparison, a division or of logic */
     int64_t value; /* of a number, a day or a truth */
 };
 

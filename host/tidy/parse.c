@@ -141,9 +141,10 @@ static void need_truth(struct parser *p, struct operand operand)
     unsigned type = type_of(p->build, operand.record);
     if (type == SCREEN_TYPE_TRUTH)
         return;
+    bool compared = is_column(p, operand) || is_division(screen_record_at(&p->build->lent, operand.record));
     fault_add(p->faults, p->lexer.number, operand.at.place, "%.*s is %s, where true or false is needed: %s",
               shown(operand.at), operand.at.text.at, A_TYPE[type],
-              is_column(p, operand) ? "compare it with a value" : "compare a column with it");
+              compared ? "compare it with a value" : "compare a column with it");
     p->token.kind = TOKEN_FAULT;
 }
 
@@ -208,7 +209,7 @@ static uint32_t parse_parentheses(struct parser *p)
     return inside;
 }
 
-static struct operand parse_operand(struct parser *p)
+static struct operand parse_value(struct parser *p)
 {
     struct operand operand = {0, p->token};
     switch (p->token.kind) {
@@ -232,6 +233,55 @@ static struct operand parse_operand(struct parser *p)
         refuse(p, p->token, "a column, a whole number, a day, true, false, null or '('");
     }
     return operand;
+}
+
+/* Both sides of // and % are Ints, nulls too. */
+static void need_ints(struct parser *p, const struct operand *sides)
+{
+    for (size_t i = 0; i < 2 && !faulty(p); i++) {
+        uint32_t input = sides[i].record;
+        struct token side = named(sides[i]);
+        fit_types(p->build, &input, 1, SCREEN_TYPE_INT);
+        unsigned type = type_of(p->build, input);
+        if (type == SCREEN_TYPE_INT)
+            continue;
+        fault_add(p->faults, p->lexer.number, side.place, "%.*s is %s: only Ints are divided", shown(side),
+                  side.text.at, A_TYPE[type]);
+        p->token.kind = TOKEN_FAULT;
+    }
+}
+
+/* A division by zero or by null is null for every row. */
+static void warn_of_divisor(struct parser *p, struct operand divisor)
+{
+    struct screen_record fields = screen_record_at(&p->build->lent, divisor.record);
+    bool zero = fields.kind == SCREEN_KIND_LITERAL && screen_literal_at(&p->build->lent, divisor.record) == 0;
+    if (zero || fields.kind == SCREEN_KIND_NULL)
+        warning_add(p->faults, p->lexer.number, divisor.at.place, "a division by %s is null for every row",
+                    zero ? "zero" : "null");
+}
+
+/* A value, or one divided by another; a second division needs parentheses. */
+static struct operand parse_operand(struct parser *p)
+{
+    struct operand sides[2] = {parse_value(p), {0, p->token}};
+    struct token sign = p->token;
+    if (sign.kind != TOKEN_DIVISION)
+        return sides[0];
+    take(p);
+    sides[1] = parse_value(p);
+    need_ints(p, sides);
+    if (p->token.kind == TOKEN_DIVISION)
+        refuse(p, p->token, "parentheses around one of two divisions");
+    if (faulty(p))
+        return sides[0];
+    warn_of_divisor(p, sides[1]);
+    struct operand divided = sides[0];
+    divided.at.kind = TOKEN_DIVISION; /* named by all of its text */
+    divided.at.text.len = (size_t)(p->token.text.at - divided.at.text.at);
+    divided.at.text = trimmed(divided.at.text);
+    divided.record = screen_put_binary(&p->build->lent, sign.code, sides[0].record, sides[1].record);
+    return divided;
 }
 
 static uint32_t compare(struct parser *p, unsigned code, struct operand left)

@@ -12,9 +12,11 @@
  *             | OPERAND is [not] distinct from OPERAND
  *             | OPERAND [not] between OPERAND and OPERAND [closed both | left | right | none]
  *             | OPERAND [not] in ( VALUES ) [nulls equal]         or [ VALUES ]
- *     OPERAND = a column, a whole number, a day (YYYY-MM-DD), true, false, null, or ( LINE )
+ *     OPERAND = VALUE | VALUE // VALUE | VALUE % VALUE
+ *     VALUE   = a column, a whole number, a day (YYYY-MM-DD), true, false, null, or ( LINE )
  *
- * Different logic on one level needs parentheses: no trader should have to know which of and, or binds closer.
+ * Different logic on one level needs parentheses, and so does a second division: no trader should have to know which of
+ * and, or binds closer, or from which end divisions are read.
  *
  * What the library would refuse with 6 or 7 is told here, in the desk's words and with its place. Each line is read,
  * so that all that is wrong is told in one run.

@@ -22,14 +22,24 @@ static bool is_logic(struct screen_record fields)
     return fields.kind == SCREEN_KIND_BINARY && fields.code >= SCREEN_OP_AND;
 }
 
-/* A comparison's side: whatever is not one word stands in parentheses. Logic brings its own. */
-static void add_operand(struct text *text, const struct build *build, uint64_t record)
+static void add_side(struct text *text, const struct build *build, uint64_t record, bool bare)
 {
-    struct screen_record fields = screen_record_at(&build->lent, record);
-    bool bare = is_atom(fields.kind) || is_logic(fields);
     text_add(text, "%s", bare ? "" : "(");
     add_test(text, build, record);
     text_add(text, "%s", bare ? "" : ")");
+}
+
+/* A comparison's side: whatever is neither one word nor a division stands in parentheses. Logic brings its own. */
+static void add_operand(struct text *text, const struct build *build, uint64_t record)
+{
+    struct screen_record fields = screen_record_at(&build->lent, record);
+    add_side(text, build, record, is_atom(fields.kind) || is_logic(fields) || is_division(fields));
+}
+
+/* A division's side: another division stands in parentheses. */
+static void add_divided(struct text *text, const struct build *build, uint64_t record)
+{
+    add_side(text, build, record, is_atom(screen_record_at(&build->lent, record).kind));
 }
 
 const char *operator_text(unsigned code)
@@ -39,6 +49,7 @@ const char *operator_text(unsigned code)
         [SCREEN_OP_NOT_EQ] = "!=",     [SCREEN_OP_NOT_EQ_VALIDITY] = "is distinct from",
         [SCREEN_OP_LT] = "<",          [SCREEN_OP_LT_EQ] = "<=",
         [SCREEN_OP_GT] = ">",          [SCREEN_OP_GT_EQ] = ">=",
+        [SCREEN_OP_FLOOR_DIVIDE] = "//", [SCREEN_OP_MODULUS] = "%",
         [SCREEN_OP_AND] = "and",       [SCREEN_OP_OR] = "or",
         [SCREEN_OP_XOR] = "xor",       [SCREEN_OP_LOGICAL_AND] = "&&",
         [SCREEN_OP_LOGICAL_OR] = "||",
@@ -64,6 +75,10 @@ static void add_binary(struct text *text, const struct build *build, struct scre
         text_add(text, "(");
         add_logic(text, build, fields);
         text_add(text, ")");
+    } else if (is_division(fields)) {
+        add_divided(text, build, fields.a);
+        text_add(text, " %s ", operator_text(fields.code));
+        add_divided(text, build, fields.b);
     } else {
         add_operand(text, build, fields.a);
         text_add(text, " %s ", operator_text(fields.code));

@@ -9,7 +9,7 @@ void add_test(struct text *text, const struct build *build, uint64_t record);
 
 void add_value(struct text *text, unsigned type, int64_t value);
 
-/* The sign of a comparison, or the word of logic. */
+/* The sign of a comparison or a division, or the word of logic. */
 const char *operator_text(unsigned code);
 
 /* A row of conjuncts: the records that a root joins by And and LogicalAnd, from left to right. */

@@ -78,6 +78,13 @@ cases =
     ∷ row int (line 20) [] 3 2 4 3 1
     ∷ row (2 ∷ []) (line 6) [] 3 2 7 3 1
     ∷ row int (line 15) [] 3 2 7 3 1
+    -- a division gives an Int: c0 // 3 >= 3; as the root; of a Day; under Not
+    ∷ row int (line 13 ++ rec 4 7 0 2 1 0) [] 4 3 256 5 1
+    ∷ row int (line 14 ++ rec 4 7 0 2 1 0) [] 4 3 256 5 1
+    ∷ row int (line 13) [] 3 2 7 3 1
+    ∷ row (2 ∷ []) (line 14) [] 3 2 7 3 1
+    ∷ row int (line 13 ++ rec 5 0 0 2 0 0) [] 4 3 7 4 1
+    ∷ row int (line 12) [] 3 2 6 3 1
     -- Not of a comparison; an input that is not below its record; a root that is no Truth
     ∷ row int (line 6 ++ rec 5 0 0 2 0 0) [] 4 3 256 4 1
     ∷ row int (rec 5 0 0 0 0 0) [] 1 0 5 1 0

@@ -1,14 +1,14 @@
 -- The step of a record, kind by kind, has the fault, the entry and the tree count of the record.
 use Prim.Native.Nat.{ℕ, zero, suc, _+_, _*_, _%_, _≤_, _<_, min}
 use mathlib.Core.List.{List}
-use mathlib.Core.Bool.{Bool, true, false, not, _&&_, and-true, and-false}
+use mathlib.Core.Bool.{Bool, true, false, not, cond, _&&_, and-true, and-false}
 use mathlib.Core.Path.{_≡_, refl, sym, _∙_, ap, subst}
 use native.Mathlib.Omega.{arith}
 use lib.ListN.{length, getD, set}
 use lib.Seq.{getD-set-same, getD-set-other}
 use lib.Dec.{ltb, leb, eqb}
 use borrow.Author.Tests.{ltb-true, leb-true, eqb-true, eqb-false, eq-eqb, ne-eqb, le-leb, lt-leb}
-use Rattle.records.specs.Operator.{operatorAt, codeOf}
+use Rattle.records.specs.Operator.{operatorAt, codeOf, isDivision}
 use Rattle.records.specs.Record.{node, columnNumber, closedAt, fieldsAt, decode, recordAt}
 use Rattle.records.specs.Shape.{knownType, inType, maxCode, uses, knownOk, zeroOr, unusedOk, literalOk, shapeOk}
 use Rattle.records.specs.declared.record.Fields.{Fields}
@@ -21,7 +21,7 @@ use Rattle.checking.specs.Fit.{listOk, reachOk, servedOk, typeOf, typeAt
 use Rattle.checking.specs.Check.{typesKnown, meaningFault, recordFault}
 use Rattle.checking.specs.Table.{below}
 use Rattle.checking.specs.Tree.{treeStep, treeCount, Counted}
-use Rattle.checking.specs.Step.{Entry, Entered, bad, good, judged, onlyA, literalShape, nullShape, binaryShape, betweenShape, listShape, memberShape, bothBelow, columnStep, literalStep, nullStep, pairFits, binaryStep, notStep, nullTestStep, betweenStep, listStep, memberStep, recordStep}
+use Rattle.checking.specs.Step.{Entry, Entered, bad, good, judged, onlyA, literalShape, nullShape, binaryShape, betweenShape, listShape, memberShape, bothBelow, columnStep, literalStep, nullStep, pairFits, binaryEntry, binaryStep, notStep, nullTestStep, betweenStep, listStep, memberStep, recordStep}
 use Rattle.checking.specs.declared.step.Step.{Step}
 use Rattle.checking.proofs.Tables.{tree-turn}
 
@@ -41,6 +41,12 @@ value-entry t r e ty m h = record { value = ty ∙ omega arith; member = other }
     other : (x : ℕ) → memberFits x r ≡ (ltb 0 x && eqb e (4 * x))
     other zero = m 0
     other (suc x) = m (suc x) ∙ sym (no-second (ltb 0 (suc x)) _ (ne-eqb e (4 * suc x) (λ q. omega (arith, q))))
+
+-- the entry of a binary record: an Int of a division, else its Truth
+binary-entry : (t : List ℕ) (o : _) (x y : _) (b : Bool) → isDivision o ≡ b → Entry t (kind.Binary o x y) (cond b 1 3)
+unfolding typeOf memberFits
+binary-entry t o x y true e = value-entry t (kind.Binary o x y) 1 (rw e) (λ x. refl) (omega arith)
+binary-entry t o x y false e = value-entry t (kind.Binary o x y) 3 (rw e) (λ x. refl) (omega arith)
 
 list-entry : (t : List ℕ) (ty : ℕ) (m : Bool) (start count : ℕ) → ty < 4 → Entry t (kind.List ty m start count) (4 * (ty % 4))
 unfolding typeOf memberFits sameType
@@ -224,16 +230,17 @@ module _ (t rs p types trees : List ℕ) (n : ℕ) (known : typesKnown t ≡ tru
       (known-low (f .ty) (and-right (eqb (f .code) 0) (knownType (f .ty)) (and-left _ _ s)))) (λ r. refl)
 
   binary-right : f .zero ≡ 0 → f .kind ≡ 4 → Right t rs p n (binaryStep types trees f n)
-  unfolding binaryStep reachOk servedOk typesOk typeOf memberFits pairFits binaryFits sameType
+  unfolding binaryStep reachOk servedOk typesOk typeOf memberFits pairFits binaryEntry binaryFits sameType
   binary-right z k =
       judged-right (kind.Binary (operatorAt (f .code)) (node (f .a)) (node (f .b))) (binaryShape f) (bothBelow f n)
-      (not (leb 8 (f .code) && leb (f .code) 14))
-      (pairFits (f .code) (getD types (f .a) 0 % 4) (getD types (f .b) 0 % 4)) 3
+      (not (leb 8 (f .code) && leb (f .code) 12))
+      (pairFits (f .code) (getD types (f .a) 0 % 4) (getD types (f .b) 0 % 4)) (binaryEntry (f .code))
       (1 + (getD trees (f .a) 0 + getD trees (f .b) 0)) (decode-binary f k) (shape-binary f z k)
       (ap (λ q. ltb (f .a) n && q) (and-true (ltb (f .b) n)))
       (λ s r. rw (code s))
       (λ s r. rw (code s, input-type (f .a) (and-left _ _ r), input-type (f .b) (and-right (ltb (f .a) n) _ r)))
-      (λ s r. value-entry t (kind.Binary (operatorAt (f .code)) (node (f .a)) (node (f .b))) 3 refl (λ x. refl) (omega arith))
+      (λ s r. binary-entry t (operatorAt (f .code)) (node (f .a)) (node (f .b)) (leb 13 (f .code) && leb (f .code) 14)
+      (rw (code s)))
       (λ r. rw (and-left (ltb (f .a) n) (ltb (f .b) n) r, and-right (ltb (f .a) n) (ltb (f .b) n) r) (omega arith))
     where
       code : binaryShape f ≡ true → codeOf (operatorAt (f .code)) ≡ f .code

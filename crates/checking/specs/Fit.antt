@@ -6,7 +6,7 @@ use mathlib.Core.Bool.{Bool, true, false, cond, not, _&&_}
 use lib.ListN.{length, getD}
 use lib.Dec.{ltb, leb, eqb}
 use Rattle.records.specs.Bytes.{valueAt, all}
-use Rattle.records.specs.Operator.{isComparison, isLeftOut}
+use Rattle.records.specs.Operator.{isComparison, isLeftOut, isDivision}
 use Rattle.records.specs.Record.{recordAt, inputs}
 use Rattle.records.specs.Shape.{inType}
 use Rattle.records.specs.declared.operator.Operator.{Operator}
@@ -61,7 +61,7 @@ typeOf t kind.Invalid = 0
 typeOf t (kind.Column c) = getD t (c .0) 0
 typeOf t (kind.Literal ty v) = ty
 typeOf t (kind.Null ty) = ty
-typeOf t (kind.Binary o x y) = 3
+typeOf t (kind.Binary o x y) = cond (isDivision o) 1 3
 typeOf t (kind.Not x) = 3
 typeOf t (kind.IsNull x) = 3
 typeOf t (kind.IsNotNull x) = 3
@@ -76,9 +76,10 @@ typeAt t rs n = typeOf t (recordAt rs n)
 unfoldable pub sameType : ℕ → ℕ → Bool
 sameType x y = ltb 0 x && eqb x y
 
--- comparisons take two sides of one type, logic takes Truth
+-- comparisons take two sides of one type, divisions Int, logic Truth
 unfoldable pub binaryFits : Operator → ℕ → ℕ → Bool
-binaryFits o x y = cond (isComparison o) (sameType x y) (eqb x 3 && eqb y 3)
+binaryFits o x y =
+    cond (isComparison o) (sameType x y) (cond (isDivision o) (eqb x 1 && eqb y 1) (eqb x 3 && eqb y 3))
 
 -- is_between takes three of one type
 unfoldable pub betweenFits : ℕ → ℕ → ℕ → Bool

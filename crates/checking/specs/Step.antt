@@ -72,13 +72,18 @@ nullStep f = judged (nullShape f) true true true (f .ty) 1
 
 -- `binaryFits` by the operator's code
 unfoldable pub pairFits : ℕ → ℕ → ℕ → Bool
-pairFits code x y = cond (leb code 7) (ltb 0 x && eqb x y) (eqb x 3 && eqb y 3)
+pairFits code x y =
+    cond (leb code 7) (ltb 0 x && eqb x y) (cond (leb 13 code && leb code 14) (eqb x 1 && eqb y 1) (eqb x 3 && eqb y 3))
+
+-- the entry of a binary record: an Int of the two divisions, else the Truth of a binary record
+unfoldable pub binaryEntry : ℕ → ℕ
+binaryEntry code = cond (leb 13 code && leb code 14) 1 3
 
 unfoldable pub binaryStep : List ℕ → List ℕ → Fields → ℕ → Step
 binaryStep types trees f n =
     judged (binaryShape f) (bothBelow f n)
-    (not (leb 8 (f .code) && leb (f .code) 14))
-    (pairFits (f .code) (getD types (f .a) 0 % 4) (getD types (f .b) 0 % 4)) 3
+    (not (leb 8 (f .code) && leb (f .code) 12))
+    (pairFits (f .code) (getD types (f .a) 0 % 4) (getD types (f .b) 0 % 4)) (binaryEntry (f .code))
     (1 + (getD trees (f .a) 0 + getD trees (f .b) 0))
 
 unfoldable pub notStep : List ℕ → List ℕ → Fields → ℕ → Step

@@ -3,7 +3,7 @@
 ghost use mathlib.Core.Path.{_≡_};
 ghost use Prim.Native.Nat.{_≤_, _<_};
 ghost use lib.ListN.{length};
-ghost use Rattle.checking.specs.Step.{bad, good, pairFits, columnStep, literalStep, nullStep, binaryStep, notStep};
+ghost use Rattle.checking.specs.Step.{bad, good, pairFits, binaryEntry, columnStep, literalStep, nullStep, binaryStep, notStep};
 ghost use Rattle.checking.specs.Outside.{Counts};
 ghost use Rattle.checking.specs.Step.{nullTestStep, betweenStep, listStep, memberStep, recordStep};
 use crate::fit::list_ok;
@@ -84,14 +84,27 @@ fn null_step(f: Fields) -> Step
     passed(f.ty, 1)
 }
 
-// Comparisons, to code 7, take two sides of one type, logic takes Truth.
+// Comparisons, to code 7, take two sides of one type, the divisions Int, logic Truth.
 fn pair_fits(code: u8, x: u8, y: u8) -> bool
     ensures { λ r. ⌜ r ≡ pairFits code x y ⌝ }
 {
     if code <= 7 {
         return (0 < x) & (x == y);
     }
+    if (13 <= code) & (code <= 14) {
+        return (x == 1) & (y == 1);
+    }
     (x == 3) & (y == 3)
+}
+
+// FloorDivide and Modulus give an Int, every other operator a Truth.
+fn binary_entry(code: u8) -> u8
+    ensures { λ r. ⌜ r ≡ binaryEntry code ⌝ }
+{
+    if (13 <= code) & (code <= 14) {
+        return 1;
+    }
+    3
 }
 
 fn binary_step(types: &[u8], trees: &[u16], f: Fields, n: Node) -> Step
@@ -108,7 +121,7 @@ fn binary_step(types: &[u8], trees: &[u16], f: Fields, n: Node) -> Step
     if n.0 <= f.b {
         return refused(5);
     }
-    if (8 <= f.code) & (f.code <= 14) {
+    if (8 <= f.code) & (f.code <= 12) {
         return refused(6);
     }
     let a = f.a as usize;
@@ -116,7 +129,7 @@ fn binary_step(types: &[u8], trees: &[u16], f: Fields, n: Node) -> Step
     if !pair_fits(f.code, types[a] % 4, types[b] % 4) {
         return refused(7);
     }
-    passed(3, 1 + (wide(trees[a]) + wide(trees[b])))
+    passed(binary_entry(f.code), 1 + (wide(trees[a]) + wide(trees[b])))
 }
 
 fn not_step(types: &[u8], trees: &[u16], f: Fields, n: Node) -> Step

@@ -12,41 +12,43 @@ use Rattle.records.specs.declared.operator.Operator.{Operator}
 use Rattle.records.specs.declared.operator.Operator.the-variants as operator
 use Rattle.records.specs.declared.record.Record.{Record}
 use Rattle.records.specs.declared.record.Record.the-variants as kind
-use Rattle.records.specs.Operator.{isComparison}
+use Rattle.records.specs.Operator.{isComparison, isDivision}
 use Rattle.truth.specs.Comparison.{Comparison, Eq, NotEq, Lt, LtEq, Gt, GtEq}
 use Rattle.truth.specs.AExpr.{AExpr, BinaryExpr, Missing, Inputs, WF}
 use Rattle.truth.specs.AExpr.{BinaryOp, Compare, EqValidity, NotEqValidity, And, Or, Xor, LogicalAnd, LogicalOr}
+use Rattle.truth.specs.AExpr.{FloorDivide, Modulus}
 use Rattle.truth.specs.FromBytes.{binaryExpr, toAExpr, aexprOf, aexprAt}
 
--- What holds of a binary record of every operator: by what the operator takes, values or Truths.
+-- What holds of a binary record of every operator: by what the operator takes, values, Ints or Truths.
 pub binary-ind :
-    (C : AExpr ℕ → Type 0) (x y : ℕ) → C Missing → (o : Operator) →
+    (C : AExpr ℕ → Type 0) (x y : ℕ) → C Missing → C (BinaryExpr FloorDivide x y) × C (BinaryExpr Modulus x y) →
+    (o : Operator) →
     (isComparison o ≡ true → (c : Comparison) → C (BinaryExpr (Compare c) x y)) →
     (isComparison o ≡ true → C (BinaryExpr EqValidity x y) × C (BinaryExpr NotEqValidity x y)) →
-    (isComparison o ≡ false → (b : BinaryOp) → C (BinaryExpr b x y)) → C (binaryExpr o x y)
-binary-ind C x y m operator.Eq v w l = v refl Eq
-binary-ind C x y m operator.EqValidity v w l = w refl .0
-binary-ind C x y m operator.NotEq v w l = v refl NotEq
-binary-ind C x y m operator.NotEqValidity v w l = w refl .1
-binary-ind C x y m operator.Lt v w l = v refl Lt
-binary-ind C x y m operator.LtEq v w l = v refl LtEq
-binary-ind C x y m operator.Gt v w l = v refl Gt
-binary-ind C x y m operator.GtEq v w l = v refl GtEq
-binary-ind C x y m operator.Plus v w l = m
-binary-ind C x y m operator.Minus v w l = m
-binary-ind C x y m operator.Multiply v w l = m
-binary-ind C x y m operator.RustDivide v w l = m
-binary-ind C x y m operator.TrueDivide v w l = m
-binary-ind C x y m operator.FloorDivide v w l = m
-binary-ind C x y m operator.Modulus v w l = m
-binary-ind C x y m operator.And v w l = l refl And
-binary-ind C x y m operator.Or v w l = l refl Or
-binary-ind C x y m operator.Xor v w l = l refl Xor
-binary-ind C x y m operator.LogicalAnd v w l = l refl LogicalAnd
-binary-ind C x y m operator.LogicalOr v w l = l refl LogicalOr
+    (isComparison o ≡ false → isDivision o ≡ false → (b : BinaryOp) → C (BinaryExpr b x y)) → C (binaryExpr o x y)
+binary-ind C x y m d operator.Eq v w l = v refl Eq
+binary-ind C x y m d operator.EqValidity v w l = w refl .0
+binary-ind C x y m d operator.NotEq v w l = v refl NotEq
+binary-ind C x y m d operator.NotEqValidity v w l = w refl .1
+binary-ind C x y m d operator.Lt v w l = v refl Lt
+binary-ind C x y m d operator.LtEq v w l = v refl LtEq
+binary-ind C x y m d operator.Gt v w l = v refl Gt
+binary-ind C x y m d operator.GtEq v w l = v refl GtEq
+binary-ind C x y m d operator.Plus v w l = m
+binary-ind C x y m d operator.Minus v w l = m
+binary-ind C x y m d operator.Multiply v w l = m
+binary-ind C x y m d operator.RustDivide v w l = m
+binary-ind C x y m d operator.TrueDivide v w l = m
+binary-ind C x y m d operator.FloorDivide v w l = d .0
+binary-ind C x y m d operator.Modulus v w l = d .1
+binary-ind C x y m d operator.And v w l = l refl refl And
+binary-ind C x y m d operator.Or v w l = l refl refl Or
+binary-ind C x y m d operator.Xor v w l = l refl refl Xor
+binary-ind C x y m d operator.LogicalAnd v w l = l refl refl LogicalAnd
+binary-ind C x y m d operator.LogicalOr v w l = l refl refl LogicalOr
 
 binary-inputs : (n : ℕ) (o : Operator) (x y : ℕ) → (x < n) × (y < n) → Inputs n (binaryExpr o x y)
-binary-inputs n o x y h = binary-ind (Inputs n) x y tt o (λ e c. h) (λ e. (h, h)) (λ e b. h)
+binary-inputs n o x y h = binary-ind (Inputs n) x y tt (h, h) o (λ e c. h) (λ e. (h, h)) (λ e d b. h)
 
 pub one : (n x : ℕ) → (ltb x n && true) ≡ true → x < n
 one n x h = ltb-true x n (and-eq-true-iff (ltb x n) true .0 h .0)

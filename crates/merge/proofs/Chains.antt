@@ -9,7 +9,7 @@ use Rattle.records.proofs.Courses.{course-law}
 use Rattle.truth.proofs.Cells.{and-is-true, cell-law}
 use Rattle.truth.specs.AExpr.{AExpr, And, BinaryExpr, BinaryOp, Column, Compare, EqValidity, Inputs, IsBetween, IsIn}
 use Rattle.truth.specs.AExpr.{IsNotNull, IsNull, ListLiteral, Literal, LogicalAnd, LogicalOr, Missing, Not}
-use Rattle.truth.specs.AExpr.{NotEqValidity, Null, Or, Xor}
+use Rattle.truth.specs.AExpr.{NotEqValidity, FloorDivide, Modulus, Null, Or, Xor}
 use Rattle.truth.specs.Cell.{TruthKeys, cellAt, step, truthAt}
 use Rattle.truth.specs.Logic.{and3, isTrue}
 use Rattle.constraints.specs.Scalars.{Scalars}
@@ -24,6 +24,8 @@ minterms-binary : (n x y : ℕ) (U W : ℕ → List ℕ) → U x ≡ W x → U y
 minterms-binary n x y U W p q (Compare o) = refl
 minterms-binary n x y U W p q EqValidity = refl
 minterms-binary n x y U W p q NotEqValidity = refl
+minterms-binary n x y U W p q FloorDivide = refl
+minterms-binary n x y U W p q Modulus = refl
 minterms-binary n x y U W p q And = rw (p, q)
 minterms-binary n x y U W p q Or = refl
 minterms-binary n x y U W p q Xor = refl
@@ -91,13 +93,15 @@ pub sides-binary : (N : ℕ → Type 0) (b : BinaryOp) (x y : ℕ) → N x × N 
 sides-binary N (Compare o) x y h = tt
 sides-binary N EqValidity x y h = tt
 sides-binary N NotEqValidity x y h = tt
+sides-binary N FloorDivide x y h = tt
+sides-binary N Modulus x y h = tt
 sides-binary N And x y h = h
 sides-binary N Or x y h = tt
 sides-binary N Xor x y h = tt
 sides-binary N LogicalAnd x y h = h
 sides-binary N LogicalOr x y h = tt
 
-sides-below : {Val : Type 0} (n : ℕ) (r : AExpr Val) → Inputs n r → Sides (λ a. a < n) (andSides r)
+pub sides-below : {Val : Type 0} (n : ℕ) (r : AExpr Val) → Inputs n r → Sides (λ a. a < n) (andSides r)
 sides-below n (Column c) i = tt
 sides-below n (Literal v) i = tt
 sides-below n Null i = tt
@@ -174,6 +178,8 @@ module _ {K Val : Type 0} (S : Scalars K Val) (tk : TruthKeys (S .order)) (R : �
       go (Compare o) e = and-true (holdsAt n)
       go EqValidity e = and-true (holdsAt n)
       go NotEqValidity e = and-true (holdsAt n)
+      go FloorDivide e = and-true (holdsAt n)
+      go Modulus e = and-true (holdsAt n)
       go And e = two e
       go Or e = and-true (holdsAt n)
       go Xor e = and-true (holdsAt n)

@@ -46,6 +46,7 @@ use Rattle.merge.specs.Classify.{readConjuncts}
 use Rattle.constraints.specs.Comparisons.{ColumnComparison}
 use Rattle.merge.specs.Emit.{mergeFilterConstraints, Outcome, Unchanged, NothingPasses, Rebuilt}
 use Rattle.merge.specs.Plain.{readsColumn, isNumberColumn, readsOnlyNumbers, plainConjuncts, plainScreen}
+use Rattle.merge.specs.Plain.{reachesDivision}
 use Rattle.merge.specs.Rebuild.{comparisonNodes, comparisonsEnd, foldUsed}
 use Rattle.merge.specs.Write.{writeComparisons, outcomeBytes}
 use Rattle.merge.specs.Rewrite.{outcomeOf, chainNodes, chainRoot, chainUsed, hasRoom, chainFits, outcomeAnswer}
@@ -54,6 +55,7 @@ use Rattle.merge.specs.Demand as demand
 use Rattle.merge.proofs.Passes.{eqb-path, eqb-self}
 use Rattle.merge.proofs.Chains.{Below}
 use Rattle.merge.proofs.PlainForms.{plain-same}
+use Rattle.merge.proofs.Unreached.{plain-unreached}
 use Rattle.merge.proofs.Witness.{HalfPoints}
 use Rattle.merge.proofs.Complete.{isNothingPasses}
 use Rattle.merge.proofs.Whole.{is-true, outcome, Keeps, outcome-keeps}
@@ -131,7 +133,7 @@ abbrev Fits : AExpr ℕ → Type 0
 Fits r = AExprP payload Long opens Word r
 
 binary-fits : (o : Operator) (x y : ℕ) → Fits (binaryExpr o x y)
-binary-fits o x y = binary-ind Fits x y tt o (λ e c. tt) (λ e. (tt, tt)) (λ e b. tt)
+binary-fits o x y = binary-ind Fits x y tt (tt, tt) o (λ e c. tt) (λ e. (tt, tt)) (λ e d b. tt)
 
 by-kind : (p : List ℕ) (k m : ℕ) (x y : Record) → Fits (toAExpr p x) → Fits (toAExpr p y) →
     Fits (toAExpr p (cond (eqb k m) x y))
@@ -353,17 +355,23 @@ module _ (t rs p : List ℕ) (used root : ℕ) (bytes : demand.AreBytes rs) (ok 
     abbrev num : ℕ → Bool
     num c = not (ltb c (length t)) || isNumberColumn t c
 
-    row-of : (row : demand.Row) → demand.IsRow t row → Row payload halves truthKeys num row
+    row-of : (row : demand.Row) → demand.IsRow t R root row → Row payload halves truthKeys num row
     row-of row h c e =
         let q = or-no (not (ltb c (length t))) (isNumberColumn t c) e in
-        h c (ltb-true c (length t) (not-no (ltb c (length t)) (q .0))) (q .1)
+        h .truths c (ltb-true c (length t) (not-no (ltb c (length t)) (q .0))) (q .1)
       where
         not-no : (b : Bool) → not b ≡ false → b ≡ true
         not-no true e = refl
         not-no false e = absurd (true≢false e)
 
-    is-row : (row : demand.Row) → Row payload halves truthKeys num row → demand.IsRow t row
-    is-row row h c l e = h c (rw (lt-ltb c (length t) l, e))
+    -- a root that reaches no division asks no more of a row
+    is-row : reachesDivision R root ≡ false → (row : demand.Row) → Row payload halves truthKeys num row →
+        demand.IsRow t R root row
+    is-row u row h =
+        record {
+          truths = λ c l e. h c (rw (lt-ltb c (length t) l, e));
+          typed = λ e. absurd (true≢false (sym e ∙ u));
+        }
 
     numeric : readsOnlyNumbers t R root ≡ true → Numeric payload halves truthKeys num R good root
     numeric h c e = go (ltb c (length t)) refl
@@ -381,14 +389,15 @@ module _ (t rs p : List ℕ) (used root : ℕ) (bytes : demand.AreBytes rs) (ok 
 
     exactly :
         plainScreen t R root ≡ true →
-        (demand.isNothing a ≡ true) ↔ ((row : demand.Row) → demand.IsRow t row → demand.passes rs p used root row ≡
-        true → ⊥)
+        (demand.isNothing a ≡ true) ↔ ((row : demand.Row) → demand.IsRow t R root row →
+        demand.passes rs p used root row ≡ true → ⊥)
     exactly h =
         let q = and-yes (readsOnlyNumbers t R root) (plainConjuncts R (minterms R root)) h in
+        let u = plain-unreached R good root (q .1) in
         let f = nothing-found-typed payload halves truthKeys num R good root (sym (plain-same R (minterms R root)) ∙
         q .1) (numeric (q .0)) in (
           λ e row r s. f .0 (sym (is .nothing) ∙ e) row (row-of row r) (is-true (truthIn R row root) .0 s),
-          λ g. is .nothing ∙ f .1 (λ row r s. g row (is-row row r) (is-true (truthIn R row root) .1 s)),
+          λ g. is .nothing ∙ f .1 (λ row r s. g row (is-row u row r) (is-true (truthIn R row root) .1 s)),
         )
 
 -- ---- From the answer to the screen.

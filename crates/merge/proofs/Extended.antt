@@ -262,6 +262,15 @@ truth-kept t rs out p u end l x n h =
 literal-of-column : (t : List ℕ) (c : ℕ) → literalType t c ≡ getD t c 0
 literal-of-column t c = refl
 
+comparison-truth : (t : List ℕ) (o : Comparison) (x y : ℕ) → typeOf t (comparisonRecord o x y) ≡ 3
+unfolding typeOf
+comparison-truth t Eq x y = refl
+comparison-truth t NotEq x y = refl
+comparison-truth t Lt x y = refl
+comparison-truth t LtEq x y = refl
+comparison-truth t Gt x y = refl
+comparison-truth t GtEq x y = refl
+
 module _ (t p : List ℕ) (table : tableOk t ≡ true) where
   known : (c : ℕ) → c < length t → knownType (getD t c 0) ≡ true
   unfolding tableOk typesKnown
@@ -345,7 +354,9 @@ module _ (t p : List ℕ) (table : tableOk t ≡ true) where
       x3 = put-extends t rs2 p (suc (suc u)) (comparisonRecord o u (suc u)) room3 (x2 .all) new3
 
       three-truth : typeAt t (writeComparison t u x rs) (node (suc (suc u))) ≡ 3
-      three-truth = put-type t rs2 p (suc (suc u)) (comparisonRecord o u (suc u)) room3 (new3 .words)
+      three-truth =
+          put-type t rs2 p (suc (suc u)) (comparisonRecord o u (suc u)) room3 (new3 .words)
+          ∙ comparison-truth t o u (suc u)
 
   -- all of them, and their nodes are Truths
   pub comparisons-extend :

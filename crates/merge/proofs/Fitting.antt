@@ -10,6 +10,7 @@ use Rattle.truth.specs.Comparison.{Comparison, Eq, NotEq, Lt, LtEq, Gt, GtEq}
 use Rattle.truth.specs.AExpr.{AExpr, Column, Literal, Null, BinaryExpr, Not, IsNull, IsNotNull, IsBetween}
 use Rattle.truth.specs.AExpr.{ListLiteral, IsIn, Missing}
 use Rattle.truth.specs.AExpr.{BinaryOp, Compare, EqValidity, NotEqValidity, And, Or, Xor, LogicalAnd, LogicalOr}
+use Rattle.truth.specs.AExpr.{FloorDivide, Modulus}
 use Rattle.truth.proofs.Negations.{negateComparison}
 use Rattle.constraints.specs.Scalars.{Scalars}
 use Rattle.merge.specs.Minterms.{minterms}
@@ -50,6 +51,8 @@ module _ {K Val : Type 0} (S : Scalars K Val) (P : ℕ → Val → Type 0)
     BinaryP (Compare o) x y = At x y
     BinaryP EqValidity x y = Unit {0}
     BinaryP NotEqValidity x y = Unit {0}
+    BinaryP FloorDivide x y = Unit {0}
+    BinaryP Modulus x y = Unit {0}
     BinaryP And x y = Unit {0}
     BinaryP Or x y = Unit {0}
     BinaryP Xor x y = Unit {0}
@@ -74,6 +77,8 @@ module _ {K Val : Type 0} (S : Scalars K Val) (P : ℕ → Val → Type 0)
     record-binary (Compare o) x y h = h
     record-binary EqValidity x y h = tt
     record-binary NotEqValidity x y h = tt
+    record-binary FloorDivide x y h = tt
+    record-binary Modulus x y h = tt
     record-binary And x y h = tt
     record-binary Or x y h = tt
     record-binary Xor x y h = tt

@@ -9,6 +9,7 @@ use Rattle.records.specs.Operator.{negate}
 use Rattle.truth.specs.Comparison.{Comparison, Eq, NotEq, Lt, LtEq, Gt, GtEq}
 use Rattle.truth.specs.AExpr.{AExpr, Column, Literal, Null, BinaryExpr, Not, IsNull, IsNotNull, IsBetween}
 use Rattle.truth.specs.AExpr.{ListLiteral, IsIn, Missing, BinaryOp, Compare, EqValidity, NotEqValidity, And, Or, Xor}
+use Rattle.truth.specs.AExpr.{FloorDivide, Modulus}
 use Rattle.truth.specs.AExpr.{LogicalAnd, LogicalOr}
 use Rattle.truth.proofs.Negations.{negateComparison}
 use Rattle.constraints.specs.declared.column.Nullability.{Nullability}
@@ -115,6 +116,8 @@ module _ {Val : Type 0} (R : ℕ → AExpr Val) (n : ℕ) (F : ℕ → Operand V
   binary (Compare o) x y s t p q = compares o x y s t p q
   binary EqValidity x y s t p q = enters (BinaryExpr EqValidity x y) x y s t p q
   binary NotEqValidity x y s t p q = enters (BinaryExpr NotEqValidity x y) x y s t p q
+  binary FloorDivide x y s t p q = enters (BinaryExpr FloorDivide x y) x y s t p q
+  binary Modulus x y s t p q = enters (BinaryExpr Modulus x y) x y s t p q
   binary And x y s t p q = enters (BinaryExpr And x y) x y s t p q
   binary Or x y s t p q = enters (BinaryExpr Or x y) x y s t p q
   binary Xor x y s t p q = enters (BinaryExpr Xor x y) x y s t p q
@@ -180,6 +183,8 @@ module _ {Val : Type 0} (R : ℕ → AExpr Val) (n : ℕ) (F : ℕ → Operand V
       subst (λ c. C (Not a) (besideLiteral s t) c) (negates o s t) (not-compares o a x y s t e p q)
   not-binary EqValidity a x y s t e p q = not-enters (Not a) x y s t p q
   not-binary NotEqValidity a x y s t e p q = not-enters (Not a) x y s t p q
+  not-binary FloorDivide a x y s t e p q = f .opaque (Not a)
+  not-binary Modulus a x y s t e p q = f .opaque (Not a)
   not-binary And a x y s t e p q = f .opaque (Not a)
   not-binary Or a x y s t e p q = f .opaque (Not a)
   not-binary Xor a x y s t e p q = f .opaque (Not a)

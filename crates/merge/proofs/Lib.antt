@@ -35,6 +35,7 @@ pub mod Twice
 pub mod TwiceBytes
 pub mod Typed
 pub mod Types
+pub mod Unreached
 pub mod Usable
 pub mod Whole
 pub mod Witness

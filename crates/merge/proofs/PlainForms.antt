@@ -11,6 +11,7 @@ use Rattle.truth.specs.AExpr.{AExpr, Column, Literal, Null, BinaryExpr, Not, Is
 use Rattle.truth.specs.AExpr.{ListLiteral}
 use Rattle.truth.specs.AExpr.{IsIn, Missing}
 use Rattle.truth.specs.AExpr.{BinaryOp, Compare, EqValidity, NotEqValidity, And, Or, Xor, LogicalAnd, LogicalOr}
+use Rattle.truth.specs.AExpr.{FloorDivide, Modulus}
 use Rattle.merge.specs.Classify.{Operand, AColumn, ALiteral, AList, Other, operand}
 use Rattle.merge.specs.Plain as plain
 
@@ -68,6 +69,8 @@ abbrev pub plainCompared : {Val : Type 0} → BinaryOp → Operand Val → Opera
 plainCompared (Compare c) left right = besideLiteral left right
 plainCompared EqValidity left right = false
 plainCompared NotEqValidity left right = false
+plainCompared FloorDivide left right = false
+plainCompared Modulus left right = false
 plainCompared And left right = false
 plainCompared Or left right = false
 plainCompared Xor left right = false
@@ -78,6 +81,8 @@ abbrev pub plainBinary : {Val : Type 0} → BinaryOp → Operand Val → Operand
 plainBinary (Compare c) left right = plainComparison c left right
 plainBinary EqValidity left right = false
 plainBinary NotEqValidity left right = false
+plainBinary FloorDivide left right = false
+plainBinary Modulus left right = false
 plainBinary And left right = false
 plainBinary Or left right = false
 plainBinary Xor left right = false
@@ -218,6 +223,8 @@ compared-same (Compare c) x y =
     rw (column-same x, column-same y, literal-same x, literal-same y) (beside-same (operand x) (operand y))
 compared-same EqValidity x y = refl
 compared-same NotEqValidity x y = refl
+compared-same FloorDivide x y = refl
+compared-same Modulus x y = refl
 compared-same And x y = refl
 compared-same Or x y = refl
 compared-same Xor x y = refl
@@ -231,6 +238,8 @@ binary-same (Compare c) x y =
     rw (column-same x, column-same y, literal-same x, literal-same y) (sides-same c (operand x) (operand y))
 binary-same EqValidity x y = refl
 binary-same NotEqValidity x y = refl
+binary-same FloorDivide x y = refl
+binary-same Modulus x y = refl
 binary-same And x y = refl
 binary-same Or x y = refl
 binary-same Xor x y = refl

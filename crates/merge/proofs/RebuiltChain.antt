@@ -8,7 +8,7 @@ use native.Mathlib.Omega.{arith}
 use lib.Dec.{eqb}
 use Rattle.truth.specs.AExpr.{AExpr, And, BinaryExpr, Column, Compare, Inputs, Literal, WF}
 use Rattle.truth.specs.AExpr.{BinaryOp, EqValidity, IsBetween, IsIn, IsNotNull, IsNull, ListLiteral, LogicalAnd}
-use Rattle.truth.specs.AExpr.{LogicalOr, Missing, Not, NotEqValidity, Null, Or, Xor}
+use Rattle.truth.specs.AExpr.{FloorDivide, LogicalOr, Missing, Modulus, Not, NotEqValidity, Null, Or, Xor}
 use Rattle.constraints.specs.Comparisons.{ColumnComparison}
 use Rattle.constraints.specs.Resolve.{fixedValue}
 use Rattle.constraints.specs.Scalars.{Scalars}
@@ -113,6 +113,8 @@ module _ {Val : Type 0} where
       go (Compare o) e = (ap andSides e, tt)
       go EqValidity e = (ap andSides e, tt)
       go NotEqValidity e = (ap andSides e, tt)
+      go FloorDivide e = (ap andSides e, tt)
+      go Modulus e = (ap andSides e, tt)
       go And e = ones-append R (minterms R x) (minterms R y) (h x (i .0)) (h y (i .1))
       go Or e = (ap andSides e, tt)
       go Xor e = (ap andSides e, tt)

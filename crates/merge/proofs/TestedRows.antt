@@ -12,11 +12,12 @@ use lib.ListN.{length, getD}
 use borrow.Author.Tests.{leb-true}
 use Rattle.records.specs.Bytes.{valueAt, all}
 use Rattle.records.specs.Shape.{inType}
+use Rattle.truth.specs.AExpr.{AExpr}
 use Rattle.truth.specs.Halves.{key}
 use Rattle.truth.specs.FromBytes.{nullMarked, rowKeys}
 use Rattle.truth.specs.RowTest.{columnOk, columnsOk, marksOk, rowFault}
 use Rattle.merge.specs.Plain.{isNumberColumn}
-use Rattle.merge.specs.Demand.{IsRow, NullOrTruth}
+use Rattle.merge.specs.Demand.{IsRow, NullOrTruth, NullOrTyped}
 use Rattle.records.proofs.Loops.{all-holds}
 use Rattle.merge.proofs.Demand.{and-yes, or-no}
 
@@ -39,13 +40,22 @@ unfolding columnOk
 one-column ty v true n h = tt
 one-column ty v false n h = truth-key v (of-truth ty v n h)
 
--- 12 and 13 are not given: the row's values and null marks make a row of demand 3.
-pub tested-rows : (t row : List ℕ) (nulls : ℕ) → rowFault t row nulls ≡ 0 → IsRow t (rowKeys row nulls)
+typed-column :
+    (ty v : ℕ) (b : Bool) → columnOk ty b v ≡ true → NullOrTyped ty (cond b none (some (key v)))
+unfolding columnOk
+typed-column ty v true h = tt
+typed-column ty v false h = record { bits = v; typed = h; is = refl }
+
+-- 12 and 13 are not given: the row's values and null marks make a row of demand 3, whatever the screen reaches.
+pub tested-rows :
+    (t row : List ℕ) (nulls : ℕ) → rowFault t row nulls ≡ 0 → (R : ℕ → AExpr ℕ) (root : ℕ) →
+    IsRow t R root (rowKeys row nulls)
 unfolding rowFault columnsOk rowKeys
-tested-rows t row nulls h c l n =
-    one-column (getD t c 0) (valueAt row c) (nullMarked nulls c) n
-    (all-holds fits c (length t) l (ok (eqb (length row) (8 * length t)) (marksOk (length t) nulls) (all fits (length t))
-    h))
+tested-rows t row nulls h R root =
+    record {
+      truths = λ c l n. one-column (getD t c 0) (valueAt row c) (nullMarked nulls c) n (right c l);
+      typed = λ e c l. typed-column (getD t c 0) (valueAt row c) (nullMarked nulls c) (right c l);
+    }
   where
     fits : ℕ → Bool
     fits i = columnOk (getD t i 0) (nullMarked nulls i) (valueAt row i)
@@ -61,3 +71,8 @@ tested-rows t row nulls h c l n =
     ok true true false e = absurd (thirteen e)
     ok true false f e = absurd (thirteen e)
     ok false m f e = absurd (twelve e)
+
+    right : (c : ℕ) → c < length t → columnOk (getD t c 0) (nullMarked nulls c) (valueAt row c) ≡ true
+    right c l =
+        all-holds fits c (length t) l (ok (eqb (length row) (8 * length t)) (marksOk (length t) nulls) (all fits (length t))
+        h)

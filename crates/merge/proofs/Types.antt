@@ -8,7 +8,7 @@ use native.Mathlib.Omega.{arith}
 use lib.Dec.{eqb, ltb, leb}
 use lib.ListN.{length, getD}
 use borrow.Author.Tests.{ltb-true, lt-ltb, eqb-true}
-use Rattle.records.specs.Operator.{isComparison}
+use Rattle.records.specs.Operator.{isComparison, isDivision}
 use Rattle.records.specs.Record.{node, fieldsAt, decode, recordAt}
 use Rattle.records.specs.Shape.{inType, knownOk, unusedOk, literalOk, shapeOk}
 use Rattle.records.specs.declared.operator.Operator.{Operator}
@@ -113,7 +113,8 @@ module _ (t : List ℕ) where
   operand-typed p n (kind.Literal ty v) h l = l
   operand-typed p n (kind.Null ty) h l = tt
   operand-typed p n (kind.Binary o x y) h l =
-      binary-ind (λ r. OperandT 3 (operand r)) (x .0) (y .0) tt o (λ e c. tt) (λ e. (tt, tt)) (λ e b. tt)
+      binary-ind (λ r. OperandT (cond (isDivision o) 1 3) (operand r)) (x .0) (y .0) tt (tt, tt) o (λ e c. tt)
+      (λ e. (tt, tt)) (λ e d b. tt)
   operand-typed p n (kind.Not x) h l = tt
   operand-typed p n (kind.IsNull x) h l = tt
   operand-typed p n (kind.IsNotNull x) h l = tt
@@ -132,19 +133,25 @@ unfolding sameType
 same-type x y h = eqb-true x y (both (ltb 0 x) (eqb x y) h .1)
 
 -- logic takes Truths
-logic-fits : (o : Operator) (x y : ℕ) → binaryFits o x y ≡ true → isComparison o ≡ false → (x ≡ 3) × (y ≡ 3)
+logic-fits :
+    (o : Operator) (x y : ℕ) → binaryFits o x y ≡ true → isComparison o ≡ false → isDivision o ≡ false →
+    (x ≡ 3) × (y ≡ 3)
 unfolding binaryFits
-logic-fits o x y h e =
-    let b = both (eqb x 3) (eqb y 3) (rw e at h) in (eqb-true x 3 (b .0), eqb-true y 3 (b .1))
+logic-fits o x y h e d =
+    let b = both (eqb x 3) (eqb y 3) (rw (e, d) at h) in (eqb-true x 3 (b .0), eqb-true y 3 (b .1))
 
 -- both sides of a binary record are of one type
 binary-same : (o : Operator) (x y : ℕ) → binaryFits o x y ≡ true → x ≡ y
 unfolding binaryFits
-binary-same o x y h = go (isComparison o) h
+binary-same o x y h = go (isComparison o) (isDivision o) h
   where
-    go : (b : Bool) → cond b (sameType x y) (eqb x 3 && eqb y 3) ≡ true → x ≡ y
-    go true h = same-type x y h
-    go false h = let b = both (eqb x 3) (eqb y 3) h in eqb-true x 3 (b .0) ∙ sym (eqb-true y 3 (b .1))
+    each : (ty : ℕ) → (eqb x ty && eqb y ty) ≡ true → x ≡ y
+    each ty h = let b = both (eqb x ty) (eqb y ty) h in eqb-true x ty (b .0) ∙ sym (eqb-true y ty (b .1))
+
+    go : (b d : Bool) → cond b (sameType x y) (cond d (eqb x 1 && eqb y 1) (eqb x 3 && eqb y 3)) ≡ true → x ≡ y
+    go true d h = same-type x y h
+    go false true h = each 1 h
+    go false false h = each 3 h
 
 -- ---- An accepted screen.
 module _ (t rs p : List ℕ) (used root : ℕ) (ok : Checked t rs p used root) where
@@ -196,8 +203,9 @@ module _ (t rs p : List ℕ) (used root : ℕ) (ok : Checked t rs p used root) w
       let i : x .0 < n = b .0 in
       let j : y .0 < n = b .1 in
       let q = at-same (x .0) (y .0) (omega arith) (omega arith) (binary-same o _ _ k) in
-      binary-ind (λ r. RecordP payload (InColumn t) (opens t) R r) (x .0) (y .0) tt o (λ e c. q) (λ e. (tt, tt))
-      (λ e b. record-binary payload (InColumn t) (opens t) R b (x .0) (y .0) q)
+      binary-ind (λ r. RecordP payload (InColumn t) (opens t) R r) (x .0) (y .0) tt (tt, tt) o (λ e c. q)
+      (λ e. (tt, tt))
+      (λ e d b. record-binary payload (InColumn t) (opens t) R b (x .0) (y .0) q)
   record-typed n l (kind.Not x) h k = tt
   record-typed n l (kind.IsNull x) h k = tt
   record-typed n l (kind.IsNotNull x) h k = tt
@@ -236,8 +244,8 @@ module _ (t rs p : List ℕ) (used root : ℕ) (ok : Checked t rs p used root) w
       let b = two n (x .0) (y .0) h in
       let i : x .0 < n = b .0 in
       let j : y .0 < n = b .1 in
-      binary-ind (λ r. Sides IsTruth (andSides r)) (x .0) (y .0) tt o (λ e c. tt) (λ e. (tt, tt))
-      (λ e b. let f = logic-fits o (typeAt t rs x) (typeAt t rs y) k e in
+      binary-ind (λ r. Sides IsTruth (andSides r)) (x .0) (y .0) tt (tt, tt) o (λ e c. tt) (λ e. (tt, tt))
+      (λ e d b. let f = logic-fits o (typeAt t rs x) (typeAt t rs y) k e d in
       sides-binary IsTruth b (x .0) (y .0) ((omega arith, f .0), (omega arith, f .1)))
   sides-truths n l (kind.Not x) h k = tt
   sides-truths n l (kind.IsNull x) h k = tt

@@ -235,7 +235,8 @@ returned-tests-same t rs p used root bytes h values nulls =
     (sym (usable-test t out p newUsed newRoot values nulls (u .1)))
     (same-test fault (truthIn (aexprAt rs p used) (rowKeys values nulls) root)
     (truthIn (aexprAt out p newUsed) (rowKeys values nulls) newRoot)
-    (λ e. demand-3 t rs p used root bytes h .rows (rowKeys values nulls) (tested-rows t values nulls e))))
+    (λ e. demand-3 t rs p used root bytes h .rows (rowKeys values nulls)
+    (tested-rows t values nulls e (aexprAt rs p used) root))))
   where
     out : List ℕ
     out = rewriteBytes t rs p used root

@@ -16,7 +16,8 @@ use Rattle.truth.specs.Comparison.{Comparison, Eq, NotEq, Lt, LtEq, Gt, GtEq}
 use Rattle.truth.specs.AExpr.{AExpr, Column, Literal, Null, BinaryExpr, Not, IsNull, IsNotNull, IsBetween}
 use Rattle.truth.specs.AExpr.{ListLiteral}
 use Rattle.truth.specs.AExpr.{IsIn, Missing}
-use Rattle.truth.specs.AExpr.{BinaryOp, Compare, EqValidity, NotEqValidity, And, Or, Xor, LogicalAnd, LogicalOr}
+use Rattle.truth.specs.AExpr.{BinaryOp, Compare, EqValidity, NotEqValidity, FloorDivide, Modulus, And, Or, Xor, LogicalAnd}
+use Rattle.truth.specs.AExpr.{LogicalOr}
 use Rattle.constraints.specs.declared.column.Nullability.{Nullability}
 use Rattle.constraints.specs.declared.column.Nullability.the-variants.{NonNull}
 use Rattle.constraints.specs.declared.column.Nullability.the-variants as required
@@ -74,6 +75,8 @@ abbrev pub asComparison : BinaryOp → Option Comparison
 asComparison (Compare o) = some o
 asComparison EqValidity = none
 asComparison NotEqValidity = none
+asComparison FloorDivide = none
+asComparison Modulus = none
 asComparison And = none
 asComparison Or = none
 asComparison Xor = none
@@ -132,6 +135,8 @@ operatorOf (Compare Gt) = operator.Gt
 operatorOf (Compare GtEq) = operator.GtEq
 operatorOf EqValidity = operator.EqValidity
 operatorOf NotEqValidity = operator.NotEqValidity
+operatorOf FloorDivide = operator.FloorDivide
+operatorOf Modulus = operator.Modulus
 operatorOf And = operator.And
 operatorOf Or = operator.Or
 operatorOf Xor = operator.Xor

@@ -9,12 +9,14 @@ use mathlib.Core.Option.{Option, none, some}
 use Prim.Native.Nat.{ℕ, suc, _<_}
 use lib.IntN.{ℤ}
 use lib.ListN.{length, getD}
+use Rattle.records.specs.Shape.{inType}
 use Rattle.truth.specs.Halves.{key}
 use Rattle.truth.specs.Logic.{isTrue}
+use Rattle.truth.specs.AExpr.{AExpr}
 use Rattle.truth.specs.FromBytes.{aexprAt, truthIn}
 use Rattle.merge.specs.declared.answer.RewriteAnswer.{RewriteAnswer}
 use Rattle.merge.specs.declared.answer.RewriteAnswer.the-variants as answer
-use Rattle.merge.specs.Plain.{isNumberColumn, plainScreen}
+use Rattle.merge.specs.Plain.{isNumberColumn, plainScreen, reachesDivision}
 use Rattle.merge.specs.Rewrite.{rewriteAnswer, rewriteBytes}
 
 -- A row gives each column null or a key. Keys count halves, so in an Int or Day column every key is a whole number or
@@ -27,13 +29,26 @@ abbrev pub NullOrTruth : Option ℤ → Type 0
 NullOrTruth none = Unit {0}
 NullOrTruth (some k) = (k ≡ key 0) ⊎ (k ≡ key 1)
 
-abbrev pub IsRow : List ℕ → Row → Type 0
-IsRow t row = (c : ℕ) → c < length t → isNumberColumn t c ≡ false → NullOrTruth (row c)
+-- Null or a value of the type ty, given as 64 bits.
+pub record InType (ty : ℕ) (k : ℤ) : Type 0 where
+  pub bits : ℕ
+  pub typed : inType ty bits ≡ true
+  pub is : k ≡ key bits
+
+abbrev pub NullOrTyped : ℕ → Option ℤ → Type 0
+NullOrTyped ty none = Unit {0}
+NullOrTyped ty (some k) = InType ty k
+
+-- "Where the root sent reaches one [a division], rows have values of the column types only; a record that it does not
+-- reach changes neither plainness nor rows" (02, 2.8). R has the records sent, root is the root sent.
+pub record IsRow (t : List ℕ) (R : ℕ → AExpr ℕ) (root : ℕ) (row : Row) : Type 0 where
+  pub truths : (c : ℕ) → c < length t → isNumberColumn t c ≡ false → NullOrTruth (row c)
+  pub typed : reachesDivision R root ≡ true → (c : ℕ) → c < length t → NullOrTyped (getD t c 0) (row c)
 
 -- A chain is a list of such rows, of any length, none too.
-abbrev pub IsChain : List ℕ → List Row → Type 0
-IsChain t [] = Unit {0}
-IsChain t (row ∷ chain) = IsRow t row × IsChain t chain
+abbrev pub IsChain : List ℕ → (ℕ → AExpr ℕ) → ℕ → List Row → Type 0
+IsChain t R root [] = Unit {0}
+IsChain t R root (row ∷ chain) = IsRow t R root row × IsChain t R root chain
 
 -- "A row passes on true only", by the row test's rules.
 abbrev pub passes : List ℕ → List ℕ → ℕ → ℕ → Row → Bool
@@ -98,22 +113,25 @@ module _ (t rs p : List ℕ) (used root : ℕ) where
 
   -- Each row passes under the screen returned exactly when it passes under the screen sent.
   abbrev pub SameRows : Type 0
-  SameRows = (row : Row) → IsRow t row → passesReturned row ≡ passesSent row
+  SameRows = (row : Row) → IsRow t (aexprAt rs p used) root row → passesReturned row ≡ passesSent row
 
   -- Of every chain as many rows pass under the screen returned as under the screen sent.
   abbrev pub SameCounts : Type 0
-  SameCounts = (chain : List Row) → IsChain t chain → countReturned chain ≡ countSent chain
+  SameCounts =
+      (chain : List Row) → IsChain t (aexprAt rs p used) root chain → countReturned chain ≡ countSent chain
 
   -- Where the answer is nothing passes, that is none.
   abbrev pub NothingCounted : Type 0
   NothingCounted =
-      isNothing (rewriteAnswer t rs p used root) ≡ true → (chain : List Row) → IsChain t chain → countSent chain ≡ 0
+      isNothing (rewriteAnswer t rs p used root) ≡ true →
+      (chain : List Row) → IsChain t (aexprAt rs p used) root chain → countSent chain ≡ 0
 
   -- Of a plain screen, nothing passes is answered exactly when no row at all passes.
   abbrev pub NothingExactly : Type 0
   NothingExactly =
       plainScreen t (aexprAt rs p used) root ≡ true →
-      (isNothing (rewriteAnswer t rs p used root) ≡ true) ↔ ((row : Row) → IsRow t row → passesSent row ≡ true → ⊥)
+      (isNothing (rewriteAnswer t rs p used root) ≡ true)
+      ↔ ((row : Row) → IsRow t (aexprAt rs p used) root row → passesSent row ≡ true → ⊥)
 
 -- Demand 3, whole: for every accepted screen.
 pub record Demand3 (t rs p : List ℕ) (used root : ℕ) : Type 0 where

@@ -7,12 +7,15 @@ use Rattle.records.specs.Course.{course}
 use Rattle.truth.specs.AExpr.{AExpr, Column, Literal, Null, BinaryExpr, Not, IsNull, IsNotNull, IsBetween}
 use Rattle.truth.specs.AExpr.{ListLiteral}
 use Rattle.truth.specs.AExpr.{IsIn, Missing}
-use Rattle.truth.specs.AExpr.{BinaryOp, Compare, EqValidity, NotEqValidity, And, Or, Xor, LogicalAnd, LogicalOr}
+use Rattle.truth.specs.AExpr.{BinaryOp, Compare, EqValidity, NotEqValidity, FloorDivide, Modulus, And, Or, Xor, LogicalAnd}
+use Rattle.truth.specs.AExpr.{LogicalOr}
 
 abbrev pub sidesOf : BinaryOp → ℕ → ℕ → Option (ℕ × ℕ)
 sidesOf (Compare c) left right = none
 sidesOf EqValidity left right = none
 sidesOf NotEqValidity left right = none
+sidesOf FloorDivide left right = none
+sidesOf Modulus left right = none
 sidesOf And left right = some (left, right)
 sidesOf Or left right = none
 sidesOf Xor left right = none

@@ -11,7 +11,8 @@ use Rattle.truth.specs.Comparison.{Comparison, Eq, NotEq, Lt, LtEq, Gt, GtEq}
 use Rattle.truth.specs.AExpr.{AExpr, Column, Literal, Null, BinaryExpr, Not, IsNull, IsNotNull, IsBetween}
 use Rattle.truth.specs.AExpr.{ListLiteral}
 use Rattle.truth.specs.AExpr.{IsIn, Missing}
-use Rattle.truth.specs.AExpr.{BinaryOp, Compare, EqValidity, NotEqValidity, And, Or, Xor, LogicalAnd, LogicalOr}
+use Rattle.truth.specs.AExpr.{BinaryOp, Compare, EqValidity, NotEqValidity, FloorDivide, Modulus, And, Or, Xor, LogicalAnd}
+use Rattle.truth.specs.AExpr.{LogicalOr}
 use Rattle.merge.specs.Minterms.{minterms}
 
 abbrev pub isColumn : {Val : Type 0} → AExpr Val → Bool
@@ -72,6 +73,8 @@ abbrev pub plainCompared : {Val : Type 0} → BinaryOp → AExpr Val → AExpr V
 plainCompared (Compare c) x y = besideLiteral x y
 plainCompared EqValidity x y = false
 plainCompared NotEqValidity x y = false
+plainCompared FloorDivide x y = false
+plainCompared Modulus x y = false
 plainCompared And x y = false
 plainCompared Or x y = false
 plainCompared Xor x y = false
@@ -83,6 +86,8 @@ abbrev pub plainBinary : {Val : Type 0} → BinaryOp → AExpr Val → AExpr Val
 plainBinary (Compare c) x y = besideLiteral x y || (isEq c && (isColumn x && isColumn y))
 plainBinary EqValidity x y = false
 plainBinary NotEqValidity x y = false
+plainBinary FloorDivide x y = false
+plainBinary Modulus x y = false
 plainBinary And x y = false
 plainBinary Or x y = false
 plainBinary Xor x y = false
@@ -143,6 +148,35 @@ readsStep c below Missing = false
 
 abbrev pub readsColumn : {Val : Type 0} → (ℕ → AExpr Val) → ℕ → ℕ → Bool
 readsColumn R n c = course (λ a. false) (λ below i. readsStep c below (R i)) n
+
+-- ---- Whether node n reaches a division, FloorDivide or Modulus.
+abbrev pub divides : BinaryOp → Bool
+divides (Compare c) = false
+divides EqValidity = false
+divides NotEqValidity = false
+divides FloorDivide = true
+divides Modulus = true
+divides And = false
+divides Or = false
+divides Xor = false
+divides LogicalAnd = false
+divides LogicalOr = false
+
+abbrev pub divisionStep : {Val : Type 0} → (ℕ → Bool) → AExpr Val → Bool
+divisionStep below (Column c) = false
+divisionStep below (Literal v) = false
+divisionStep below Null = false
+divisionStep below (BinaryExpr op left right) = divides op || (below left || below right)
+divisionStep below (Not a) = below a
+divisionStep below (IsNull a) = below a
+divisionStep below (IsNotNull a) = below a
+divisionStep below (IsBetween lowClosed highClosed a low high) = below a || (below low || below high)
+divisionStep below (ListLiteral holdsNull values) = false
+divisionStep below (IsIn nullsEqual a list) = below a || below list
+divisionStep below Missing = false
+
+abbrev pub reachesDivision : {Val : Type 0} → (ℕ → AExpr Val) → ℕ → Bool
+reachesDivision R n = course (λ a. false) (λ below i. divisionStep below (R i)) n
 
 -- ---- "A plain screen reads only Int and Day columns". t is the column table.
 abbrev pub isNumberColumn : List ℕ → ℕ → Bool

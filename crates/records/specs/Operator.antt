@@ -48,9 +48,13 @@ codeOf LogicalOr = 19
 abbrev pub isComparison : Operator → Bool
 isComparison o = leb (codeOf o) 7
 
--- Plus to Modulus: arithmetic, which 01 leaves out
+-- Plus to TrueDivide: arithmetic that is left out
 abbrev pub isLeftOut : Operator → Bool
-isLeftOut o = leb 8 (codeOf o) && leb (codeOf o) 14
+isLeftOut o = leb 8 (codeOf o) && leb (codeOf o) 12
+
+-- FloorDivide and Modulus: two Ints give an Int
+abbrev pub isDivision : Operator → Bool
+isDivision o = leb 13 (codeOf o) && leb (codeOf o) 14
 
 -- a null operand gives null; the validity variants take null as a value
 abbrev pub isNullPropagatingComparison : Operator → Bool

@@ -103,12 +103,12 @@ pub fn is_comparison(o: Operator) -> bool
     operator_code(o) <= 7
 }
 
-// Plus to Modulus: left out, refused with number 6.
+// Plus to TrueDivide: left out, refused with number 6.
 pub fn is_left_out(o: Operator) -> bool
     ensures { λ r. ⌜ r ≡ isLeftOut o ⌝ }
 {
     let code = operator_code(o);
-    (8 <= code) & (code <= 14)
+    (8 <= code) & (code <= 12)
 }
 
 // Comparisons for which a null operand gives null. The validity variants take null as a value.

@@ -17,6 +17,7 @@ use Rattle.records.specs.declared.record.Record.the-variants as kind
 use Rattle.truth.specs.Comparison as truth
 use Rattle.truth.specs.AExpr.{AExpr}
 use Rattle.truth.specs.AExpr.{BinaryOp, Compare, EqValidity, NotEqValidity, And, Or, Xor, LogicalAnd, LogicalOr}
+use Rattle.truth.specs.AExpr.{FloorDivide, Modulus}
 use Rattle.truth.specs.FromBytes.{valuesFrom, binaryExpr, toAExpr, aexprOf}
 use Rattle.merge.specs.Classify.{Operand, AColumn, ALiteral, AList, Other, operand, Conjunct, Opaque, asComparison}
 use Rattle.merge.specs.Classify.{classifyColumnLiteral, classifyColumnColumn, classifyComparison}
@@ -94,6 +95,8 @@ operationIn (Compare truth.Gt) = operation.Compare comparison.Gt
 operationIn (Compare truth.GtEq) = operation.Compare comparison.GtEq
 operationIn EqValidity = operation.Other
 operationIn NotEqValidity = operation.Other
+operationIn FloorDivide = operation.Other
+operationIn Modulus = operation.Other
 operationIn And = operation.Other
 operationIn Or = operation.Other
 operationIn Xor = operation.Other
@@ -110,6 +113,8 @@ literal-same n a v (Compare truth.Gt) = refl
 literal-same n a v (Compare truth.GtEq) = refl
 literal-same n a v EqValidity = refl
 literal-same n a v NotEqValidity = refl
+literal-same n a v FloorDivide = refl
+literal-same n a v Modulus = refl
 literal-same n a v And = refl
 literal-same n a v Or = refl
 literal-same n a v Xor = refl
@@ -127,6 +132,8 @@ swap-same n a v (Compare truth.Gt) = refl
 swap-same n a v (Compare truth.GtEq) = refl
 swap-same n a v EqValidity = refl
 swap-same n a v NotEqValidity = refl
+swap-same n a v FloorDivide = refl
+swap-same n a v Modulus = refl
 swap-same n a v And = refl
 swap-same n a v Or = refl
 swap-same n a v Xor = refl
@@ -143,6 +150,8 @@ column-same n a b (Compare truth.Gt) = refl
 column-same n a b (Compare truth.GtEq) = refl
 column-same n a b EqValidity = refl
 column-same n a b NotEqValidity = refl
+column-same n a b FloorDivide = refl
+column-same n a b Modulus = refl
 column-same n a b And = refl
 column-same n a b Or = refl
 column-same n a b Xor = refl
@@ -189,8 +198,8 @@ binary-same R n x y operator.Minus = compared-missing n (operand (R x)) (operand
 binary-same R n x y operator.Multiply = compared-missing n (operand (R x)) (operand (R y))
 binary-same R n x y operator.RustDivide = compared-missing n (operand (R x)) (operand (R y))
 binary-same R n x y operator.TrueDivide = compared-missing n (operand (R x)) (operand (R y))
-binary-same R n x y operator.FloorDivide = compared-missing n (operand (R x)) (operand (R y))
-binary-same R n x y operator.Modulus = compared-missing n (operand (R x)) (operand (R y))
+binary-same R n x y operator.FloorDivide = compared-same n FloorDivide (operand (R x)) (operand (R y))
+binary-same R n x y operator.Modulus = compared-same n Modulus (operand (R x)) (operand (R y))
 binary-same R n x y operator.And = compared-same n And (operand (R x)) (operand (R y))
 binary-same R n x y operator.Or = compared-same n Or (operand (R x)) (operand (R y))
 binary-same R n x y operator.Xor = compared-same n Xor (operand (R x)) (operand (R y))

@@ -18,6 +18,7 @@ use Rattle.records.proofs.Courses.{course-agree}
 use Rattle.truth.specs.AExpr.{AExpr, Inputs, Column, Literal, Null, BinaryExpr, Not, IsNull, IsNotNull, IsBetween}
 use Rattle.truth.specs.AExpr.{ListLiteral, IsIn, Missing}
 use Rattle.truth.specs.AExpr.{Compare, EqValidity, NotEqValidity, And, Or, Xor, LogicalAnd, LogicalOr}
+use Rattle.truth.specs.AExpr.{FloorDivide, Modulus}
 use Rattle.truth.specs.FromBytes.{toAExpr, aexprOf, aexprAt}
 use Rattle.merge.specs.Minterms.{andSides, minterms, mintermsBy, pending}
 use Rattle.rewrite.specs.Walk.{recordSides, walked, firstOf, stackOf, InputsBelow}
@@ -154,6 +155,8 @@ sides-low n x y Null i e = absurd (Option·none-ne-some _ e)
 sides-low n x y (BinaryExpr (Compare o) u w) i e = absurd (Option·none-ne-some _ e)
 sides-low n x y (BinaryExpr EqValidity u w) i e = absurd (Option·none-ne-some _ e)
 sides-low n x y (BinaryExpr NotEqValidity u w) i e = absurd (Option·none-ne-some _ e)
+sides-low n x y (BinaryExpr FloorDivide u w) i e = absurd (Option·none-ne-some _ e)
+sides-low n x y (BinaryExpr Modulus u w) i e = absurd (Option·none-ne-some _ e)
 sides-low n x y (BinaryExpr And u w) i e = both-low n u w x y (i .0) (i .1) e
 sides-low n x y (BinaryExpr Or u w) i e = absurd (Option·none-ne-some _ e)
 sides-low n x y (BinaryExpr Xor u w) i e = absurd (Option·none-ne-some _ e)

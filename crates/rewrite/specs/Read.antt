@@ -33,7 +33,7 @@ comparisonIn LtEq = truth.LtEq
 comparisonIn Gt = truth.Gt
 comparisonIn GtEq = truth.GtEq
 
--- Of an operator only this matters: one of the six comparisons, another that checking lets through, or arithmetic.
+-- Of an operator only this matters: one of the six comparisons, another that checking lets through, or arithmetic that it refuses.
 abbrev pub operationOf : Operator → Operation
 operationOf operator.Eq = operation.Compare Eq
 operationOf operator.EqValidity = operation.Other
@@ -48,8 +48,8 @@ operationOf operator.Minus = operation.Missing
 operationOf operator.Multiply = operation.Missing
 operationOf operator.RustDivide = operation.Missing
 operationOf operator.TrueDivide = operation.Missing
-operationOf operator.FloorDivide = operation.Missing
-operationOf operator.Modulus = operation.Missing
+operationOf operator.FloorDivide = operation.Other
+operationOf operator.Modulus = operation.Other
 operationOf operator.And = operation.Other
 operationOf operator.Or = operation.Other
 operationOf operator.Xor = operation.Other

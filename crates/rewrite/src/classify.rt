@@ -37,7 +37,7 @@ pub enum Comparison {
     GtEq,
 }
 
-/// What matters of an operator. Arithmetic is left out by checking.
+/// What matters of an operator. `Missing` is arithmetic that checking refuses.
 pub enum Operation {
     Compare(Comparison),
     Other,
@@ -100,8 +100,8 @@ fn operation_of(o: Operator) -> Operation
         Operator::Multiply => Operation::Missing,
         Operator::RustDivide => Operation::Missing,
         Operator::TrueDivide => Operation::Missing,
-        Operator::FloorDivide => Operation::Missing,
-        Operator::Modulus => Operation::Missing,
+        Operator::FloorDivide => Operation::Other,
+        Operator::Modulus => Operation::Other,
         Operator::And => Operation::Other,
         Operator::Or => Operation::Other,
         Operator::Xor => Operation::Other,

@@ -40,14 +40,15 @@ pub record BytesKept (rs out : List ℕ) (first end : ℕ) : Type 0 where
 -- root of a rewritten screen is one of the records added, so the screen sent still stands under its old root.
 -- Rewriting the screen returned, unless that is refused, answers unchanged.
 pub record RewritePromise (t rs p : List ℕ) (used root answer : ℕ) (out : List ℕ) (newRoot newUsed : ℕ) : Type 0 where
-  pub rows : 256 ≤ answer → (row : Row) → IsRow t row
+  pub rows : 256 ≤ answer → (row : Row) → IsRow t (aexprAt rs p used) root row
       → passes out p (returned answer used newUsed) (returned answer root newRoot) row ≡ passes rs p used root row
-  pub counts : 256 ≤ answer → (chain : List Row) → IsChain t chain
+  pub counts : 256 ≤ answer → (chain : List Row) → IsChain t (aexprAt rs p used) root chain
       → rowsPassing out p (returned answer used newUsed) (returned answer root newRoot) chain
       ≡ rowsPassing rs p used root chain
-  pub nothing : answer ≡ 257 → (chain : List Row) → IsChain t chain → rowsPassing rs p used root chain ≡ 0
+  pub nothing : answer ≡ 257 → (chain : List Row) → IsChain t (aexprAt rs p used) root chain
+      → rowsPassing rs p used root chain ≡ 0
   pub exactly : 256 ≤ answer → plainScreen t (aexprAt rs p used) root ≡ true
-      → (answer ≡ 257) ↔ ((row : Row) → IsRow t row → passes rs p used root row ≡ true → ⊥)
+      → (answer ≡ 257) ↔ ((row : Row) → IsRow t (aexprAt rs p used) root row → passes rs p used root row ≡ true → ⊥)
   pub usable : 256 ≤ answer → Usable t out p (returned answer used newUsed) (returned answer root newRoot)
   pub tests : 256 ≤ answer
       → SameTests t rs p used root out (returned answer used newUsed) (returned answer root newRoot)

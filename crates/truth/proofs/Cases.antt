@@ -83,6 +83,17 @@ member equal holds count x nulls =
     (int 1 ++ int 2) 3 2
     x nulls
 
+-- column 0 divided by column 1, by FloorDivide or Modulus, equals column 2
+abbrev lots : ℕ → List ℕ → List ℕ → List ℕ → ℕ → RowAnswer
+lots o x y z nulls =
+    testRowAnswer (1 ∷ 1 ∷ 1 ∷ [])
+    (entry 1 0 0 0 0 0 ++ (entry 1 0 0 1 0 0 ++ (entry 1 0 0 2 0 0 ++ (entry 4 o 0 0 1 0 ++ entry 4 0 0 3 2 0)))) [] 5 4
+    (x ++ (y ++ z)) nulls
+
+-- -2^63
+abbrev lowest : List ℕ
+lowest = 0 ∷ 0 ∷ 0 ∷ 0 ∷ 0 ∷ 0 ∷ 0 ∷ 128 ∷ []
+
 -- a record alone, beside a Truth column
 abbrev alone : List ℕ → ℕ → RowAnswer
 alone r nulls = testRowAnswer (3 ∷ []) r [] 1 0 (int 0) nulls
@@ -225,6 +236,24 @@ cases =
     ∷ is (negated 4 (int 5) (int 5) 0) (Tested True)
     ∷ is (negated 4 (int 0) (int 5) 1) (Tested Unknown)
     ∷ is (negated 1 (int 0) (int 0) 3) (Tested False)
+    -- 7 and -7 by 2 and -2: the quotient is rounded down, the remainder has the divisor's sign
+    ∷ is (lots 13 (int 7) (int 2) (int 3) 0) (Tested True)
+    ∷ is (lots 13 (minus 7) (int 2) (minus 4) 0) (Tested True)
+    ∷ is (lots 13 (int 7) (minus 2) (minus 4) 0) (Tested True)
+    ∷ is (lots 13 (minus 7) (minus 2) (int 3) 0) (Tested True)
+    ∷ is (lots 14 (int 7) (int 2) (int 1) 0) (Tested True)
+    ∷ is (lots 14 (minus 7) (int 2) (int 1) 0) (Tested True)
+    ∷ is (lots 14 (int 7) (minus 2) (minus 1) 0) (Tested True)
+    ∷ is (lots 14 (minus 7) (minus 2) (minus 1) 0) (Tested True)
+    -- null for a zero divisor, a null, and a quotient of 2^63
+    ∷ is (lots 13 (int 7) (int 0) (int 0) 0) (Tested Unknown)
+    ∷ is (lots 14 (int 7) (int 0) (int 7) 0) (Tested Unknown)
+    ∷ is (lots 13 (int 0) (int 2) (int 0) 1) (Tested Unknown)
+    ∷ is (lots 14 (int 7) (int 0) (int 7) 2) (Tested Unknown)
+    ∷ is (lots 13 lowest (minus 1) lowest 0) (Tested Unknown)
+    ∷ is (lots 14 lowest (minus 1) (int 0) 0) (Tested Unknown)
+    ∷ is (lots 13 lowest (int 1) lowest 0) (Tested True)
+    ∷ is (lots 14 lowest (int 10) (int 2) 0) (Tested True)
     -- a literal, a null and a column as the root
     ∷ is (alone (entry 2 0 3 0 1 0) 0) (Tested True)
     ∷ is (alone (entry 2 0 3 0 0 0) 0) (Tested False)

@@ -2,7 +2,7 @@
 -- as variables with their equations. f is what was read of record n.
 -- Assumes nothing.
 use mathlib.Core.Path.{_≡_, refl, sym, _∙_, ap, subst}
-use mathlib.Core.Bool.{Bool, true, false, cond, not}
+use mathlib.Core.Bool.{Bool, true, false, cond, not, true≢false}
 use mathlib.Core.List.{List, [], _∷_}
 use mathlib.Core.Logic.{_⊎_, inl, inr, ⊎-elim}
 use mathlib.Core.Option.{Option, none, some}
@@ -11,8 +11,8 @@ use native.Mathlib.Omega.{arith}
 use lib.Dec.{eqb}
 use lib.IntN.{ℤ}
 use lib.ListN.{length}
-use borrow.Author.Tests.{ne-eqb, lt-leb}
-use Rattle.records.specs.Operator.{operatorAt}
+use borrow.Author.Tests.{ne-eqb, lt-leb, eqb-true}
+use Rattle.records.specs.Operator.{operatorAt, isDivision}
 use Rattle.records.specs.Record.{fieldsAt, decode, recordAt, closedAt, node, columnNumber}
 use Rattle.records.specs.declared.operator.Operator.{Operator}
 use Rattle.records.specs.declared.operator.Operator.the-variants as operator
@@ -27,7 +27,7 @@ use Rattle.truth.specs.AExpr.{AExpr, BinaryExpr, Not, IsNull, IsNotNull,
 use Rattle.truth.specs.Cell.{Cell, step, cellAt}
 use Rattle.truth.specs.FromBytes.{binaryExpr, closesLow, closesHigh, valuesFrom, toAExpr, aexprOf, rowKeys}
 use Rattle.truth.specs.FromBytes.{truthKeys, truthIn, valueIn}
-use Rattle.truth.specs.Evaluate.{comparisonAt, comparedOf, connectedOf, lowCode, highCode, betweenOf}
+use Rattle.truth.specs.Evaluate.{comparisonAt, comparedOf, dividedOf, connectedOf, lowCode, highCode, betweenOf}
 use Rattle.truth.specs.Evaluate.{memberOf, leafOf, nullTest, ofTruth, toTruth, Served, ColumnThere, Fit}
 use Rattle.truth.specs.Evaluate.{Evaluable}
 use Rattle.truth.proofs.Cells.{cell-law}
@@ -50,6 +50,12 @@ each-at P (suc n) m e h =
     ⊎-elim (λ (k : m < n). each-at P n m (e .0) k)
     (λ (k : n ≤ m). let q : n ≡ m = omega arith in subst P q (e .1)) (lt-or-le m n)
 
+-- 13 and 14
+each-two : (P : ℕ → Type 0) (m : ℕ) → P 13 → P 14 → 12 < m → m < 15 → P m
+each-two P m x y h k =
+    ⊎-elim (λ (l : m < 14). let q : 13 ≡ m = omega arith in subst P q x)
+    (λ (l : 14 ≤ m). let q : 14 ≡ m = omega arith in subst P q y) (lt-or-le m 14)
+
 -- the same from 15 on
 each-from : (P : ℕ → Type 0) (m : ℕ) → Each (λ i. P (15 + i)) 5 → 14 < m → m < 20 → P m
 each-from P m e h k =
@@ -67,6 +73,22 @@ module _ (row : ℕ → Option ℤ) (C : ℕ → Cell ℤ ℕ) (a b : ℕ) where
       each-at (λ k. stepOf (binaryExpr (operatorAt k) a b) .truth ≡ comparedOf k (C a .value) (C b .value)) 8 code
       ((((((((tt, refl), refl), refl), refl), refl), refl), refl), refl) h
 
+  divided-step :
+      (code : ℕ) → 12 < code → code < 15 →
+      stepOf (binaryExpr (operatorAt code) a b) .value ≡ dividedOf code (C a .value) (C b .value)
+  unfolding operatorAt dividedOf
+  divided-step code h k =
+      each-two (λ k. stepOf (binaryExpr (operatorAt k) a b) .value ≡ dividedOf k (C a .value) (C b .value)) code
+      refl refl h k
+
+  divided-truth-step :
+      (code : ℕ) → 12 < code → code < 15 →
+      stepOf (binaryExpr (operatorAt code) a b) .truth ≡ toTruth (dividedOf code (C a .value) (C b .value))
+  unfolding operatorAt dividedOf
+  divided-truth-step code h k =
+      each-two (λ k. stepOf (binaryExpr (operatorAt k) a b) .truth ≡ toTruth (dividedOf k (C a .value) (C b .value)))
+      code refl refl h k
+
   connected-step :
       (code : ℕ) → 14 < code → code < 20 →
       stepOf (binaryExpr (operatorAt code) a b) .truth ≡ connectedOf code (C a .truth) (C b .truth)
@@ -75,28 +97,29 @@ module _ (row : ℕ → Option ℤ) (C : ℕ → Cell ℤ ℕ) (a b : ℕ) where
       each-from (λ k. stepOf (binaryExpr (operatorAt k) a b) .truth ≡ connectedOf k (C a .truth) (C b .truth)) code
       (((((tt, refl), refl), refl), refl), refl) h k
 
-  -- a truth as a value
-  binary-value : (o : Operator) → stepOf (binaryExpr o a b) .value ≡ ofTruth (stepOf (binaryExpr o a b) .truth)
-  binary-value operator.Eq = refl
-  binary-value operator.EqValidity = refl
-  binary-value operator.NotEq = refl
-  binary-value operator.NotEqValidity = refl
-  binary-value operator.Lt = refl
-  binary-value operator.LtEq = refl
-  binary-value operator.Gt = refl
-  binary-value operator.GtEq = refl
-  binary-value operator.Plus = refl
-  binary-value operator.Minus = refl
-  binary-value operator.Multiply = refl
-  binary-value operator.RustDivide = refl
-  binary-value operator.TrueDivide = refl
-  binary-value operator.FloorDivide = refl
-  binary-value operator.Modulus = refl
-  binary-value operator.And = refl
-  binary-value operator.Or = refl
-  binary-value operator.Xor = refl
-  binary-value operator.LogicalAnd = refl
-  binary-value operator.LogicalOr = refl
+  -- a truth as a value: every operator but the divisions
+  binary-value : (o : Operator) → isDivision o ≡ false → stepOf (binaryExpr o a b) .value ≡ ofTruth
+      (stepOf (binaryExpr o a b) .truth)
+  binary-value operator.Eq h = refl
+  binary-value operator.EqValidity h = refl
+  binary-value operator.NotEq h = refl
+  binary-value operator.NotEqValidity h = refl
+  binary-value operator.Lt h = refl
+  binary-value operator.LtEq h = refl
+  binary-value operator.Gt h = refl
+  binary-value operator.GtEq h = refl
+  binary-value operator.Plus h = refl
+  binary-value operator.Minus h = refl
+  binary-value operator.Multiply h = refl
+  binary-value operator.RustDivide h = refl
+  binary-value operator.TrueDivide h = refl
+  binary-value operator.FloorDivide h = absurd (true≢false h)
+  binary-value operator.Modulus h = absurd (true≢false h)
+  binary-value operator.And h = refl
+  binary-value operator.Or h = refl
+  binary-value operator.Xor h = refl
+  binary-value operator.LogicalAnd h = refl
+  binary-value operator.LogicalOr h = refl
 
 binary-inputs :
     (n code a b : ℕ) → Served code → Inputs n (binaryExpr (operatorAt code) a b) → (a < n) × (b < n)
@@ -105,14 +128,27 @@ binary-inputs n code a b s =
     ⊎-elim
     (λ (h : code < 8). each-at (λ k. Inputs n (binaryExpr (operatorAt k) a b) → (a < n) × (b < n)) 8 code
     ((((((((tt, λ i. i), λ i. i), λ i. i), λ i. i), λ i. i), λ i. i), λ i. i), λ i. i) h)
-    (λ (h : (14 < code) × (code < 20)).
-    each-from (λ k. Inputs n (binaryExpr (operatorAt k) a b) → (a < n) × (b < n)) code
-    (((((tt, λ i. i), λ i. i), λ i. i), λ i. i), λ i. i) (h .0) (h .1))
+    (λ (h : (12 < code) × (code < 20)).
+    ⊎-elim
+    (λ (k : code < 15). each-two (λ k. Inputs n (binaryExpr (operatorAt k) a b) → (a < n) × (b < n)) code (λ i. i)
+    (λ i. i) (h .0) k)
+    (λ (k : 15 ≤ code). each-from (λ k. Inputs n (binaryExpr (operatorAt k) a b) → (a < n) × (b < n)) code
+    (((((tt, λ i. i), λ i. i), λ i. i), λ i. i), λ i. i) (omega arith) (h .1))
+    (lt-or-le code 15))
     s
 
--- A served operator that does not compare is one of logic.
-logic-code : (code : ℕ) → Served code → 8 ≤ code → (14 < code) × (code < 20)
-logic-code code s h = ⊎-elim (λ (k : code < 8). absurd (omega arith)) (λ (k : (14 < code) × (code < 20)). k) s
+-- A served operator that does not compare divides or is one of logic.
+above-code : (code : ℕ) → Served code → 8 ≤ code → (12 < code) × (code < 20)
+above-code code s h = ⊎-elim (λ (k : code < 8). absurd (omega arith)) (λ (k : (12 < code) × (code < 20)). k) s
+
+no-division : (code : ℕ) → Served code → (code < 8) ⊎ (15 ≤ code) → isDivision (operatorAt code) ≡ false
+unfolding operatorAt
+no-division code s =
+    ⊎-elim
+    (λ (h : code < 8). each-at (λ k. isDivision (operatorAt k) ≡ false) 8 code
+    ((((((((tt, refl), refl), refl), refl), refl), refl), refl), refl) h)
+    (λ (h : 15 ≤ code). each-from (λ k. isDivision (operatorAt k) ≡ false) code
+    (((((tt, refl), refl), refl), refl), refl) (omega arith) (above-code code s (omega arith) .1))
 
 -- is_between's code and its two comparisons
 between-step :
@@ -219,14 +255,16 @@ module _ (p : List ℕ) (row : ℕ → Option ℤ) (C : ℕ → Cell ℤ ℕ) (f
       go false false true = refl
       go false false false = refl
 
-  truth-value-step : 3 < f .kind → cellOf (decode f) .value ≡ ofTruth (cellOf (decode f) .truth)
+  truth-value-step : 3 < f .kind → (f .kind ≡ 4 → isDivision (operatorAt (f .code)) ≡ false) →
+      cellOf (decode f) .value ≡ ofTruth (cellOf (decode f) .truth)
   unfolding decode
-  truth-value-step h =
+  truth-value-step h v =
       let n1 : (f .kind ≡ 1 → ⊥) = λ e. omega arith in
       let n2 : (f .kind ≡ 2 → ⊥) = λ e. omega arith in
       let n3 : (f .kind ≡ 3 → ⊥) = λ e. omega arith in
       rw (ne-eqb _ _ n1, ne-eqb _ _ n2, ne-eqb _ _ n3)
-      (pick (eqb (f .kind) 4) _ _ (binary-value row C (f .a) (f .b) (operatorAt (f .code)))
+      (pick-four (eqb (f .kind) 4) refl _ _
+      (λ k. binary-value row C (f .a) (f .b) (operatorAt (f .code)) (v (eqb-true (f .kind) 4 k)))
       (pick (eqb (f .kind) 5) _ _ refl (pick (eqb (f .kind) 6) _ _ refl (pick (eqb (f .kind) 7) _ _ refl
       (pick (eqb (f .kind) 8) _ _ refl (pick (eqb (f .kind) 9) _ _ refl (pick (eqb (f .kind) 10) _ _ refl refl)))))))
     where
@@ -235,6 +273,13 @@ module _ (p : List ℕ) (row : ℕ → Option ℤ) (C : ℕ → Cell ℤ ℕ) (f
           cellOf (cond b x y) .value ≡ ofTruth (cellOf (cond b x y) .truth)
       pick true x y ex ey = ex
       pick false x y ex ey = ey
+
+      pick-four : (b : Bool) → eqb (f .kind) 4 ≡ b → (x y : Record) →
+          (eqb (f .kind) 4 ≡ true → cellOf x .value ≡ ofTruth (cellOf x .truth)) →
+          cellOf y .value ≡ ofTruth (cellOf y .truth) →
+          cellOf (cond b x y) .value ≡ ofTruth (cellOf (cond b x y) .truth)
+      pick-four true e x y ex ey = ex e
+      pick-four false e x y ex ey = ey
 
 -- ---- record n of the bytes, with what was read of it
 module _ (rs p row : List ℕ) (nulls : ℕ) (n : Node) (f : Fields) (ok : Evaluable rs p row (n .0))
@@ -298,15 +343,33 @@ module _ (rs p row : List ℕ) (nulls : ℕ) (n : Node) (f : Fields) (ok : Evalu
       er ∙ rw (ex, ey)
       (sym (truth-of-step _ (binary-is p f k) ∙ compared-step (rowKeys row nulls) cells (f .a) (f .b) (f .code) h))
 
+  pub divided-value :
+      f .kind ≡ 4 → 8 ≤ f .code → f .code < 15 → (x y r : Option ℤ) →
+      x ≡ valueIn R (rowKeys row nulls) (f .a) → y ≡ valueIn R (rowKeys row nulls) (f .b) → r ≡ dividedOf (f .code) x y →
+      r ≡ valueIn R (rowKeys row nulls) (n .0)
+  divided-value k h l x y r ex ey er =
+      er ∙ rw (ex, ey)
+      (sym (ap (λ c. c .value) (cell-of _ (binary-is p f k))
+      ∙ divided-step (rowKeys row nulls) cells (f .a) (f .b) (f .code) (above-code (f .code) (fit-of .operator k) h .0) l))
+
+  pub divided-truth :
+      f .kind ≡ 4 → 8 ≤ f .code → f .code < 15 → (x y z : Option ℤ) (r : Truth) →
+      x ≡ valueIn R (rowKeys row nulls) (f .a) → y ≡ valueIn R (rowKeys row nulls) (f .b) → z ≡ dividedOf (f .code) x y →
+      r ≡ toTruth z → r ≡ truthIn R (rowKeys row nulls) (n .0)
+  divided-truth k h l x y z r ex ey ez er =
+      er ∙ rw (ez, ex, ey)
+      (sym (truth-of-step _ (binary-is p f k)
+      ∙ divided-truth-step (rowKeys row nulls) cells (f .a) (f .b) (f .code)
+      (above-code (f .code) (fit-of .operator k) h .0) l))
+
   pub connected-truth :
-      f .kind ≡ 4 → 8 ≤ f .code → (x y r : Truth) →
+      f .kind ≡ 4 → 15 ≤ f .code → (x y r : Truth) →
       x ≡ truthIn R (rowKeys row nulls) (f .a) → y ≡ truthIn R (rowKeys row nulls) (f .b) → r ≡ connectedOf (f .code) x y →
       r ≡ truthIn R (rowKeys row nulls) (n .0)
   connected-truth k h x y r ex ey er =
-      let l = logic-code (f .code) (fit-of .operator k) h in
       er ∙ rw (ex, ey)
-      (sym (truth-of-step _ (binary-is p f k) ∙ connected-step (rowKeys row nulls) cells (f .a) (f .b) (f .code) (l .0)
-      (l .1)))
+      (sym (truth-of-step _ (binary-is p f k) ∙ connected-step (rowKeys row nulls) cells (f .a) (f .b) (f .code)
+      (omega arith) (above-code (f .code) (fit-of .operator k) (omega arith) .1)))
 
   pub not-truth :
       f .kind ≡ 5 → (t r : Truth) → t ≡ truthIn R (rowKeys row nulls) (f .a) → r ≡ not3 t → r ≡ truthIn R
@@ -345,13 +408,24 @@ module _ (rs p row : List ℕ) (nulls : ℕ) (n : Node) (f : Fields) (ok : Evalu
       (n .0)
   leaf-is-value h x ex = ex ∙ sym (ap (λ c. c .value) (cell-of _ refl) ∙ leaf-value-step p (rowKeys row nulls) cells f h)
 
-  pub truth-is-value :
-      3 < f .kind → (t : Truth) (x : Option ℤ) → t ≡ truthIn R (rowKeys row nulls) (n .0) → x ≡ ofTruth t →
-      x ≡ valueIn R (rowKeys row nulls) (n .0)
-  truth-is-value h t x et ex =
+  truth-value :
+      3 < f .kind → (f .kind ≡ 4 → isDivision (operatorAt (f .code)) ≡ false) → (t : Truth) (x : Option ℤ) →
+      t ≡ truthIn R (rowKeys row nulls) (n .0) → x ≡ ofTruth t → x ≡ valueIn R (rowKeys row nulls) (n .0)
+  truth-value h v t x et ex =
       ex ∙ ap ofTruth et
       ∙ subst (λ c. ofTruth (c .truth) ≡ c .value) (sym (cell-of _ refl))
-      (sym (truth-value-step p (rowKeys row nulls) cells f h))
+      (sym (truth-value-step p (rowKeys row nulls) cells f h v))
+
+  pub truth-is-value :
+      3 < f .kind → (f .kind ≡ 4 → ⊥) → (t : Truth) (x : Option ℤ) → t ≡ truthIn R (rowKeys row nulls) (n .0) →
+      x ≡ ofTruth t → x ≡ valueIn R (rowKeys row nulls) (n .0)
+  truth-is-value h d = truth-value h (λ k. absurd (d k))
+
+  -- comparisons and logic
+  pub binary-is-value :
+      f .kind ≡ 4 → (f .code < 8) ⊎ (15 ≤ f .code) → (t : Truth) (x : Option ℤ) →
+      t ≡ truthIn R (rowKeys row nulls) (n .0) → x ≡ ofTruth t → x ≡ valueIn R (rowKeys row nulls) (n .0)
+  binary-is-value k h = truth-value (omega arith) (λ q. no-division (f .code) (fit-of .operator k) h)
 
 -- is_in: the cell of the list is its values.
 pub member-truth :

@@ -7,6 +7,7 @@ pub mod Negations
 pub mod Agree
 pub mod Memberships
 pub mod Lists
+pub mod Quotients
 pub mod Evaluation
 pub mod Ready
 pub mod Marks

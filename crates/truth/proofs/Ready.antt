@@ -42,8 +42,8 @@ binary-aexpr n operator.Minus x y h = tt
 binary-aexpr n operator.Multiply x y h = tt
 binary-aexpr n operator.RustDivide x y h = tt
 binary-aexpr n operator.TrueDivide x y h = tt
-binary-aexpr n operator.FloorDivide x y h = tt
-binary-aexpr n operator.Modulus x y h = tt
+binary-aexpr n operator.FloorDivide x y h = h
+binary-aexpr n operator.Modulus x y h = h
 binary-aexpr n operator.And x y h = h
 binary-aexpr n operator.Or x y h = h
 binary-aexpr n operator.Xor x y h = h
@@ -127,9 +127,9 @@ served-each = (
                 ),
                 λ e. absurd (true≢false (sym e)),
               ),
-              λ e. absurd (true≢false (sym e)),
+              λ e. inr (omega arith, omega arith),
             ),
-            λ e. absurd (true≢false (sym e)),
+            λ e. inr (omega arith, omega arith),
           ),
           λ e. inr (omega arith, omega arith),
         ),

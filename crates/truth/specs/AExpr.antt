@@ -6,7 +6,7 @@ use Rattle.truth.specs.Comparison.{Comparison}
 
 pub data BinaryOp : Type 0 where
   Compare : Comparison → BinaryOp
-  EqValidity NotEqValidity And Or Xor LogicalAnd LogicalOr : BinaryOp
+  EqValidity NotEqValidity FloorDivide Modulus And Or Xor LogicalAnd LogicalOr : BinaryOp
 
 pub data AExpr (Val : Type 0) : Type 0 where
   -- a column number

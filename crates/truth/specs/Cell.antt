@@ -1,6 +1,6 @@
 -- The row test: what a row makes of each record. A row gives each column null (none) or a key.
 -- Read `step`: one clause a kind of record. Each record has one cell with two faces: its truth, and its value for those
--- that compare it; a truth that is unknown is null as a value.
+-- that compare it; a truth that is unknown is null as a value. A division is a value.
 use mathlib.Core.Bool.{Bool, true, false, not}
 use mathlib.Core.List.{List, []}
 use mathlib.Core.Option.{Option, none, some}
@@ -13,15 +13,19 @@ use Rattle.truth.specs.Comparison.{Comparison, Lt, LtEq, Gt, GtEq, compa
 use Rattle.truth.specs.Logic.{and3, or3, xor3, not3, ofBool}
 use Rattle.truth.specs.AExpr.{AExpr, Column, Literal, Null, BinaryExpr, Not, IsNull, IsNotNull, IsBetween}
 use Rattle.truth.specs.AExpr.{ListLiteral, IsIn, Missing}
-use Rattle.truth.specs.AExpr.{BinaryOp, Compare, EqValidity, NotEqValidity, And, Or, Xor, LogicalAnd, LogicalOr}
+use Rattle.truth.specs.AExpr.{BinaryOp, Compare, EqValidity, NotEqValidity, FloorDivide, Modulus, And, Or, Xor}
+use Rattle.truth.specs.AExpr.{LogicalAnd, LogicalOr}
 use Rattle.truth.specs.Membership.{in3}
 
--- The keys of the two values of type Truth.
+-- What the row test needs of keys beside their order: those of the two values of type Truth, false below true, and the
+-- two divisions, none where there is no quotient.
 pub record TruthKeys {K : Type 0} (O : Order K) : Type 0 where
   pub falseKey : K
   pub trueKey : K
   -- false is below true
   pub below : O .less falseKey trueKey
+  pub floorDivide : K → K → Option K
+  pub modulus : K → K → Option K
 
 -- What a record offers to those above it: its truth, its value, and, of a list, whether it holds a null and its values.
 pub record Cell (K Val : Type 0) : Type 0 where
@@ -75,15 +79,11 @@ module _ {K Val : Type 0} (key : Val → K) (O : Order K) (tk : TruthKeys O) whe
   between3 lowClosed highClosed x low high =
       and3 (compare3 (lowComparison lowClosed) x low) (compare3 (highComparison highClosed) x high)
 
-  abbrev pub binary3 : BinaryOp → Cell K Val → Cell K Val → Truth
-  binary3 (Compare c) x y = compare3 c (x .value) (y .value)
-  binary3 EqValidity x y = ofBool (sameValue (x .value) (y .value))
-  binary3 NotEqValidity x y = ofBool (not (sameValue (x .value) (y .value)))
-  binary3 And x y = and3 (x .truth) (y .truth)
-  binary3 Or x y = or3 (x .truth) (y .truth)
-  binary3 Xor x y = xor3 (x .truth) (y .truth)
-  binary3 LogicalAnd x y = and3 (x .truth) (y .truth)
-  binary3 LogicalOr x y = or3 (x .truth) (y .truth)
+  -- A null on either side gives null.
+  abbrev pub divided : (K → K → Option K) → Option K → Option K → Option K
+  divided f none y = none
+  divided f (some a) none = none
+  divided f (some a) (some b) = f a b
 
   abbrev pub truthCell : Truth → Cell K Val
   truthCell t = record { truth = t; value = valueOfTruth t; holdsNull = false; values = [] }
@@ -91,12 +91,24 @@ module _ {K Val : Type 0} (key : Val → K) (O : Order K) (tk : TruthKeys O) whe
   abbrev pub valueCell : Option K → Cell K Val
   valueCell x = record { truth = truthOfValue x; value = x; holdsNull = false; values = [] }
 
+  abbrev pub binaryCell : BinaryOp → Cell K Val → Cell K Val → Cell K Val
+  binaryCell (Compare c) x y = truthCell (compare3 c (x .value) (y .value))
+  binaryCell EqValidity x y = truthCell (ofBool (sameValue (x .value) (y .value)))
+  binaryCell NotEqValidity x y = truthCell (ofBool (not (sameValue (x .value) (y .value))))
+  binaryCell FloorDivide x y = valueCell (divided (tk .floorDivide) (x .value) (y .value))
+  binaryCell Modulus x y = valueCell (divided (tk .modulus) (x .value) (y .value))
+  binaryCell And x y = truthCell (and3 (x .truth) (y .truth))
+  binaryCell Or x y = truthCell (or3 (x .truth) (y .truth))
+  binaryCell Xor x y = truthCell (xor3 (x .truth) (y .truth))
+  binaryCell LogicalAnd x y = truthCell (and3 (x .truth) (y .truth))
+  binaryCell LogicalOr x y = truthCell (or3 (x .truth) (y .truth))
+
   -- The cell of a record, where C has the cells of its inputs.
   abbrev pub step : (ℕ → Option K) → (ℕ → Cell K Val) → AExpr Val → Cell K Val
   step row C (Column c) = valueCell (row c)
   step row C (Literal v) = valueCell (some (key v))
   step row C Null = valueCell none
-  step row C (BinaryExpr op left right) = truthCell (binary3 op (C left) (C right))
+  step row C (BinaryExpr op left right) = binaryCell op (C left) (C right)
   step row C (Not a) = truthCell (not3 (C a .truth))
   step row C (IsNull a) = truthCell (ofBool (isNull (C a .value)))
   step row C (IsNotNull a) = truthCell (ofBool (not (isNull (C a .value))))

@@ -12,16 +12,18 @@ use lib.ListN.{length}
 use Rattle.records.specs.Record.{fieldsAt, node}
 use Rattle.records.specs.declared.record.Node.{Node}
 use Rattle.records.specs.declared.record.Fields.{Fields}
+use Rattle.division.specs.declared.divide.Division.{Division}
+use Rattle.division.specs.declared.divide.Division.the-variants as quotient
 use Rattle.truth.specs.declared.scalar.Scalar.{Scalar}
 use Rattle.truth.specs.declared.logic.Truth.{Truth}
 use Rattle.truth.specs.declared.value.Value.{Value}
 use Rattle.truth.specs.declared.value.Value.the-variants as value
-use Rattle.truth.specs.Halves.{ordZ, key}
+use Rattle.truth.specs.Halves.{ordZ, key, floorDivideKeys, modulusKeys}
 use Rattle.truth.specs.Comparison.{Comparison, Eq, NotEq, Lt, LtEq, Gt, GtEq}
 use Rattle.truth.specs.Logic.{and3, or3, xor3, ofBool}
 use Rattle.truth.specs.AExpr.{Inputs}
 use Rattle.truth.specs.Membership.{mem, in3}
-use Rattle.truth.specs.Cell.{isNull, valueOfTruth, truthOfValue, compare3, sameValue}
+use Rattle.truth.specs.Cell.{isNull, valueOfTruth, truthOfValue, compare3, sameValue, divided}
 use Rattle.truth.specs.FromBytes.{aexprOf, rowKeys, truthKeys, truthIn, valueIn, valuesFrom}
 
 -- A value of the code as null or a key.
@@ -63,6 +65,15 @@ comparedOf code x y =
     cond (eqb code 1) (ofBool (same x y))
     (cond (eqb code 3) (ofBool (not (same x y))) (comparing (comparisonAt code) x y))
 
+-- What FloorDivide and Modulus take of a division.
+abbrev pub partOf : ℕ → Division → Option ℤ
+partOf code quotient.Null = none
+partOf code (quotient.Exact q r) = some (key (cond (eqb code 13) q r))
+
+-- FloorDivide and Modulus, codes 13 and 14.
+unfoldable pub dividedOf : ℕ → Option ℤ → Option ℤ → Option ℤ
+dividedOf code x y = divided key ordZ truthKeys (cond (eqb code 13) floorDivideKeys modulusKeys) x y
+
 -- The operators of logic, codes 15 to 19.
 unfoldable pub connectedOf : ℕ → Truth → Truth → Truth
 connectedOf code a b =
@@ -100,11 +111,11 @@ rowValue rs p row nulls n = valueIn (aexprOf rs p) (rowKeys row nulls) n
 abbrev pub ColumnThere : List ℕ → ℕ → Type 0
 ColumnThere row c = (c < 64) × (8 * c + 8 ≤ length row)
 
--- Operators that a checked screen has: comparisons, and those of logic.
+-- Operators that a checked screen has: comparisons, divisions, and those of logic.
 abbrev pub Served : ℕ → Type 0
-Served code = (code < 8) ⊎ ((14 < code) × (code < 20))
+Served code = (code < 8) ⊎ ((12 < code) × (code < 20))
 
--- What checking has shown of record m with the fields f: its inputs are below it, its operator is no arithmetic, its
+-- What checking has shown of record m with the fields f: its inputs are below it, its operator is served, its
 -- column is in the row, its list lies in the pool, and what is_in searches is a list.
 pub record Fit (rs p row : List ℕ) (m : ℕ) (f : Fields) : Type 0 where
   pub inputs : Inputs m (aexprOf rs p m)

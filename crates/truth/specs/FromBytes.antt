@@ -16,14 +16,15 @@ use Rattle.records.specs.declared.record.ClosedInterval.the-variants as closed
 use Rattle.records.specs.declared.record.Record.{Record}
 use Rattle.records.specs.declared.record.Record.the-variants as kind
 use Rattle.truth.specs.declared.logic.Truth.{Truth}
-use Rattle.truth.specs.Halves.{ordZ, key}
+use Rattle.truth.specs.Halves.{ordZ, key, floorDivideKeys, modulusKeys}
 use Rattle.truth.specs.Comparison.{Comparison, Eq, NotEq, Lt, LtEq, Gt, GtEq}
 use Rattle.truth.specs.AExpr.{AExpr, Column, Literal, Null, BinaryExpr, Not, IsNull, IsNotNull, IsBetween}
 use Rattle.truth.specs.AExpr.{ListLiteral, IsIn, Missing}
-use Rattle.truth.specs.AExpr.{BinaryOp, Compare, EqValidity, NotEqValidity, And, Or, Xor, LogicalAnd, LogicalOr}
+use Rattle.truth.specs.AExpr.{BinaryOp, Compare, EqValidity, NotEqValidity, FloorDivide, Modulus, And, Or, Xor}
+use Rattle.truth.specs.AExpr.{LogicalAnd, LogicalOr}
 use Rattle.truth.specs.Cell.{TruthKeys, cellAt, truthAt}
 
--- Arithmetic, which checking refuses, is no expression here.
+-- Arithmetic but the two divisions, which checking refuses, is no expression here.
 abbrev pub binaryExpr : Operator → ℕ → ℕ → AExpr ℕ
 binaryExpr operator.Eq x y = BinaryExpr (Compare Eq) x y
 binaryExpr operator.EqValidity x y = BinaryExpr EqValidity x y
@@ -38,8 +39,8 @@ binaryExpr operator.Minus x y = Missing
 binaryExpr operator.Multiply x y = Missing
 binaryExpr operator.RustDivide x y = Missing
 binaryExpr operator.TrueDivide x y = Missing
-binaryExpr operator.FloorDivide x y = Missing
-binaryExpr operator.Modulus x y = Missing
+binaryExpr operator.FloorDivide x y = BinaryExpr FloorDivide x y
+binaryExpr operator.Modulus x y = BinaryExpr Modulus x y
 binaryExpr operator.And x y = BinaryExpr And x y
 binaryExpr operator.Or x y = BinaryExpr Or x y
 binaryExpr operator.Xor x y = BinaryExpr Xor x y
@@ -96,7 +97,14 @@ rowKeys row nulls c = cond (nullMarked nulls c) none (some (key (bytes.valueAt r
 
 -- A Truth is 0 or 1.
 abbrev pub truthKeys : TruthKeys ordZ
-truthKeys = record { falseKey = key 0; trueKey = key 1; below = omega arith }
+truthKeys =
+    record {
+      falseKey = key 0;
+      trueKey = key 1;
+      below = omega arith;
+      floorDivide = floorDivideKeys;
+      modulus = modulusKeys;
+    }
 
 -- What a row of keys makes of record n, of expressions whose values are 64 bits.
 abbrev pub truthIn : (ℕ → AExpr ℕ) → (ℕ → Option ℤ) → ℕ → Truth

@@ -1,12 +1,14 @@
 -- Whole and half numbers: ℤ counted in halves. The whole number v has the key 2 · v, and an odd number lies half way
 -- between two neighbouring whole ones.
 use mathlib.Core.Bool.{cond}
+use mathlib.Core.Option.{Option, none, some}
 use Prim.Native.Nat as nat
 use Prim.Native.Nat.{ℕ, suc, _+_, _-_, _<_, compare}
 use lib.Dec.{ltb}
 use lib.IntN.{ℤ, pos, negsuc}
 use mir.Syntax.{w64}
 use mir.Val.{toZ}
+use Rattle.division.specs.Division.{quotient, remainder, isNone}
 use Rattle.truth.specs.declared.scalar.Ordering.{Ordering}
 use Rattle.truth.specs.declared.scalar.Ordering.the-variants.{Less, Equal, Greater}
 use Rattle.truth.specs.Order.{Order}
@@ -40,6 +42,14 @@ twice (negsuc n) = negsuc (suc (n + n))
 -- The key of a value given as 64 bits in two's complement.
 abbrev pub key : ℕ → ℤ
 key bits = twice (toZ w64 bits)
+
+-- Division of two numbers given in halves: they have the quotient of their halves, a whole number, and the remainder
+-- counts halves. None for a zero divisor and for a quotient beyond 64 bits.
+abbrev pub floorDivideKeys : ℤ → ℤ → Option ℤ
+floorDivideKeys a b = cond (isNone a b) none (some (twice (quotient a b)))
+
+abbrev pub modulusKeys : ℤ → ℤ → Option ℤ
+modulusKeys a b = cond (isNone a b) none (some (remainder a b))
 
 -- 64 bits moved so that their order is the order of their keys.
 unfoldable pub biasOf : ℕ → ℕ

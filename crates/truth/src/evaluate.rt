@@ -1,4 +1,5 @@
-// The two evaluators, which call each other: a comparison asks for the values of its inputs, logic for their truths.
+// The two evaluators, which call each other: comparisons and divisions ask for the values of their inputs, logic for
+// their truths.
 // Inputs are below their record, so the record number falls from each record to its inputs. Nothing is checked here.
 ghost use mathlib.Core.Path.{_≡_};
 ghost use Rattle.truth.specs.Evaluate.{keyed, rowTruth, rowValue, Evaluable};
@@ -11,6 +12,7 @@ use crate::value::Value;
 use crate::value::between;
 use crate::value::compared;
 use crate::value::connected;
+use crate::value::divided;
 use crate::value::is_null;
 use crate::value::truth_of_value;
 use crate::value::value_of_truth;
@@ -30,6 +32,11 @@ pub fn truth_at(records: &[u8], pool: &[u8], row: &[u8], nulls: u64, n: Node) ->
                 let x = value_at(records, pool, row, nulls, Node(f.a));
                 let y = value_at(records, pool, row, nulls, Node(f.b));
                 return compared(f.code, x, y);
+            }
+            if f.code < 15 {
+                let x = value_at(records, pool, row, nulls, Node(f.a));
+                let y = value_at(records, pool, row, nulls, Node(f.b));
+                return truth_of_value(divided(f.code, x, y));
             }
             let s = truth_at(records, pool, row, nulls, Node(f.a));
             let t = truth_at(records, pool, row, nulls, Node(f.b));
@@ -68,6 +75,11 @@ pub fn value_at(records: &[u8], pool: &[u8], row: &[u8], nulls: u64, n: Node) ->
                 let x = value_at(records, pool, row, nulls, Node(f.a));
                 let y = value_at(records, pool, row, nulls, Node(f.b));
                 return value_of_truth(compared(f.code, x, y));
+            }
+            if f.code < 15 {
+                let x = value_at(records, pool, row, nulls, Node(f.a));
+                let y = value_at(records, pool, row, nulls, Node(f.b));
+                return divided(f.code, x, y);
             }
             let s = truth_at(records, pool, row, nulls, Node(f.a));
             let t = truth_at(records, pool, row, nulls, Node(f.b));

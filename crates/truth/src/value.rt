@@ -1,10 +1,13 @@
 // Values, null among them, and what comparing them says.
 ghost use mathlib.Core.Path.{_≡_};
 ghost use mathlib.Core.Bool.{not};
+ghost use mathlib.Core.Option.{some};
+ghost use Rattle.truth.specs.Halves.{key};
 ghost use Rattle.truth.specs.Order.{isLess, isEqual, isGreater};
 ghost use Rattle.truth.specs.Comparison.{comparisonHolds};
 ghost use Rattle.truth.specs.Evaluate.{keyed, comparing, same, nullTest, ofTruth, toTruth};
-ghost use Rattle.truth.specs.Evaluate.{comparisonAt, comparedOf, connectedOf, lowCode, highCode, betweenOf};
+ghost use Rattle.truth.specs.Evaluate.{comparisonAt, comparedOf, partOf, dividedOf, connectedOf, lowCode, highCode};
+ghost use Rattle.truth.specs.Evaluate.{betweenOf};
 use crate::logic::Truth;
 use crate::logic::and_of;
 use crate::logic::or_of;
@@ -13,6 +16,8 @@ use crate::logic::xor_of;
 use crate::scalar::Ordering;
 use crate::scalar::Scalar;
 use crate::scalar::scalar_cmp;
+use division::divide::Division;
+use division::divide::divide;
 
 pub enum Value {
     Null,
@@ -103,6 +108,40 @@ pub fn compared(code: u8, x: Value, y: Value) -> Truth
         return truth_of_bool(!same_values(x, y));
     }
     compare_values(code, x, y)
+}
+
+// Of one division FloorDivide, code 13, takes the quotient, Modulus the remainder.
+fn part_of(code: u8, d: Division) -> Value
+    ensures { λ r. ⌜ keyed r ≡ partOf code d ⌝ }
+{
+    match d {
+        Division::Null => Value::Null,
+        Division::Exact(quotient, remainder) => {
+            if code == 13 {
+                return Value::Known(Scalar(quotient));
+            }
+            Value::Known(Scalar(remainder))
+        }
+    }
+}
+
+fn divide_known(code: u8, a: Scalar, b: Scalar) -> Value
+    ensures { λ r. ⌜ keyed r ≡ dividedOf code (some (key (a .0))) (some (key (b .0))) ⌝ }
+{
+    part_of(code, divide(a.0, b.0))
+}
+
+// The operators of codes 13 and 14. A null on either side gives null.
+pub fn divided(code: u8, x: Value, y: Value) -> Value
+    ensures { λ r. ⌜ keyed r ≡ dividedOf code (keyed x) (keyed y) ⌝ }
+{
+    match x {
+        Value::Null => Value::Null,
+        Value::Known(a) => match y {
+            Value::Null => Value::Null,
+            Value::Known(b) => divide_known(code, a, b),
+        },
+    }
 }
 
 // The operators of codes 15 to 19.

@@ -10,6 +10,7 @@ use Rattle.checking.proofs.step.binary_step.Statement.{statement}
 use Rattle.checking.proofs.step.binary_step.Tie as tie
 use Rattle.checking.proofs.step.binary_step.Reads as reads
 use Rattle.checking.proofs.step.binary_step.Lts as lts
+use Rattle.checking.proofs.step.binary_entry.Reads as binary-entry-reads
 use Rattle.checking.proofs.step.pair_fits.Reads as pair-fits-reads
 use Rattle.checking.proofs.step.passed.Reads as passed-reads
 use Rattle.checking.proofs.step.refused.Reads as refused-reads
@@ -97,6 +98,10 @@ returns-5 c =
       flag-no ((c .before .before .pair-fits) .ensures) ((c .before .if5) .taken),
     )
 
+-- src/step.rt:135:12
+binary-entry-requires : tie.Need-binary-entry-requires
+binary-entry-requires c κs = search needs
+
 -- src/step.rt:121:25
 mul-wide : tie.Need-mul-wide
 mul-wide c = search needs
@@ -104,7 +109,7 @@ mul-wide c = search needs
 -- src/step.rt:121:25
 shared-slice-read-wide : tie.Need-shared-slice-read-wide
 shared-slice-read-wide c =
-    omega (arith, (c .before .before .before .before .before .before .before .before .before .before .before .before .before .if2) .left, (c .before .before .before .before .before .before .before .before .before .before .if3) .left, (c .before .before .before .before .before .before .before .before .before .before .before .before .before .before .before .before .before .before .before .before .before .before) .pre .0, (c .before .before .before .before .before .before .before .before .before .before .before .before .before .before .before .before .before .before .before .before .before .before) .pre .1)
+    omega (arith, (c .before .before .before .before .before .before .before .before .before .before .before .before .before .before .if2) .left, (c .before .before .before .before .before .before .before .before .before .before .before .if3) .left, (c .before .before .before .before .before .before .before .before .before .before .before .before .before .before .before .before .before .before .before .before .before .before .before) .pre .0, (c .before .before .before .before .before .before .before .before .before .before .before .before .before .before .before .before .before .before .before .before .before .before .before) .pre .1)
 
 -- src/step.rt:121:20
 wide-requires : tie.Need-wide-requires
@@ -117,7 +122,7 @@ mul-wide-2 c = search needs
 -- src/step.rt:121:42
 shared-slice-read-wide-2 : tie.Need-shared-slice-read-wide-2
 shared-slice-read-wide-2 c =
-    omega (arith, (c .before .before .before .before .before .before .before .before .before .before .before .before .before .before .before .if2) .left, (c .before .before .before .before .before .before .before .before .before .before .before .before .if3) .left, (c .before .before .before .before .before .before .before .before .before .before .before .before .before .before .before .before .before .before .before .before .before .before .before .before) .pre .0, (c .before .before .before .before .before .before .before .before .before .before .before .before .before .before .before .before .before .before .before .before .before .before .before .before) .pre .1)
+    omega (arith, (c .before .before .before .before .before .before .before .before .before .before .before .before .before .before .before .before .if2) .left, (c .before .before .before .before .before .before .before .before .before .before .before .before .before .if3) .left, (c .before .before .before .before .before .before .before .before .before .before .before .before .before .before .before .before .before .before .before .before .before .before .before .before .before) .pre .0, (c .before .before .before .before .before .before .before .before .before .before .before .before .before .before .before .before .before .before .before .before .before .before .before .before .before) .pre .1)
 
 -- src/step.rt:121:37
 wide-requires-2 : tie.Need-wide-requires-2
@@ -141,11 +146,12 @@ unfolding binaryStep
 returns-6 c =
     rw (
       (c .passed) .ensures,
-      not-false (binaryShape ((c .before .before .before .before .before .before .before .before .before .before .before .before .before .before .before .before .before .before .before .before .before .before .before .before .before .before) .args .f)) ((c .before .before .before .before .before .before .before .before .before .before .before .before .before .before .before .before .before .before .before .before .if1) .left),
-      lt-ltb _ _ ((c .before .before .before .before .before .before .before .before .before .before .before .before .before .before .before .before .before .if2) .left),
-      lt-ltb _ _ ((c .before .before .before .before .before .before .before .before .before .before .before .before .before .before .if3) .left),
-      (c .before .before .before .before .before .before .before .before .before .before .before .if4) .left,
-      flag-yes ((c .before .before .before .before .before .before .pair-fits) .ensures) ((c .before .before .before .before .before .if5) .left),
+      not-false (binaryShape ((c .before .before .before .before .before .before .before .before .before .before .before .before .before .before .before .before .before .before .before .before .before .before .before .before .before .before .before) .args .f)) ((c .before .before .before .before .before .before .before .before .before .before .before .before .before .before .before .before .before .before .before .before .before .if1) .left),
+      lt-ltb _ _ ((c .before .before .before .before .before .before .before .before .before .before .before .before .before .before .before .before .before .before .if2) .left),
+      lt-ltb _ _ ((c .before .before .before .before .before .before .before .before .before .before .before .before .before .before .before .if3) .left),
+      (c .before .before .before .before .before .before .before .before .before .before .before .before .if4) .left,
+      flag-yes ((c .before .before .before .before .before .before .before .pair-fits) .ensures) ((c .before .before .before .before .before .before .if5) .left),
+      (c .before .before .before .before .before .binary-entry) .ensures,
       (c .before .before .before .wide) .ensures .0,
       (c .before .wide2) .ensures .0,
     )
@@ -169,6 +175,7 @@ binary-step-spec =
     pair-fits-requires
     refused-requires-5
     returns-5
+    binary-entry-requires
     mul-wide
     shared-slice-read-wide
     wide-requires

@@ -15,5 +15,10 @@ returns-2 : tie.Need-returns-2
 unfolding pairFits
 returns-2 c = search flags
 
+-- src/step.rt:90:1
+returns-3 : tie.Need-returns-3
+unfolding pairFits
+returns-3 c = search flags
+
 pub pair-fits-spec : {M : Type 1} → statement M
-pair-fits-spec = tie.close (tie.spec returns returns-2)
+pair-fits-spec = tie.close (tie.spec returns returns-2 returns-3)

@@ -2,12 +2,13 @@
 -- Assumes nothing.
 use Prim.Native.Nat.{ℕ, _+_, _*_, _<_}
 use native.Mathlib.Omega.{arith}
+use mathlib.Core.Logic.{inl, inr}
 use borrow.Author.Needs.{needs}
 use Rattle.truth.proofs.Evaluation.{evaluable-below, fit-of, list-room, member-truth}
 use Rattle.truth.proofs.Evaluation.{binary-below, not-below, null-below, not-null-below, between-below, in-below}
 use Rattle.truth.proofs.Evaluation.{compared-truth, connected-truth, not-truth, null-truth, not-null-truth}
 use Rattle.truth.proofs.Evaluation.{between-truth, leaf-truth}
-use Rattle.truth.proofs.Evaluation.{leaf-is-value, truth-is-value}
+use Rattle.truth.proofs.Evaluation.{leaf-is-value, truth-is-value, binary-is-value, divided-value, divided-truth}
 use borrow.Fn.Kinds.{In}
 use borrow.Fn.PlainCycle.{Measures, is, falls, and}
 use Rattle.truth.proofs.evaluate.truth_at.Reads as truth-at
@@ -24,6 +25,7 @@ use Rattle.truth.proofs.read.leaf_value.Reads as leaf-value-reads
 use Rattle.truth.proofs.value.between.Reads as between-reads
 use Rattle.truth.proofs.value.compared.Reads as compared-reads
 use Rattle.truth.proofs.value.connected.Reads as connected-reads
+use Rattle.truth.proofs.value.divided.Reads as divided-reads
 use Rattle.truth.proofs.value.is_null.Reads as is-null-reads
 use Rattle.truth.proofs.value.truth_of_value.Reads as truth-of-value-reads
 use Rattle.truth.proofs.value.value_of_truth.Reads as value-of-truth-reads
@@ -59,6 +61,10 @@ truth-at-calls t = (
   value-at.Post,
   compared-reads.Asked,
   compared-reads.Learnt,
+  divided-reads.Asked,
+  divided-reads.Learnt,
+  truth-of-value-reads.Asked,
+  truth-of-value-reads.Learnt,
   truth-at-below t,
   truth-at.Post,
   connected-reads.Asked,
@@ -75,8 +81,6 @@ truth-at-calls t = (
   member-reads.Learnt,
   leaf-value-reads.Asked,
   leaf-value-reads.Learnt,
-  truth-of-value-reads.Asked,
-  truth-of-value-reads.Learnt,
 )
 
 abbrev value-at-calls : ℕ → value-at-lts.Claims
@@ -91,6 +95,8 @@ value-at-calls t = (
   compared-reads.Learnt,
   value-of-truth-reads.Asked,
   value-of-truth-reads.Learnt,
+  divided-reads.Asked,
+  divided-reads.Learnt,
   truth-at-below t,
   truth-at.Post,
   connected-reads.Asked,
@@ -109,14 +115,12 @@ value-at-calls t = (
   truth-of-value-reads.Learnt,
 )
 
--- src/evaluate.rt:26:9
 truth-at-fields-in-requires : (t : ℕ) → truth-at-lts.Need-fields-in-requires (truth-at-calls t) (truth-at-at t)
     truth-at.Post
 truth-at-fields-in-requires t c κs =
     let st = c .before .before .before in
     let r = st .pre .1 .room in search needs
 
--- src/evaluate.rt:31:21
 truth-at-value-at-requires : (t : ℕ) → truth-at-lts.Need-value-at-requires (truth-at-calls t) (truth-at-at t)
     truth-at.Post
 truth-at-value-at-requires t c κs =
@@ -126,7 +130,6 @@ truth-at-value-at-requires t c κs =
     (c .before .before .before .fields-in .ensures) (c .before .before .match .keys1) .0 in
     (omega arith, evaluable-below _ h (st .pre .1))
 
--- src/evaluate.rt:32:21
 truth-at-value-at-requires-2 : (t : ℕ) → truth-at-lts.Need-value-at-requires-2 (truth-at-calls t) (truth-at-at t)
     truth-at.Post
 truth-at-value-at-requires-2 t c κs =
@@ -137,12 +140,10 @@ truth-at-value-at-requires-2 t c κs =
     .1 in
     (omega arith, evaluable-below _ h (st .pre .1))
 
--- src/evaluate.rt:33:17
 truth-at-compared-requires : (t : ℕ) → truth-at-lts.Need-compared-requires (truth-at-calls t) (truth-at-at t)
     truth-at.Post
 truth-at-compared-requires t c κs = search needs
 
--- src/evaluate.rt:33:17
 truth-at-returns : (t : ℕ) → truth-at-lts.Need-returns (truth-at-calls t) (truth-at-at t) truth-at.Post
 truth-at-returns t c =
     let st = c .before .before .before .before .before .before .before .before .before .before in
@@ -151,33 +152,62 @@ truth-at-returns t c =
     (c .before .before .before .before .before .match .keys1) (c .before .before .before .if1 .taken) _ _ _
     (c .before .before .value-at .ensures) (c .before .value-at2 .ensures) (c .compared .ensures)
 
--- src/evaluate.rt:35:17
-truth-at-truth-at-requires : (t : ℕ) → truth-at-lts.Need-truth-at-requires (truth-at-calls t) (truth-at-at t)
+truth-at-value-at-requires-3 : (t : ℕ) → truth-at-lts.Need-value-at-requires-3 (truth-at-calls t) (truth-at-at t)
     truth-at.Post
-truth-at-truth-at-requires t c κs =
-    let st = c .before .before .before .before .before .before .before in
-    let h : c .before .before .before .fields-in .result .a < st .args .n .0 = binary-below (st .args .records .now)
+truth-at-value-at-requires-3 t c κs =
+    let st = c .before .before .before .before .before .before .before .before .before in
+    let h : c .before .before .before .before .before .fields-in .result .a < st .args .n .0 = binary-below (st .args .records .now)
     (st .args .pool .now) (st .args .row .now) (st .args .nulls) (st .args .n) _ (st .pre .1)
-    (c .before .before .before .fields-in .ensures) (c .before .before .match .keys1) .0 in
+    (c .before .before .before .before .before .fields-in .ensures) (c .before .before .before .before .match .keys1) .0 in
     (omega arith, evaluable-below _ h (st .pre .1))
 
--- src/evaluate.rt:36:17
-truth-at-truth-at-requires-2 : (t : ℕ) → truth-at-lts.Need-truth-at-requires-2 (truth-at-calls t) (truth-at-at t)
+truth-at-value-at-requires-4 : (t : ℕ) → truth-at-lts.Need-value-at-requires-4 (truth-at-calls t) (truth-at-at t)
     truth-at.Post
-truth-at-truth-at-requires-2 t c κs =
-    let st = c .before .before .before .before .before .before .before .before in
-    let h : c .before .before .before .before .fields-in .result .b < st .args .n .0 = binary-below
+truth-at-value-at-requires-4 t c κs =
+    let st = c .before .before .before .before .before .before .before .before .before .before in
+    let h : c .before .before .before .before .before .before .fields-in .result .b < st .args .n .0 = binary-below
     (st .args .records .now) (st .args .pool .now) (st .args .row .now) (st .args .nulls) (st .args .n) _
-    (st .pre .1) (c .before .before .before .before .fields-in .ensures) (c .before .before .before .match .keys1)
+    (st .pre .1) (c .before .before .before .before .before .before .fields-in .ensures) (c .before .before .before .before .before .match .keys1)
     .1 in
     (omega arith, evaluable-below _ h (st .pre .1))
 
--- src/evaluate.rt:37:13
+truth-at-divided-requires : (t : ℕ) → truth-at-lts.Need-divided-requires (truth-at-calls t) (truth-at-at t) truth-at.Post
+truth-at-divided-requires t c κs = search needs
+
+truth-at-truth-of-value-requires : (t : ℕ) → truth-at-lts.Need-truth-of-value-requires (truth-at-calls t) (truth-at-at t)
+    truth-at.Post
+truth-at-truth-of-value-requires t c κs = search needs
+
+truth-at-returns-2 : (t : ℕ) → truth-at-lts.Need-returns-2 (truth-at-calls t) (truth-at-at t) truth-at.Post
+truth-at-returns-2 t c =
+    let st = c .before .before .before .before .before .before .before .before .before .before .before .before .before in
+    divided-truth (st .args .records .now) (st .args .pool .now) (st .args .row .now) (st .args .nulls) (st .args .n) _ (st .pre .1) (c .before .before .before .before .before .before .before .before .before .fields-in .ensures)
+    (c .before .before .before .before .before .before .before .before .match .keys1) (c .before .before .before .before .before .before .if1 .left) (c .before .before .before .before .if2 .taken) _ _ _ _
+    (c .before .before .before .value-at3 .ensures) (c .before .before .value-at4 .ensures) (c .before .divided .ensures) (c .truth-of-value .ensures)
+
+truth-at-truth-at-requires : (t : ℕ) → truth-at-lts.Need-truth-at-requires (truth-at-calls t) (truth-at-at t)
+    truth-at.Post
+truth-at-truth-at-requires t c κs =
+    let st = c .before .before .before .before .before .before .before .before .before in
+    let h : c .before .before .before .before .before .fields-in .result .a < st .args .n .0 = binary-below (st .args .records .now)
+    (st .args .pool .now) (st .args .row .now) (st .args .nulls) (st .args .n) _ (st .pre .1)
+    (c .before .before .before .before .before .fields-in .ensures) (c .before .before .before .before .match .keys1) .0 in
+    (omega arith, evaluable-below _ h (st .pre .1))
+
+truth-at-truth-at-requires-2 : (t : ℕ) → truth-at-lts.Need-truth-at-requires-2 (truth-at-calls t) (truth-at-at t)
+    truth-at.Post
+truth-at-truth-at-requires-2 t c κs =
+    let st = c .before .before .before .before .before .before .before .before .before .before in
+    let h : c .before .before .before .before .before .before .fields-in .result .b < st .args .n .0 = binary-below
+    (st .args .records .now) (st .args .pool .now) (st .args .row .now) (st .args .nulls) (st .args .n) _
+    (st .pre .1) (c .before .before .before .before .before .before .fields-in .ensures) (c .before .before .before .before .before .match .keys1)
+    .1 in
+    (omega arith, evaluable-below _ h (st .pre .1))
+
 truth-at-connected-requires : (t : ℕ) → truth-at-lts.Need-connected-requires (truth-at-calls t) (truth-at-at t)
     truth-at.Post
 truth-at-connected-requires t c κs = search needs
 
--- src/evaluate.rt:39:21
 truth-at-truth-at-requires-3 : (t : ℕ) → truth-at-lts.Need-truth-at-requires-3 (truth-at-calls t) (truth-at-at t)
     truth-at.Post
 truth-at-truth-at-requires-3 t c κs =
@@ -187,96 +217,83 @@ truth-at-truth-at-requires-3 t c κs =
     (c .before .fields-in .ensures) (c .match .keys2) in
     (omega arith, evaluable-below _ h (st .pre .1))
 
--- src/evaluate.rt:39:14
 truth-at-not-of-requires : (t : ℕ) → truth-at-lts.Need-not-of-requires (truth-at-calls t) (truth-at-at t) truth-at.Post
 truth-at-not-of-requires t c κs = search needs
 
--- src/evaluate.rt:40:36
-truth-at-value-at-requires-3 : (t : ℕ) → truth-at-lts.Need-value-at-requires-3 (truth-at-calls t) (truth-at-at t)
+truth-at-value-at-requires-5 : (t : ℕ) → truth-at-lts.Need-value-at-requires-5 (truth-at-calls t) (truth-at-at t)
     truth-at.Post
-truth-at-value-at-requires-3 t c κs =
+truth-at-value-at-requires-5 t c κs =
     let st = c .before .before .before .before .before in
     let h : c .before .fields-in .result .a < st .args .n .0 = null-below (st .args .records .now)
     (st .args .pool .now) (st .args .row .now) (st .args .nulls) (st .args .n) _ (st .pre .1)
     (c .before .fields-in .ensures) (c .match .keys3) in
     (omega arith, evaluable-below _ h (st .pre .1))
 
--- src/evaluate.rt:40:28
 truth-at-is-null-requires : (t : ℕ) → truth-at-lts.Need-is-null-requires (truth-at-calls t) (truth-at-at t)
     truth-at.Post
 truth-at-is-null-requires t c κs = search needs
 
--- src/evaluate.rt:40:14
 truth-at-truth-of-bool-requires : (t : ℕ) → truth-at-lts.Need-truth-of-bool-requires (truth-at-calls t)
     (truth-at-at t) truth-at.Post
 truth-at-truth-of-bool-requires t c κs = search needs
 
--- src/evaluate.rt:41:37
-truth-at-value-at-requires-4 : (t : ℕ) → truth-at-lts.Need-value-at-requires-4 (truth-at-calls t) (truth-at-at t)
+truth-at-value-at-requires-6 : (t : ℕ) → truth-at-lts.Need-value-at-requires-6 (truth-at-calls t) (truth-at-at t)
     truth-at.Post
-truth-at-value-at-requires-4 t c κs =
+truth-at-value-at-requires-6 t c κs =
     let st = c .before .before .before .before .before in
     let h : c .before .fields-in .result .a < st .args .n .0 = not-null-below (st .args .records .now)
     (st .args .pool .now) (st .args .row .now) (st .args .nulls) (st .args .n) _ (st .pre .1)
     (c .before .fields-in .ensures) (c .match .keys4) in
     (omega arith, evaluable-below _ h (st .pre .1))
 
--- src/evaluate.rt:41:29
 truth-at-is-null-requires-2 : (t : ℕ) → truth-at-lts.Need-is-null-requires-2 (truth-at-calls t) (truth-at-at t)
     truth-at.Post
 truth-at-is-null-requires-2 t c κs = search needs
 
--- src/evaluate.rt:41:14
 truth-at-truth-of-bool-requires-2 : (t : ℕ) → truth-at-lts.Need-truth-of-bool-requires-2 (truth-at-calls t)
     (truth-at-at t) truth-at.Post
 truth-at-truth-of-bool-requires-2 t c κs = search needs
 
--- src/evaluate.rt:43:17
-truth-at-value-at-requires-5 : (t : ℕ) → truth-at-lts.Need-value-at-requires-5 (truth-at-calls t) (truth-at-at t)
+truth-at-value-at-requires-7 : (t : ℕ) → truth-at-lts.Need-value-at-requires-7 (truth-at-calls t) (truth-at-at t)
     truth-at.Post
-truth-at-value-at-requires-5 t c κs =
+truth-at-value-at-requires-7 t c κs =
     let st = c .before .before .before .before .before in
     let h : c .before .fields-in .result .a < st .args .n .0 = between-below (st .args .records .now)
     (st .args .pool .now) (st .args .row .now) (st .args .nulls) (st .args .n) _ (st .pre .1)
     (c .before .fields-in .ensures) (c .match .keys5) .0 in
     (omega arith, evaluable-below _ h (st .pre .1))
 
--- src/evaluate.rt:44:17
-truth-at-value-at-requires-6 : (t : ℕ) → truth-at-lts.Need-value-at-requires-6 (truth-at-calls t) (truth-at-at t)
+truth-at-value-at-requires-8 : (t : ℕ) → truth-at-lts.Need-value-at-requires-8 (truth-at-calls t) (truth-at-at t)
     truth-at.Post
-truth-at-value-at-requires-6 t c κs =
+truth-at-value-at-requires-8 t c κs =
     let st = c .before .before .before .before .before .before in
     let h : c .before .before .fields-in .result .b < st .args .n .0 = between-below (st .args .records .now)
     (st .args .pool .now) (st .args .row .now) (st .args .nulls) (st .args .n) _ (st .pre .1)
     (c .before .before .fields-in .ensures) (c .before .match .keys5) .1 in
     (omega arith, evaluable-below _ h (st .pre .1))
 
--- src/evaluate.rt:45:17
-truth-at-value-at-requires-7 : (t : ℕ) → truth-at-lts.Need-value-at-requires-7 (truth-at-calls t) (truth-at-at t)
+truth-at-value-at-requires-9 : (t : ℕ) → truth-at-lts.Need-value-at-requires-9 (truth-at-calls t) (truth-at-at t)
     truth-at.Post
-truth-at-value-at-requires-7 t c κs =
+truth-at-value-at-requires-9 t c κs =
     let st = c .before .before .before .before .before .before .before in
     let h : c .before .before .before .fields-in .result .c < st .args .n .0 = between-below (st .args .records .now)
     (st .args .pool .now) (st .args .row .now) (st .args .nulls) (st .args .n) _ (st .pre .1)
     (c .before .before .before .fields-in .ensures) (c .before .before .match .keys5) .2 in
     (omega arith, evaluable-below _ h (st .pre .1))
 
--- src/evaluate.rt:46:13
 truth-at-between-requires : (t : ℕ) → truth-at-lts.Need-between-requires (truth-at-calls t) (truth-at-at t)
     truth-at.Post
 truth-at-between-requires t c κs = search needs
 
--- src/evaluate.rt:49:17
-truth-at-value-at-requires-8 : (t : ℕ) → truth-at-lts.Need-value-at-requires-8 (truth-at-calls t) (truth-at-at t)
+truth-at-value-at-requires-10 : (t : ℕ) → truth-at-lts.Need-value-at-requires-10 (truth-at-calls t) (truth-at-at t)
     truth-at.Post
-truth-at-value-at-requires-8 t c κs =
+truth-at-value-at-requires-10 t c κs =
     let st = c .before .before .before .before .before in
     let h : c .before .fields-in .result .a < st .args .n .0 = in-below (st .args .records .now) (st .args .pool .now)
     (st .args .row .now) (st .args .nulls) (st .args .n) _ (st .pre .1) (c .before .fields-in .ensures)
     (c .match .keys6) .0 in
     (omega arith, evaluable-below _ h (st .pre .1))
 
--- src/evaluate.rt:50:26
 truth-at-fields-in-requires-2 : (t : ℕ) → truth-at-lts.Need-fields-in-requires-2 (truth-at-calls t) (truth-at-at t)
     truth-at.Post
 truth-at-fields-in-requires-2 t c κs =
@@ -286,7 +303,6 @@ truth-at-fields-in-requires-2 t c κs =
     (c .before .before .fields-in .ensures) (c .before .match .keys6) .1 in
     let r = st .pre .1 .room in omega arith
 
--- src/evaluate.rt:50:13
 truth-at-member-requires : (t : ℕ) → truth-at-lts.Need-member-requires (truth-at-calls t) (truth-at-at t) truth-at.Post
 truth-at-member-requires t c κs =
     let st = c .before .before .before .before .before .before .before .before in
@@ -294,7 +310,6 @@ truth-at-member-requires t c κs =
     (st .pre .1) (c .before .before .before .before .fields-in .ensures) (c .before .before .before .match .keys6) _
     (c .before .fields-in2 .ensures)
 
--- src/evaluate.rt:52:29
 truth-at-leaf-value-requires : (t : ℕ) → truth-at-lts.Need-leaf-value-requires (truth-at-calls t) (truth-at-at t)
     truth-at.Post
 truth-at-leaf-value-requires t c κs =
@@ -302,74 +317,66 @@ truth-at-leaf-value-requires t c κs =
     fit-of (st .args .records .now) (st .args .pool .now) (st .args .row .now) (st .args .nulls) (st .args .n) _
     (st .pre .1) (c .before .fields-in .ensures) .column
 
--- src/evaluate.rt:52:14
-truth-at-truth-of-value-requires : (t : ℕ) → truth-at-lts.Need-truth-of-value-requires (truth-at-calls t)
+truth-at-truth-of-value-requires-2 : (t : ℕ) → truth-at-lts.Need-truth-of-value-requires-2 (truth-at-calls t)
     (truth-at-at t) truth-at.Post
-truth-at-truth-of-value-requires t c κs = search needs
+truth-at-truth-of-value-requires-2 t c κs = search needs
 
--- src/evaluate.rt:22:1
-truth-at-returns-2 : (t : ℕ) → truth-at-lts.Need-returns-2 (truth-at-calls t) (truth-at-at t) truth-at.Post
-truth-at-returns-2 t c =
-    let st = c .before .before .before .before .before .before .before .before .before .before in
-    connected-truth (st .args .records .now) (st .args .pool .now) (st .args .row .now) (st .args .nulls)
-    (st .args .n) _ (st .pre .1) (c .before .before .before .before .before .before .fields-in .ensures)
-    (c .before .before .before .before .before .match .keys1) (c .before .before .before .if1 .left) _ _ _
-    (c .before .before .truth-at .ensures) (c .before .truth-at2 .ensures) (c .connected .ensures)
-
--- src/evaluate.rt:22:1
 truth-at-returns-3 : (t : ℕ) → truth-at-lts.Need-returns-3 (truth-at-calls t) (truth-at-at t) truth-at.Post
 truth-at-returns-3 t c =
+    let st = c .before .before .before .before .before .before .before .before .before .before .before .before in
+    connected-truth (st .args .records .now) (st .args .pool .now) (st .args .row .now) (st .args .nulls)
+    (st .args .n) _ (st .pre .1) (c .before .before .before .before .before .before .before .before .fields-in .ensures)
+    (c .before .before .before .before .before .before .before .match .keys1) (c .before .before .before .if2 .left) _ _ _
+    (c .before .before .truth-at .ensures) (c .before .truth-at2 .ensures) (c .connected .ensures)
+
+truth-at-returns-4 : (t : ℕ) → truth-at-lts.Need-returns-4 (truth-at-calls t) (truth-at-at t) truth-at.Post
+truth-at-returns-4 t c =
     let st = c .before .before .before .before .before .before .before in
     not-truth (st .args .records .now) (st .args .pool .now) (st .args .row .now) (st .args .nulls) (st .args .n) _
     (st .pre .1) (c .before .before .before .fields-in .ensures) (c .before .before .match .keys2) _ _
     (c .before .truth-at3 .ensures) (c .not-of .ensures)
 
--- src/evaluate.rt:22:1
-truth-at-returns-4 : (t : ℕ) → truth-at-lts.Need-returns-4 (truth-at-calls t) (truth-at-at t) truth-at.Post
-truth-at-returns-4 t c =
+truth-at-returns-5 : (t : ℕ) → truth-at-lts.Need-returns-5 (truth-at-calls t) (truth-at-at t) truth-at.Post
+truth-at-returns-5 t c =
     let st = c .before .before .before .before .before .before .before .before in
     null-truth (st .args .records .now) (st .args .pool .now) (st .args .row .now) (st .args .nulls) (st .args .n) _
     (st .pre .1) (c .before .before .before .before .fields-in .ensures) (c .before .before .before .match .keys3) _
     _ _
-    (c .before .before .value-at3 .ensures) (c .before .is-null .ensures) (c .truth-of-bool .ensures)
+    (c .before .before .value-at5 .ensures) (c .before .is-null .ensures) (c .truth-of-bool .ensures)
 
--- src/evaluate.rt:22:1
-truth-at-returns-5 : (t : ℕ) → truth-at-lts.Need-returns-5 (truth-at-calls t) (truth-at-at t) truth-at.Post
-truth-at-returns-5 t c =
+truth-at-returns-6 : (t : ℕ) → truth-at-lts.Need-returns-6 (truth-at-calls t) (truth-at-at t) truth-at.Post
+truth-at-returns-6 t c =
     let st = c .before .before .before .before .before .before .before .before in
     not-null-truth (st .args .records .now) (st .args .pool .now) (st .args .row .now) (st .args .nulls) (st .args .n)
     _ (st .pre .1) (c .before .before .before .before .fields-in .ensures) (c .before .before .before .match .keys4)
     _ _ _
-    (c .before .before .value-at4 .ensures) (c .before .is-null2 .ensures) (c .truth-of-bool2 .ensures)
+    (c .before .before .value-at6 .ensures) (c .before .is-null2 .ensures) (c .truth-of-bool2 .ensures)
 
--- src/evaluate.rt:22:1
-truth-at-returns-6 : (t : ℕ) → truth-at-lts.Need-returns-6 (truth-at-calls t) (truth-at-at t) truth-at.Post
-truth-at-returns-6 t c =
+truth-at-returns-7 : (t : ℕ) → truth-at-lts.Need-returns-7 (truth-at-calls t) (truth-at-at t) truth-at.Post
+truth-at-returns-7 t c =
     let st = c .before .before .before .before .before .before .before .before .before in
     between-truth (st .args .records .now) (st .args .pool .now) (st .args .row .now) (st .args .nulls) (st .args .n)
     _ (st .pre .1) (c .before .before .before .before .before .fields-in .ensures)
     (c .before .before .before .before .match .keys5) _ _ _ _
-    (c .before .before .before .value-at5 .ensures) (c .before .before .value-at6 .ensures)
-    (c .before .value-at7 .ensures) (c .between .ensures)
+    (c .before .before .before .value-at7 .ensures) (c .before .before .value-at8 .ensures)
+    (c .before .value-at9 .ensures) (c .between .ensures)
 
--- src/evaluate.rt:22:1
-truth-at-returns-7 : (t : ℕ) → truth-at-lts.Need-returns-7 (truth-at-calls t) (truth-at-at t) truth-at.Post
-truth-at-returns-7 t c =
+truth-at-returns-8 : (t : ℕ) → truth-at-lts.Need-returns-8 (truth-at-calls t) (truth-at-at t) truth-at.Post
+truth-at-returns-8 t c =
     let st = c .before .before .before .before .before .before .before .before .before in
     member-truth (st .args .records .now) (st .args .pool .now) (st .args .row .now) (st .args .nulls) (st .args .n) _
     (st .pre .1) (c .before .before .before .before .before .fields-in .ensures)
     (c .before .before .before .before .match .keys6) _ (c .before .before .fields-in2 .ensures) _ _
-    (c .before .before .before .value-at8 .ensures) (c .member .ensures)
+    (c .before .before .before .value-at10 .ensures) (c .member .ensures)
 
--- src/evaluate.rt:22:1
-truth-at-returns-8 : (t : ℕ) → truth-at-lts.Need-returns-8 (truth-at-calls t) (truth-at-at t) truth-at.Post
-truth-at-returns-8 t c =
+truth-at-returns-9 : (t : ℕ) → truth-at-lts.Need-returns-9 (truth-at-calls t) (truth-at-at t) truth-at.Post
+truth-at-returns-9 t c =
     let st = c .before .before .before .before .before .before .before in
     let k = c .before .before .match .rest in
     leaf-truth (st .args .records .now) (st .args .pool .now) (st .args .row .now) (st .args .nulls) (st .args .n) _
     (st .pre .1) (c .before .before .before .fields-in .ensures)
     (k .0 .0 .0 .0 .0 .1) (k .0 .0 .0 .0 .1) (k .0 .0 .0 .1) (k .0 .0 .1) (k .0 .1) (k .1) _ _
-    (c .before .leaf-value .ensures) (c .truth-of-value .ensures)
+    (c .before .leaf-value .ensures) (c .truth-of-value2 .ensures)
 
 value-at-fields-in-requires : (t : ℕ) → value-at-lts.Need-fields-in-requires (value-at-calls t) (value-at-at t) value-at.Post
 value-at-fields-in-requires t c κs = let st = c .before .before .before in let r = st .pre .1 .room in search needs
@@ -395,15 +402,31 @@ value-at-value-of-truth-requires t c κs = search needs
 value-at-returns-2 : (t : ℕ) → value-at-lts.Need-returns-2 (value-at-calls t) (value-at-at t) value-at.Post
 value-at-returns-2 t c =
     let st = c .before .before .before .before .before .before .before .before .before .before .before .before .before in
-    truth-is-value (st .args .records .now) (st .args .pool .now) (st .args .row .now) (st .args .nulls) (st .args .n) _ (st .pre .1) (c .before .before .before .before .before .before .before .before .before .fields-in .ensures) (c .before .before .before .before .before .before .before .if1 .left) _ _
+    binary-is-value (st .args .records .now) (st .args .pool .now) (st .args .row .now) (st .args .nulls) (st .args .n) _ (st .pre .1) (c .before .before .before .before .before .before .before .before .before .fields-in .ensures) (c .before .before .before .before .before .before .match .keys1) (inl (c .before .before .before .before .if2 .taken)) _ _
     (compared-truth (st .args .records .now) (st .args .pool .now) (st .args .row .now) (st .args .nulls) (st .args .n) _ (st .pre .1) (c .before .before .before .before .before .before .before .before .before .fields-in .ensures) (c .before .before .before .before .before .before .match .keys1) (c .before .before .before .before .if2 .taken) _ _ _ (c .before .before .before .value-at .ensures) (c .before .before .value-at2 .ensures) (c .before .compared .ensures))
     (c .value-of-truth .ensures)
 
+value-at-value-at-requires-3 : (t : ℕ) → value-at-lts.Need-value-at-requires-3 (value-at-calls t) (value-at-at t) value-at.Post
+value-at-value-at-requires-3 t c κs = let st = c .before .before .before .before .before .before .before .before .before .before .before in let h : c .before .before .before .before .before .before .before .fields-in .result .a < st .args .n .0 = binary-below (st .args .records .now) (st .args .pool .now) (st .args .row .now) (st .args .nulls) (st .args .n) _ (st .pre .1) (c .before .before .before .before .before .before .before .fields-in .ensures) (c .before .before .before .before .match .keys1) .0 in (omega arith, evaluable-below _ h (st .pre .1))
+
+value-at-value-at-requires-4 : (t : ℕ) → value-at-lts.Need-value-at-requires-4 (value-at-calls t) (value-at-at t) value-at.Post
+value-at-value-at-requires-4 t c κs = let st = c .before .before .before .before .before .before .before .before .before .before .before .before in let h : c .before .before .before .before .before .before .before .before .fields-in .result .b < st .args .n .0 = binary-below (st .args .records .now) (st .args .pool .now) (st .args .row .now) (st .args .nulls) (st .args .n) _ (st .pre .1) (c .before .before .before .before .before .before .before .before .fields-in .ensures) (c .before .before .before .before .before .match .keys1) .1 in (omega arith, evaluable-below _ h (st .pre .1))
+
+value-at-divided-requires : (t : ℕ) → value-at-lts.Need-divided-requires (value-at-calls t) (value-at-at t) value-at.Post
+value-at-divided-requires t c κs = search needs
+
+value-at-returns-3 : (t : ℕ) → value-at-lts.Need-returns-3 (value-at-calls t) (value-at-at t) value-at.Post
+value-at-returns-3 t c =
+    let st = c .before .before .before .before .before .before .before .before .before .before .before .before .before .before in
+    divided-value (st .args .records .now) (st .args .pool .now) (st .args .row .now) (st .args .nulls) (st .args .n) _ (st .pre .1) (c .before .before .before .before .before .before .before .before .before .before .fields-in .ensures)
+    (c .before .before .before .before .before .before .before .match .keys1) (c .before .before .before .before .before .if2 .left) (c .before .before .before .if3 .taken) _ _ _
+    (c .before .before .value-at3 .ensures) (c .before .value-at4 .ensures) (c .divided .ensures)
+
 value-at-truth-at-requires : (t : ℕ) → value-at-lts.Need-truth-at-requires (value-at-calls t) (value-at-at t) value-at.Post
-value-at-truth-at-requires t c κs = let st = c .before .before .before .before .before .before .before .before .before in let h : c .before .before .before .before .before .fields-in .result .a < st .args .n .0 = binary-below (st .args .records .now) (st .args .pool .now) (st .args .row .now) (st .args .nulls) (st .args .n) _ (st .pre .1) (c .before .before .before .before .before .fields-in .ensures) (c .before .before .match .keys1) .0 in (omega arith, evaluable-below _ h (st .pre .1))
+value-at-truth-at-requires t c κs = let st = c .before .before .before .before .before .before .before .before .before .before .before in let h : c .before .before .before .before .before .before .before .fields-in .result .a < st .args .n .0 = binary-below (st .args .records .now) (st .args .pool .now) (st .args .row .now) (st .args .nulls) (st .args .n) _ (st .pre .1) (c .before .before .before .before .before .before .before .fields-in .ensures) (c .before .before .before .before .match .keys1) .0 in (omega arith, evaluable-below _ h (st .pre .1))
 
 value-at-truth-at-requires-2 : (t : ℕ) → value-at-lts.Need-truth-at-requires-2 (value-at-calls t) (value-at-at t) value-at.Post
-value-at-truth-at-requires-2 t c κs = let st = c .before .before .before .before .before .before .before .before .before .before in let h : c .before .before .before .before .before .before .fields-in .result .b < st .args .n .0 = binary-below (st .args .records .now) (st .args .pool .now) (st .args .row .now) (st .args .nulls) (st .args .n) _ (st .pre .1) (c .before .before .before .before .before .before .fields-in .ensures) (c .before .before .before .match .keys1) .1 in (omega arith, evaluable-below _ h (st .pre .1))
+value-at-truth-at-requires-2 t c κs = let st = c .before .before .before .before .before .before .before .before .before .before .before .before in let h : c .before .before .before .before .before .before .before .before .fields-in .result .b < st .args .n .0 = binary-below (st .args .records .now) (st .args .pool .now) (st .args .row .now) (st .args .nulls) (st .args .n) _ (st .pre .1) (c .before .before .before .before .before .before .before .before .fields-in .ensures) (c .before .before .before .before .before .match .keys1) .1 in (omega arith, evaluable-below _ h (st .pre .1))
 
 value-at-connected-requires : (t : ℕ) → value-at-lts.Need-connected-requires (value-at-calls t) (value-at-at t) value-at.Post
 value-at-connected-requires t c κs = search needs
@@ -420,8 +443,8 @@ value-at-not-of-requires t c κs = search needs
 value-at-value-of-truth-requires-3 : (t : ℕ) → value-at-lts.Need-value-of-truth-requires-3 (value-at-calls t) (value-at-at t) value-at.Post
 value-at-value-of-truth-requires-3 t c κs = search needs
 
-value-at-value-at-requires-3 : (t : ℕ) → value-at-lts.Need-value-at-requires-3 (value-at-calls t) (value-at-at t) value-at.Post
-value-at-value-at-requires-3 t c κs = let st = c .before .before .before .before .before .before .before in let h : c .before .before .before .fields-in .result .a < st .args .n .0 = null-below (st .args .records .now) (st .args .pool .now) (st .args .row .now) (st .args .nulls) (st .args .n) _ (st .pre .1) (c .before .before .before .fields-in .ensures) (c .match .keys3) in (omega arith, evaluable-below _ h (st .pre .1))
+value-at-value-at-requires-5 : (t : ℕ) → value-at-lts.Need-value-at-requires-5 (value-at-calls t) (value-at-at t) value-at.Post
+value-at-value-at-requires-5 t c κs = let st = c .before .before .before .before .before .before .before in let h : c .before .before .before .fields-in .result .a < st .args .n .0 = null-below (st .args .records .now) (st .args .pool .now) (st .args .row .now) (st .args .nulls) (st .args .n) _ (st .pre .1) (c .before .before .before .fields-in .ensures) (c .match .keys3) in (omega arith, evaluable-below _ h (st .pre .1))
 
 value-at-is-null-requires : (t : ℕ) → value-at-lts.Need-is-null-requires (value-at-calls t) (value-at-at t) value-at.Post
 value-at-is-null-requires t c κs = search needs
@@ -432,8 +455,8 @@ value-at-truth-of-bool-requires t c κs = search needs
 value-at-value-of-truth-requires-4 : (t : ℕ) → value-at-lts.Need-value-of-truth-requires-4 (value-at-calls t) (value-at-at t) value-at.Post
 value-at-value-of-truth-requires-4 t c κs = search needs
 
-value-at-value-at-requires-4 : (t : ℕ) → value-at-lts.Need-value-at-requires-4 (value-at-calls t) (value-at-at t) value-at.Post
-value-at-value-at-requires-4 t c κs = let st = c .before .before .before .before .before .before .before in let h : c .before .before .before .fields-in .result .a < st .args .n .0 = not-null-below (st .args .records .now) (st .args .pool .now) (st .args .row .now) (st .args .nulls) (st .args .n) _ (st .pre .1) (c .before .before .before .fields-in .ensures) (c .match .keys4) in (omega arith, evaluable-below _ h (st .pre .1))
+value-at-value-at-requires-6 : (t : ℕ) → value-at-lts.Need-value-at-requires-6 (value-at-calls t) (value-at-at t) value-at.Post
+value-at-value-at-requires-6 t c κs = let st = c .before .before .before .before .before .before .before in let h : c .before .before .before .fields-in .result .a < st .args .n .0 = not-null-below (st .args .records .now) (st .args .pool .now) (st .args .row .now) (st .args .nulls) (st .args .n) _ (st .pre .1) (c .before .before .before .fields-in .ensures) (c .match .keys4) in (omega arith, evaluable-below _ h (st .pre .1))
 
 value-at-is-null-requires-2 : (t : ℕ) → value-at-lts.Need-is-null-requires-2 (value-at-calls t) (value-at-at t) value-at.Post
 value-at-is-null-requires-2 t c κs = search needs
@@ -444,14 +467,14 @@ value-at-truth-of-bool-requires-2 t c κs = search needs
 value-at-value-of-truth-requires-5 : (t : ℕ) → value-at-lts.Need-value-of-truth-requires-5 (value-at-calls t) (value-at-at t) value-at.Post
 value-at-value-of-truth-requires-5 t c κs = search needs
 
-value-at-value-at-requires-5 : (t : ℕ) → value-at-lts.Need-value-at-requires-5 (value-at-calls t) (value-at-at t) value-at.Post
-value-at-value-at-requires-5 t c κs = let st = c .before .before .before .before .before .before .before in let h : c .before .before .before .fields-in .result .a < st .args .n .0 = between-below (st .args .records .now) (st .args .pool .now) (st .args .row .now) (st .args .nulls) (st .args .n) _ (st .pre .1) (c .before .before .before .fields-in .ensures) (c .match .keys5) .0 in (omega arith, evaluable-below _ h (st .pre .1))
-
-value-at-value-at-requires-6 : (t : ℕ) → value-at-lts.Need-value-at-requires-6 (value-at-calls t) (value-at-at t) value-at.Post
-value-at-value-at-requires-6 t c κs = let st = c .before .before .before .before .before .before .before .before in let h : c .before .before .before .before .fields-in .result .b < st .args .n .0 = between-below (st .args .records .now) (st .args .pool .now) (st .args .row .now) (st .args .nulls) (st .args .n) _ (st .pre .1) (c .before .before .before .before .fields-in .ensures) (c .before .match .keys5) .1 in (omega arith, evaluable-below _ h (st .pre .1))
-
 value-at-value-at-requires-7 : (t : ℕ) → value-at-lts.Need-value-at-requires-7 (value-at-calls t) (value-at-at t) value-at.Post
-value-at-value-at-requires-7 t c κs = let st = c .before .before .before .before .before .before .before .before .before in let h : c .before .before .before .before .before .fields-in .result .c < st .args .n .0 = between-below (st .args .records .now) (st .args .pool .now) (st .args .row .now) (st .args .nulls) (st .args .n) _ (st .pre .1) (c .before .before .before .before .before .fields-in .ensures) (c .before .before .match .keys5) .2 in (omega arith, evaluable-below _ h (st .pre .1))
+value-at-value-at-requires-7 t c κs = let st = c .before .before .before .before .before .before .before in let h : c .before .before .before .fields-in .result .a < st .args .n .0 = between-below (st .args .records .now) (st .args .pool .now) (st .args .row .now) (st .args .nulls) (st .args .n) _ (st .pre .1) (c .before .before .before .fields-in .ensures) (c .match .keys5) .0 in (omega arith, evaluable-below _ h (st .pre .1))
+
+value-at-value-at-requires-8 : (t : ℕ) → value-at-lts.Need-value-at-requires-8 (value-at-calls t) (value-at-at t) value-at.Post
+value-at-value-at-requires-8 t c κs = let st = c .before .before .before .before .before .before .before .before in let h : c .before .before .before .before .fields-in .result .b < st .args .n .0 = between-below (st .args .records .now) (st .args .pool .now) (st .args .row .now) (st .args .nulls) (st .args .n) _ (st .pre .1) (c .before .before .before .before .fields-in .ensures) (c .before .match .keys5) .1 in (omega arith, evaluable-below _ h (st .pre .1))
+
+value-at-value-at-requires-9 : (t : ℕ) → value-at-lts.Need-value-at-requires-9 (value-at-calls t) (value-at-at t) value-at.Post
+value-at-value-at-requires-9 t c κs = let st = c .before .before .before .before .before .before .before .before .before in let h : c .before .before .before .before .before .fields-in .result .c < st .args .n .0 = between-below (st .args .records .now) (st .args .pool .now) (st .args .row .now) (st .args .nulls) (st .args .n) _ (st .pre .1) (c .before .before .before .before .before .fields-in .ensures) (c .before .before .match .keys5) .2 in (omega arith, evaluable-below _ h (st .pre .1))
 
 value-at-between-requires : (t : ℕ) → value-at-lts.Need-between-requires (value-at-calls t) (value-at-at t) value-at.Post
 value-at-between-requires t c κs = search needs
@@ -459,8 +482,8 @@ value-at-between-requires t c κs = search needs
 value-at-value-of-truth-requires-6 : (t : ℕ) → value-at-lts.Need-value-of-truth-requires-6 (value-at-calls t) (value-at-at t) value-at.Post
 value-at-value-of-truth-requires-6 t c κs = search needs
 
-value-at-value-at-requires-8 : (t : ℕ) → value-at-lts.Need-value-at-requires-8 (value-at-calls t) (value-at-at t) value-at.Post
-value-at-value-at-requires-8 t c κs = let st = c .before .before .before .before .before .before .before in let h : c .before .before .before .fields-in .result .a < st .args .n .0 = in-below (st .args .records .now) (st .args .pool .now) (st .args .row .now) (st .args .nulls) (st .args .n) _ (st .pre .1) (c .before .before .before .fields-in .ensures) (c .match .keys6) .0 in (omega arith, evaluable-below _ h (st .pre .1))
+value-at-value-at-requires-10 : (t : ℕ) → value-at-lts.Need-value-at-requires-10 (value-at-calls t) (value-at-at t) value-at.Post
+value-at-value-at-requires-10 t c κs = let st = c .before .before .before .before .before .before .before in let h : c .before .before .before .fields-in .result .a < st .args .n .0 = in-below (st .args .records .now) (st .args .pool .now) (st .args .row .now) (st .args .nulls) (st .args .n) _ (st .pre .1) (c .before .before .before .fields-in .ensures) (c .match .keys6) .0 in (omega arith, evaluable-below _ h (st .pre .1))
 
 value-at-fields-in-requires-2 : (t : ℕ) → value-at-lts.Need-fields-in-requires-2 (value-at-calls t) (value-at-at t) value-at.Post
 value-at-fields-in-requires-2 t c κs = let st = c .before .before .before .before .before .before .before .before in let h : c .before .before .before .before .fields-in .result .b < st .args .n .0 = in-below (st .args .records .now) (st .args .pool .now) (st .args .row .now) (st .args .nulls) (st .args .n) _ (st .pre .1) (c .before .before .before .before .fields-in .ensures) (c .before .match .keys6) .1 in let r = st .pre .1 .room in omega arith
@@ -480,52 +503,52 @@ value-at-truth-of-value-requires t c κs = search needs
 value-at-value-of-truth-requires-8 : (t : ℕ) → value-at-lts.Need-value-of-truth-requires-8 (value-at-calls t) (value-at-at t) value-at.Post
 value-at-value-of-truth-requires-8 t c κs = search needs
 
-value-at-returns-3 : (t : ℕ) → value-at-lts.Need-returns-3 (value-at-calls t) (value-at-at t) value-at.Post
-value-at-returns-3 t c =
-    let st = c .before .before .before .before .before .before .before .before .before .before .before .before .before in
-    truth-is-value (st .args .records .now) (st .args .pool .now) (st .args .row .now) (st .args .nulls) (st .args .n) _ (st .pre .1) (c .before .before .before .before .before .before .before .before .before .fields-in .ensures) (c .before .before .before .before .before .before .before .if1 .left) _ _
-    (connected-truth (st .args .records .now) (st .args .pool .now) (st .args .row .now) (st .args .nulls) (st .args .n) _ (st .pre .1) (c .before .before .before .before .before .before .before .before .before .fields-in .ensures) (c .before .before .before .before .before .before .match .keys1) (c .before .before .before .before .if2 .left) _ _ _ (c .before .before .before .truth-at .ensures) (c .before .before .truth-at2 .ensures) (c .before .connected .ensures))
-    (c .value-of-truth2 .ensures)
-
 value-at-returns-4 : (t : ℕ) → value-at-lts.Need-returns-4 (value-at-calls t) (value-at-at t) value-at.Post
 value-at-returns-4 t c =
-    let st = c .before .before .before .before .before .before .before .before .before .before in
-    truth-is-value (st .args .records .now) (st .args .pool .now) (st .args .row .now) (st .args .nulls) (st .args .n) _ (st .pre .1) (c .before .before .before .before .before .before .fields-in .ensures) (c .before .before .before .before .if1 .left) _ _
-    (not-truth (st .args .records .now) (st .args .pool .now) (st .args .row .now) (st .args .nulls) (st .args .n) _ (st .pre .1) (c .before .before .before .before .before .before .fields-in .ensures) (c .before .before .before .match .keys2) _ _ (c .before .before .truth-at3 .ensures) (c .before .not-of .ensures))
-    (c .value-of-truth3 .ensures)
+    let st = c .before .before .before .before .before .before .before .before .before .before .before .before .before .before .before in
+    binary-is-value (st .args .records .now) (st .args .pool .now) (st .args .row .now) (st .args .nulls) (st .args .n) _ (st .pre .1) (c .before .before .before .before .before .before .before .before .before .before .before .fields-in .ensures) (c .before .before .before .before .before .before .before .before .match .keys1) (inr (c .before .before .before .before .if3 .left)) _ _
+    (connected-truth (st .args .records .now) (st .args .pool .now) (st .args .row .now) (st .args .nulls) (st .args .n) _ (st .pre .1) (c .before .before .before .before .before .before .before .before .before .before .before .fields-in .ensures) (c .before .before .before .before .before .before .before .before .match .keys1) (c .before .before .before .before .if3 .left) _ _ _ (c .before .before .before .truth-at .ensures) (c .before .before .truth-at2 .ensures) (c .before .connected .ensures))
+    (c .value-of-truth2 .ensures)
 
 value-at-returns-5 : (t : ℕ) → value-at-lts.Need-returns-5 (value-at-calls t) (value-at-at t) value-at.Post
 value-at-returns-5 t c =
-    let st = c .before .before .before .before .before .before .before .before .before .before .before in
-    truth-is-value (st .args .records .now) (st .args .pool .now) (st .args .row .now) (st .args .nulls) (st .args .n) _ (st .pre .1) (c .before .before .before .before .before .before .before .fields-in .ensures) (c .before .before .before .before .before .if1 .left) _ _
-    (null-truth (st .args .records .now) (st .args .pool .now) (st .args .row .now) (st .args .nulls) (st .args .n) _ (st .pre .1) (c .before .before .before .before .before .before .before .fields-in .ensures) (c .before .before .before .before .match .keys3) _ _ _ (c .before .before .before .value-at3 .ensures) (c .before .before .is-null .ensures) (c .before .truth-of-bool .ensures))
-    (c .value-of-truth4 .ensures)
+    let st = c .before .before .before .before .before .before .before .before .before .before in
+    truth-is-value (st .args .records .now) (st .args .pool .now) (st .args .row .now) (st .args .nulls) (st .args .n) _ (st .pre .1) (c .before .before .before .before .before .before .fields-in .ensures) (c .before .before .before .before .if1 .left) (λ q. omega (arith, q, c .before .before .before .match .keys2)) _ _
+    (not-truth (st .args .records .now) (st .args .pool .now) (st .args .row .now) (st .args .nulls) (st .args .n) _ (st .pre .1) (c .before .before .before .before .before .before .fields-in .ensures) (c .before .before .before .match .keys2) _ _ (c .before .before .truth-at3 .ensures) (c .before .not-of .ensures))
+    (c .value-of-truth3 .ensures)
 
 value-at-returns-6 : (t : ℕ) → value-at-lts.Need-returns-6 (value-at-calls t) (value-at-at t) value-at.Post
 value-at-returns-6 t c =
     let st = c .before .before .before .before .before .before .before .before .before .before .before in
-    truth-is-value (st .args .records .now) (st .args .pool .now) (st .args .row .now) (st .args .nulls) (st .args .n) _ (st .pre .1) (c .before .before .before .before .before .before .before .fields-in .ensures) (c .before .before .before .before .before .if1 .left) _ _
-    (not-null-truth (st .args .records .now) (st .args .pool .now) (st .args .row .now) (st .args .nulls) (st .args .n) _ (st .pre .1) (c .before .before .before .before .before .before .before .fields-in .ensures) (c .before .before .before .before .match .keys4) _ _ _ (c .before .before .before .value-at4 .ensures) (c .before .before .is-null2 .ensures) (c .before .truth-of-bool2 .ensures))
-    (c .value-of-truth5 .ensures)
+    truth-is-value (st .args .records .now) (st .args .pool .now) (st .args .row .now) (st .args .nulls) (st .args .n) _ (st .pre .1) (c .before .before .before .before .before .before .before .fields-in .ensures) (c .before .before .before .before .before .if1 .left) (λ q. omega (arith, q, c .before .before .before .before .match .keys3)) _ _
+    (null-truth (st .args .records .now) (st .args .pool .now) (st .args .row .now) (st .args .nulls) (st .args .n) _ (st .pre .1) (c .before .before .before .before .before .before .before .fields-in .ensures) (c .before .before .before .before .match .keys3) _ _ _ (c .before .before .before .value-at5 .ensures) (c .before .before .is-null .ensures) (c .before .truth-of-bool .ensures))
+    (c .value-of-truth4 .ensures)
 
 value-at-returns-7 : (t : ℕ) → value-at-lts.Need-returns-7 (value-at-calls t) (value-at-at t) value-at.Post
 value-at-returns-7 t c =
-    let st = c .before .before .before .before .before .before .before .before .before .before .before .before in
-    truth-is-value (st .args .records .now) (st .args .pool .now) (st .args .row .now) (st .args .nulls) (st .args .n) _ (st .pre .1) (c .before .before .before .before .before .before .before .before .fields-in .ensures) (c .before .before .before .before .before .before .if1 .left) _ _
-    (between-truth (st .args .records .now) (st .args .pool .now) (st .args .row .now) (st .args .nulls) (st .args .n) _ (st .pre .1) (c .before .before .before .before .before .before .before .before .fields-in .ensures) (c .before .before .before .before .before .match .keys5) _ _ _ _ (c .before .before .before .before .value-at5 .ensures) (c .before .before .before .value-at6 .ensures) (c .before .before .value-at7 .ensures) (c .before .between .ensures))
-    (c .value-of-truth6 .ensures)
+    let st = c .before .before .before .before .before .before .before .before .before .before .before in
+    truth-is-value (st .args .records .now) (st .args .pool .now) (st .args .row .now) (st .args .nulls) (st .args .n) _ (st .pre .1) (c .before .before .before .before .before .before .before .fields-in .ensures) (c .before .before .before .before .before .if1 .left) (λ q. omega (arith, q, c .before .before .before .before .match .keys4)) _ _
+    (not-null-truth (st .args .records .now) (st .args .pool .now) (st .args .row .now) (st .args .nulls) (st .args .n) _ (st .pre .1) (c .before .before .before .before .before .before .before .fields-in .ensures) (c .before .before .before .before .match .keys4) _ _ _ (c .before .before .before .value-at6 .ensures) (c .before .before .is-null2 .ensures) (c .before .truth-of-bool2 .ensures))
+    (c .value-of-truth5 .ensures)
 
 value-at-returns-8 : (t : ℕ) → value-at-lts.Need-returns-8 (value-at-calls t) (value-at-at t) value-at.Post
 value-at-returns-8 t c =
     let st = c .before .before .before .before .before .before .before .before .before .before .before .before in
-    truth-is-value (st .args .records .now) (st .args .pool .now) (st .args .row .now) (st .args .nulls) (st .args .n) _ (st .pre .1) (c .before .before .before .before .before .before .before .before .fields-in .ensures) (c .before .before .before .before .before .before .if1 .left) _ _
-    (member-truth (st .args .records .now) (st .args .pool .now) (st .args .row .now) (st .args .nulls) (st .args .n) _ (st .pre .1) (c .before .before .before .before .before .before .before .before .fields-in .ensures) (c .before .before .before .before .before .match .keys6) _ (c .before .before .before .fields-in2 .ensures) _ _ (c .before .before .before .before .value-at8 .ensures) (c .before .member .ensures))
-    (c .value-of-truth7 .ensures)
+    truth-is-value (st .args .records .now) (st .args .pool .now) (st .args .row .now) (st .args .nulls) (st .args .n) _ (st .pre .1) (c .before .before .before .before .before .before .before .before .fields-in .ensures) (c .before .before .before .before .before .before .if1 .left) (λ q. omega (arith, q, c .before .before .before .before .before .match .keys5)) _ _
+    (between-truth (st .args .records .now) (st .args .pool .now) (st .args .row .now) (st .args .nulls) (st .args .n) _ (st .pre .1) (c .before .before .before .before .before .before .before .before .fields-in .ensures) (c .before .before .before .before .before .match .keys5) _ _ _ _ (c .before .before .before .before .value-at7 .ensures) (c .before .before .before .value-at8 .ensures) (c .before .before .value-at9 .ensures) (c .before .between .ensures))
+    (c .value-of-truth6 .ensures)
 
 value-at-returns-9 : (t : ℕ) → value-at-lts.Need-returns-9 (value-at-calls t) (value-at-at t) value-at.Post
 value-at-returns-9 t c =
+    let st = c .before .before .before .before .before .before .before .before .before .before .before .before in
+    truth-is-value (st .args .records .now) (st .args .pool .now) (st .args .row .now) (st .args .nulls) (st .args .n) _ (st .pre .1) (c .before .before .before .before .before .before .before .before .fields-in .ensures) (c .before .before .before .before .before .before .if1 .left) (λ q. omega (arith, q, c .before .before .before .before .before .match .keys6)) _ _
+    (member-truth (st .args .records .now) (st .args .pool .now) (st .args .row .now) (st .args .nulls) (st .args .n) _ (st .pre .1) (c .before .before .before .before .before .before .before .before .fields-in .ensures) (c .before .before .before .before .before .match .keys6) _ (c .before .before .before .fields-in2 .ensures) _ _ (c .before .before .before .before .value-at10 .ensures) (c .before .member .ensures))
+    (c .value-of-truth7 .ensures)
+
+value-at-returns-10 : (t : ℕ) → value-at-lts.Need-returns-10 (value-at-calls t) (value-at-at t) value-at.Post
+value-at-returns-10 t c =
     let st = c .before .before .before .before .before .before .before .before .before .before in let k = c .before .before .before .match .rest in
-    truth-is-value (st .args .records .now) (st .args .pool .now) (st .args .row .now) (st .args .nulls) (st .args .n) _ (st .pre .1) (c .before .before .before .before .before .before .fields-in .ensures) (c .before .before .before .before .if1 .left) _ _
+    truth-is-value (st .args .records .now) (st .args .pool .now) (st .args .row .now) (st .args .nulls) (st .args .n) _ (st .pre .1) (c .before .before .before .before .before .before .fields-in .ensures) (c .before .before .before .before .if1 .left) (k .0 .0 .0 .0 .0 .1) _ _
     (leaf-truth (st .args .records .now) (st .args .pool .now) (st .args .row .now) (st .args .nulls) (st .args .n) _ (st .pre .1) (c .before .before .before .before .before .before .fields-in .ensures) (k .0 .0 .0 .0 .0 .1) (k .0 .0 .0 .0 .1) (k .0 .0 .0 .1) (k .0 .0 .1) (k .0 .1) (k .1) _ _ (c .before .before .leaf-value2 .ensures) (c .before .truth-of-value .ensures))
     (c .value-of-truth8 .ensures)
 
@@ -537,33 +560,38 @@ pub +truth-at+value-at-spec : {M : Type 1} → statement M
     (truth-at-value-at-requires-2 t)
     (truth-at-compared-requires t)
     (truth-at-returns t)
+    (truth-at-value-at-requires-3 t)
+    (truth-at-value-at-requires-4 t)
+    (truth-at-divided-requires t)
+    (truth-at-truth-of-value-requires t)
+    (truth-at-returns-2 t)
     (truth-at-truth-at-requires t)
     (truth-at-truth-at-requires-2 t)
     (truth-at-connected-requires t)
     (truth-at-truth-at-requires-3 t)
     (truth-at-not-of-requires t)
-    (truth-at-value-at-requires-3 t)
+    (truth-at-value-at-requires-5 t)
     (truth-at-is-null-requires t)
     (truth-at-truth-of-bool-requires t)
-    (truth-at-value-at-requires-4 t)
+    (truth-at-value-at-requires-6 t)
     (truth-at-is-null-requires-2 t)
     (truth-at-truth-of-bool-requires-2 t)
-    (truth-at-value-at-requires-5 t)
-    (truth-at-value-at-requires-6 t)
     (truth-at-value-at-requires-7 t)
-    (truth-at-between-requires t)
     (truth-at-value-at-requires-8 t)
+    (truth-at-value-at-requires-9 t)
+    (truth-at-between-requires t)
+    (truth-at-value-at-requires-10 t)
     (truth-at-fields-in-requires-2 t)
     (truth-at-member-requires t)
     (truth-at-leaf-value-requires t)
-    (truth-at-truth-of-value-requires t)
-    (truth-at-returns-2 t)
+    (truth-at-truth-of-value-requires-2 t)
     (truth-at-returns-3 t)
     (truth-at-returns-4 t)
     (truth-at-returns-5 t)
     (truth-at-returns-6 t)
     (truth-at-returns-7 t)
-    (truth-at-returns-8 t))
+    (truth-at-returns-8 t)
+    (truth-at-returns-9 t))
     λ t. value-at-lts.spec (value-at-calls t) (value-at-at t) value-at.Post
     (value-at-fields-in-requires t)
     (value-at-leaf-value-requires t)
@@ -573,6 +601,10 @@ pub +truth-at+value-at-spec : {M : Type 1} → statement M
     (value-at-compared-requires t)
     (value-at-value-of-truth-requires t)
     (value-at-returns-2 t)
+    (value-at-value-at-requires-3 t)
+    (value-at-value-at-requires-4 t)
+    (value-at-divided-requires t)
+    (value-at-returns-3 t)
     (value-at-truth-at-requires t)
     (value-at-truth-at-requires-2 t)
     (value-at-connected-requires t)
@@ -580,30 +612,30 @@ pub +truth-at+value-at-spec : {M : Type 1} → statement M
     (value-at-truth-at-requires-3 t)
     (value-at-not-of-requires t)
     (value-at-value-of-truth-requires-3 t)
-    (value-at-value-at-requires-3 t)
+    (value-at-value-at-requires-5 t)
     (value-at-is-null-requires t)
     (value-at-truth-of-bool-requires t)
     (value-at-value-of-truth-requires-4 t)
-    (value-at-value-at-requires-4 t)
+    (value-at-value-at-requires-6 t)
     (value-at-is-null-requires-2 t)
     (value-at-truth-of-bool-requires-2 t)
     (value-at-value-of-truth-requires-5 t)
-    (value-at-value-at-requires-5 t)
-    (value-at-value-at-requires-6 t)
     (value-at-value-at-requires-7 t)
+    (value-at-value-at-requires-8 t)
+    (value-at-value-at-requires-9 t)
     (value-at-between-requires t)
     (value-at-value-of-truth-requires-6 t)
-    (value-at-value-at-requires-8 t)
+    (value-at-value-at-requires-10 t)
     (value-at-fields-in-requires-2 t)
     (value-at-member-requires t)
     (value-at-value-of-truth-requires-7 t)
     (value-at-leaf-value-requires-2 t)
     (value-at-truth-of-value-requires t)
     (value-at-value-of-truth-requires-8 t)
-    (value-at-returns-3 t)
     (value-at-returns-4 t)
     (value-at-returns-5 t)
     (value-at-returns-6 t)
     (value-at-returns-7 t)
     (value-at-returns-8 t)
     (value-at-returns-9 t)
+    (value-at-returns-10 t)
