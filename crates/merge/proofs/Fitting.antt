@@ -15,7 +15,8 @@ use Rattle.truth.proofs.Negations.{negateComparison}
 use Rattle.constraints.specs.Scalars.{Scalars}
 use Rattle.merge.specs.Minterms.{minterms}
 use Rattle.merge.specs.Classify.{Operand, AColumn, ALiteral, AList, Other, operand, classify}
-use Rattle.merge.specs.Classify.{comparisonConstraints, readConjuncts, swapComparison}
+use Rattle.merge.specs.Classify.{comparisonConstraints, readConjuncts}
+use Rattle.merge.proofs.Operators.{swapComparison}
 use Rattle.merge.specs.Emit.{mergeFilterConstraints}
 use Rattle.merge.proofs.Forms.{ReadForms, read-ind}
 use Rattle.merge.proofs.Literals.{Alike, ConjunctP, ConjunctsP, ConstraintsP, OutcomeP, merge-p}

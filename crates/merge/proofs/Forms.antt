@@ -1,11 +1,14 @@
 -- Every form that a conjunct is read as, once: what holds of each form, given what holds of the operands, holds of
 -- every conjunct.
 use mathlib.Core.Path.{_≡_, refl, subst}
-use mathlib.Core.Option.{none, some}
+use mathlib.Core.Option.{none}
 use mathlib.Core.Bool.{Bool, true, false, not, _&&_}
 use mathlib.Core.List.{List, [], _∷_}
 use Prim.Native.Nat.{ℕ}
-use Rattle.records.specs.Operator.{negate}
+use Rattle.records.specs.Operator.{isNullPropagatingComparison, swapOperands, negate}
+use Rattle.records.specs.declared.operator.Operator.{Operator}
+use Rattle.records.specs.declared.operator.Operator.the-variants as operator
+use Rattle.records.specs.declared.operator.Swapped.the-variants.{To}
 use Rattle.truth.specs.Comparison.{Comparison, Eq, NotEq, Lt, LtEq, Gt, GtEq}
 use Rattle.truth.specs.AExpr.{AExpr, Column, Literal, Null, BinaryExpr, Not, IsNull, IsNotNull, IsBetween}
 use Rattle.truth.specs.AExpr.{ListLiteral, IsIn, Missing, BinaryOp, Compare, EqValidity, NotEqValidity, And, Or, Xor}
@@ -17,10 +20,11 @@ use Rattle.constraints.specs.declared.column.Nullability.the-variants.{NonNull}
 use Rattle.constraints.specs.declared.column.Nullability.the-variants as required
 use Rattle.constraints.specs.Column.{Constraint, Lower, Upper, Exclude, Allow, Disallow, Require}
 use Rattle.merge.specs.Classify.{Conjunct, Bounds, Normalized, Equality, Recorded, NonNullPair, Opaque}
-use Rattle.merge.specs.Classify.{asComparison, operatorOf, normalized, classifyNegated}
-use Rattle.merge.specs.Classify.{swapComparison, classifyColumnColumn, Operand, AColumn, ALiteral, AList, Other}
+use Rattle.merge.specs.Classify.{comparisonOperator, ordinaryComparison, operatorOf, normalized, classifyNegated}
+use Rattle.merge.specs.Classify.{classifyColumnColumn, classifyLiteralColumn, Operand, AColumn, ALiteral, AList, Other}
 use Rattle.merge.specs.Classify.{operand, comparisonConstraints, classifyComparison, classifyIsBetween}
 use Rattle.merge.specs.Classify.{classifyIsIn, classifyNull, classifyNegation, classifyRecord, classify}
+use Rattle.merge.proofs.Operators.{swapComparison, ordinary-of, swap-of}
 use Rattle.merge.proofs.PlainForms.{isColumn, isLiteral, isShortList, plainColumns, plainComparison}
 use Rattle.merge.proofs.PlainForms.{besideLiteral, plainCompared, plainBinary, plainNegation, plainRecord, plainConjunct}
 
@@ -74,7 +78,7 @@ module _ {Val : Type 0} (R : ℕ → AExpr Val) (n : ℕ) (F : ℕ → Operand V
     (C : AExpr Val → Bool → Conjunct Val → Type 0) (f : ReadForms R n F C) where
   columns :
       (o : Comparison) (x y a b : ℕ) → F x (AColumn a) → F y (AColumn b) →
-      C (BinaryExpr (Compare o) x y) (plainColumns o) (classifyColumnColumn n a b (some o))
+      C (BinaryExpr (Compare o) x y) (plainColumns o) (classifyColumnColumn n a b (comparisonOperator o))
   columns Eq x y a b p q = f .equal x y a b p q
   columns NotEq x y a b p q = f .paired NotEq x y a b p q
   columns Lt x y a b p q = f .paired Lt x y a b p q
@@ -84,12 +88,13 @@ module _ {Val : Type 0} (R : ℕ → AExpr Val) (n : ℕ) (F : ℕ → Operand V
 
   compares :
       (o : Comparison) (x y : ℕ) (s t : Operand Val) → F x s → F y t →
-      C (BinaryExpr (Compare o) x y) (plainComparison o s t) (classifyComparison n (some o) s t)
+      C (BinaryExpr (Compare o) x y) (plainComparison o s t) (classifyComparison n (comparisonOperator o) s t)
   compares o x y (AColumn c) (AColumn d) p q = columns o x y c d p q
-  compares o x y (AColumn c) (ALiteral v) p q = f .compared o x y c v p q
+  compares o x y (AColumn c) (ALiteral v) p q = rw (ordinary-of o) (f .compared o x y c v p q)
   compares o x y (AColumn c) (AList l) p q = f .opaque (BinaryExpr (Compare o) x y)
   compares o x y (AColumn c) Other p q = f .opaque (BinaryExpr (Compare o) x y)
-  compares o x y (ALiteral v) (AColumn c) p q = f .swapped o x y c v p q
+  compares o x y (ALiteral v) (AColumn c) p q =
+      rw (swap-of o, ordinary-of (swapComparison o)) (f .swapped o x y c v p q)
   compares o x y (ALiteral v) (ALiteral w) p q = f .opaque (BinaryExpr (Compare o) x y)
   compares o x y (ALiteral v) (AList l) p q = f .opaque (BinaryExpr (Compare o) x y)
   compares o x y (ALiteral v) Other p q = f .opaque (BinaryExpr (Compare o) x y)
@@ -98,36 +103,57 @@ module _ {Val : Type 0} (R : ℕ → AExpr Val) (n : ℕ) (F : ℕ → Operand V
 
   -- the other operators: a column beside a literal enters the table, and that is all
   enters :
-      (r : AExpr Val) (x y : ℕ) (s t : Operand Val) → F x s → F y t → C r false (classifyComparison n none s t)
-  enters r x y (AColumn c) (AColumn d) p q = f .opaque r
-  enters r x y (AColumn c) (ALiteral v) p q = f .entered r x c p
-  enters r x y (AColumn c) (AList l) p q = f .opaque r
-  enters r x y (AColumn c) Other p q = f .opaque r
-  enters r x y (ALiteral v) (AColumn c) p q = f .entered r y c q
-  enters r x y (ALiteral v) (ALiteral w) p q = f .opaque r
-  enters r x y (ALiteral v) (AList l) p q = f .opaque r
-  enters r x y (ALiteral v) Other p q = f .opaque r
-  enters r x y (AList l) t p q = f .opaque r
-  enters r x y Other t p q = f .opaque r
+      (r : AExpr Val) (o : Operator) (x y : ℕ) (s t : Operand Val) → isNullPropagatingComparison o ≡ false →
+      ordinaryComparison o ≡ none →
+      ((c : ℕ) (v : Val) → F y (AColumn c) → C r false (classifyLiteralColumn n c v (swapOperands o))) →
+      F x s → F y t → C r false (classifyComparison n o s t)
+  enters r o x y (AColumn c) (AColumn d) h k g p q = rw h (f .opaque r)
+  enters r o x y (AColumn c) (ALiteral v) h k g p q = rw k (f .entered r x c p)
+  enters r o x y (AColumn c) (AList l) h k g p q = f .opaque r
+  enters r o x y (AColumn c) Other h k g p q = f .opaque r
+  enters r o x y (ALiteral v) (AColumn c) h k g p q = g c v q
+  enters r o x y (ALiteral v) (ALiteral w) h k g p q = f .opaque r
+  enters r o x y (ALiteral v) (AList l) h k g p q = f .opaque r
+  enters r o x y (ALiteral v) Other h k g p q = f .opaque r
+  enters r o x y (AList l) t h k g p q = f .opaque r
+  enters r o x y Other t h k g p q = f .opaque r
 
   binary :
       (b : BinaryOp) (x y : ℕ) (s t : Operand Val) → F x s → F y t →
-      C (BinaryExpr b x y) (plainBinary b s t) (classifyComparison n (asComparison b) s t)
+      C (BinaryExpr b x y) (plainBinary b s t) (classifyComparison n (operatorOf b) s t)
   binary (Compare o) x y s t p q = compares o x y s t p q
-  binary EqValidity x y s t p q = enters (BinaryExpr EqValidity x y) x y s t p q
-  binary NotEqValidity x y s t p q = enters (BinaryExpr NotEqValidity x y) x y s t p q
-  binary FloorDivide x y s t p q = enters (BinaryExpr FloorDivide x y) x y s t p q
-  binary Modulus x y s t p q = enters (BinaryExpr Modulus x y) x y s t p q
-  binary And x y s t p q = enters (BinaryExpr And x y) x y s t p q
-  binary Or x y s t p q = enters (BinaryExpr Or x y) x y s t p q
-  binary Xor x y s t p q = enters (BinaryExpr Xor x y) x y s t p q
-  binary LogicalAnd x y s t p q = enters (BinaryExpr LogicalAnd x y) x y s t p q
-  binary LogicalOr x y s t p q = enters (BinaryExpr LogicalOr x y) x y s t p q
+  binary EqValidity x y s t p q =
+      let r = BinaryExpr EqValidity x y in
+      enters r operator.EqValidity x y s t refl refl (λ c v. f .entered r y c) p q
+  binary NotEqValidity x y s t p q =
+      let r = BinaryExpr NotEqValidity x y in
+      enters r operator.NotEqValidity x y s t refl refl (λ c v. f .entered r y c) p q
+  binary FloorDivide x y s t p q =
+      let r = BinaryExpr FloorDivide x y in
+      enters r operator.FloorDivide x y s t refl refl (λ c v j. f .opaque r) p q
+  binary Modulus x y s t p q =
+      let r = BinaryExpr Modulus x y in
+      enters r operator.Modulus x y s t refl refl (λ c v j. f .opaque r) p q
+  binary And x y s t p q =
+      let r = BinaryExpr And x y in
+      enters r operator.And x y s t refl refl (λ c v. f .entered r y c) p q
+  binary Or x y s t p q =
+      let r = BinaryExpr Or x y in
+      enters r operator.Or x y s t refl refl (λ c v. f .entered r y c) p q
+  binary Xor x y s t p q =
+      let r = BinaryExpr Xor x y in
+      enters r operator.Xor x y s t refl refl (λ c v. f .entered r y c) p q
+  binary LogicalAnd x y s t p q =
+      let r = BinaryExpr LogicalAnd x y in
+      enters r operator.LogicalAnd x y s t refl refl (λ c v. f .entered r y c) p q
+  binary LogicalOr x y s t p q =
+      let r = BinaryExpr LogicalOr x y in
+      enters r operator.LogicalOr x y s t refl refl (λ c v. f .entered r y c) p q
 
   -- Not of a comparison
   not-columns :
       (o : Comparison) (a x y b d : ℕ) → R a ≡ BinaryExpr (Compare o) x y → F x (AColumn b) → F y (AColumn d) →
-      C (Not a) false (normalized (classifyColumnColumn n b d (some (negateComparison o))))
+      C (Not a) false (normalized (classifyColumnColumn n b d (comparisonOperator (negateComparison o))))
   not-columns Eq a x y b d e p q = f .notPaired Eq a x y b d e p q
   not-columns NotEq a x y b d e p q = f .notUnequal a x y b d e p q
   not-columns Lt a x y b d e p q = f .notPaired Lt a x y b d e p q
@@ -137,12 +163,15 @@ module _ {Val : Type 0} (R : ℕ → AExpr Val) (n : ℕ) (F : ℕ → Operand V
 
   not-compares :
       (o : Comparison) (a x y : ℕ) (s t : Operand Val) → R a ≡ BinaryExpr (Compare o) x y → F x s → F y t →
-      C (Not a) (besideLiteral s t) (normalized (classifyComparison n (some (negateComparison o)) s t))
+      C (Not a) (besideLiteral s t) (normalized (classifyComparison n (comparisonOperator (negateComparison o)) s t))
   not-compares o a x y (AColumn c) (AColumn d) e p q = not-columns o a x y c d e p q
-  not-compares o a x y (AColumn c) (ALiteral v) e p q = f .notCompared o a x y c v e p q
+  not-compares o a x y (AColumn c) (ALiteral v) e p q =
+      rw (ordinary-of (negateComparison o)) (f .notCompared o a x y c v e p q)
   not-compares o a x y (AColumn c) (AList l) e p q = f .opaque (Not a)
   not-compares o a x y (AColumn c) Other e p q = f .opaque (Not a)
-  not-compares o a x y (ALiteral v) (AColumn c) e p q = f .notSwapped o a x y c v e p q
+  not-compares o a x y (ALiteral v) (AColumn c) e p q =
+      rw (swap-of (negateComparison o), ordinary-of (swapComparison (negateComparison o)))
+      (f .notSwapped o a x y c v e p q)
   not-compares o a x y (ALiteral v) (ALiteral w) e p q = f .opaque (Not a)
   not-compares o a x y (ALiteral v) (AList l) e p q = f .opaque (Not a)
   not-compares o a x y (ALiteral v) Other e p q = f .opaque (Not a)
@@ -152,7 +181,7 @@ module _ {Val : Type 0} (R : ℕ → AExpr Val) (n : ℕ) (F : ℕ → Operand V
   -- `negate` of an ordinary comparison is the complementary one
   negates :
       (o : Comparison) (s t : Operand Val) →
-      normalized (classifyComparison n (some (negateComparison o)) s t) ≡
+      normalized (classifyComparison n (comparisonOperator (negateComparison o)) s t) ≡
       classifyNegated n (negate (operatorOf (Compare o))) s t
   negates Eq s t = refl
   negates NotEq s t = refl
@@ -163,26 +192,27 @@ module _ {Val : Type 0} (R : ℕ → AExpr Val) (n : ℕ) (F : ℕ → Operand V
 
   -- the validity comparisons: a column beside a literal enters the table, and that is all
   not-enters :
-      (r : AExpr Val) (x y : ℕ) (s t : Operand Val) → F x s → F y t →
-      C r false (normalized (classifyComparison n none s t))
-  not-enters r x y (AColumn c) (AColumn d) p q = f .opaque r
-  not-enters r x y (AColumn c) (ALiteral v) p q = f .entered r x c p
-  not-enters r x y (AColumn c) (AList l) p q = f .opaque r
-  not-enters r x y (AColumn c) Other p q = f .opaque r
-  not-enters r x y (ALiteral v) (AColumn c) p q = f .entered r y c q
-  not-enters r x y (ALiteral v) (ALiteral w) p q = f .opaque r
-  not-enters r x y (ALiteral v) (AList l) p q = f .opaque r
-  not-enters r x y (ALiteral v) Other p q = f .opaque r
-  not-enters r x y (AList l) t p q = f .opaque r
-  not-enters r x y Other t p q = f .opaque r
+      (r : AExpr Val) (o : Operator) (x y : ℕ) (s t : Operand Val) → isNullPropagatingComparison o ≡ false →
+      ordinaryComparison o ≡ none → swapOperands o ≡ To o → F x s → F y t →
+      C r false (normalized (classifyComparison n o s t))
+  not-enters r o x y (AColumn c) (AColumn d) h k l p q = rw h (f .opaque r)
+  not-enters r o x y (AColumn c) (ALiteral v) h k l p q = rw k (f .entered r x c p)
+  not-enters r o x y (AColumn c) (AList m) h k l p q = f .opaque r
+  not-enters r o x y (AColumn c) Other h k l p q = f .opaque r
+  not-enters r o x y (ALiteral v) (AColumn c) h k l p q = rw (l, k) (f .entered r y c q)
+  not-enters r o x y (ALiteral v) (ALiteral w) h k l p q = f .opaque r
+  not-enters r o x y (ALiteral v) (AList m) h k l p q = f .opaque r
+  not-enters r o x y (ALiteral v) Other h k l p q = f .opaque r
+  not-enters r o x y (AList m) t h k l p q = f .opaque r
+  not-enters r o x y Other t h k l p q = f .opaque r
 
   not-binary :
       (b : BinaryOp) (a x y : ℕ) (s t : Operand Val) → R a ≡ BinaryExpr b x y → F x s → F y t →
       C (Not a) (plainCompared b s t) (classifyNegated n (negate (operatorOf b)) s t)
   not-binary (Compare o) a x y s t e p q =
       subst (λ c. C (Not a) (besideLiteral s t) c) (negates o s t) (not-compares o a x y s t e p q)
-  not-binary EqValidity a x y s t e p q = not-enters (Not a) x y s t p q
-  not-binary NotEqValidity a x y s t e p q = not-enters (Not a) x y s t p q
+  not-binary EqValidity a x y s t e p q = not-enters (Not a) operator.NotEqValidity x y s t refl refl refl p q
+  not-binary NotEqValidity a x y s t e p q = not-enters (Not a) operator.EqValidity x y s t refl refl refl p q
   not-binary FloorDivide a x y s t e p q = f .opaque (Not a)
   not-binary Modulus a x y s t e p q = f .opaque (Not a)
   not-binary And a x y s t e p q = f .opaque (Not a)

@@ -34,7 +34,7 @@ use Rattle.merge.proofs.Sound.{Fair, Holds}
 use Rattle.merge.proofs.Witness.{HalfPoints}
 use Rattle.merge.specs.Classify.{AColumn, AList, ALiteral, Bounds, Conjunct, Equality, NonNullPair, Normalized}
 use Rattle.merge.specs.Classify.{Opaque, Operand, Other, Recorded, classify, comparisonConstraints, operand}
-use Rattle.merge.specs.Classify.{swapComparison}
+use Rattle.merge.proofs.Operators.{swapComparison}
 use Rattle.merge.proofs.Forms.{ReadForms, read-ind}
 use Rattle.merge.proofs.PlainForms.{plainConjunct}
 use Rattle.constraints.specs.declared.column.Nullability.the-variants as required

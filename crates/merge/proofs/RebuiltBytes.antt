@@ -15,8 +15,9 @@ use Rattle.truth.specs.AExpr.{AExpr, Column, Literal, BinaryExpr, Compare, And}
 use Rattle.truth.specs.FromBytes.{toAExpr}
 use Rattle.constraints.specs.Comparisons.{ColumnComparison}
 use Rattle.merge.specs.Rebuild.{comparisonOf, valueOf, comparisonsEnd, andsEnd, foldUsed}
+use Rattle.merge.specs.Classify.{comparisonOperator}
 use Rattle.merge.specs.Write.{literalType}
-use Rattle.merge.specs.Write.{operatorOf, writeRecord, writeComparison, writeComparisons, writeAnds, foldBytes}
+use Rattle.merge.specs.Write.{writeRecord, writeComparison, writeComparisons, writeAnds, foldBytes}
 use Rattle.merge.proofs.Chains.{Below, below-more}
 use Rattle.merge.proofs.Rebuilding.{putRecord, addComparison, addComparisons, addAnds, foldRecords}
 use Rattle.merge.proofs.Written.{Word, Words, Holds, length-write, holds-put}
@@ -32,7 +33,7 @@ abbrev pub literalRecord : ℕ → ℕ → Record
 literalRecord ty v = kind.Literal ty v
 
 abbrev pub comparisonRecord : Comparison → ℕ → ℕ → Record
-comparisonRecord o x y = kind.Binary (operatorOf o) (node x) (node y)
+comparisonRecord o x y = kind.Binary (comparisonOperator o) (node x) (node y)
 
 abbrev pub andRecord : ℕ → ℕ → Record
 andRecord x y = kind.Binary operator.And (node x) (node y)

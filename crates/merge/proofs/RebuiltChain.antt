@@ -14,6 +14,7 @@ use Rattle.constraints.specs.Resolve.{fixedValue}
 use Rattle.constraints.specs.Scalars.{Scalars}
 use Rattle.constraints.specs.Values.{isEmpty}
 use Rattle.merge.specs.Minterms.{andSides, minterms, mintermsBy, sidesOf}
+use Rattle.merge.proofs.Operators.{ordinary-of}
 use Rattle.merge.specs.Classify.{Bounds, Normalized, Conjunct, Equality, NonNullPair, Opaque, Recorded, classify, readConjuncts}
 use Rattle.merge.specs.Collect.{Collected, Table, begin, collect, collectOne}
 use Rattle.merge.specs.Emit.{isFixed, keptEqualities, propagated}
@@ -168,7 +169,7 @@ module _ {Val : Type 0} where
       let b : Q (suc (suc u)) ≡ BinaryExpr (Compare (comparisonOf (x .1))) u (suc u) =
       h (suc (suc u)) (omega (arith, up)) ∙ comparisons-old cs R′ v (suc (suc u)) (omega arith) ∙ n .2 in
       let r = written-read cs R′ Q v h in
-      let e : classify Q (suc (suc u)) ≡ conjunctOf x = rw (b, c, d) in (
+      let e : classify Q (suc (suc u)) ≡ conjunctOf x = rw (b, c, d, ordinary-of (comparisonOf (x .1))) in (
         ap (λ k. k ∷ map (classify Q) (comparisonNodes v cs)) e ∙ ap (λ k. conjunctOf x ∷ k) (r .0),
         (ap andSides b, r .1),
       )

@@ -19,8 +19,9 @@ use Rattle.constraints.specs.Values.{isEmpty}
 use Rattle.merge.specs.Emit.{Rebuilt}
 use Rattle.merge.specs.Rebuild.{comparisonOf, valueOf, comparisonNodes, comparisonsEnd, andRoot, andsEnd}
 use Rattle.merge.specs.Rebuild.{foldRoot, foldUsed}
+use Rattle.merge.specs.Classify.{comparisonOperator}
 use Rattle.merge.specs.Write.{literalType}
-use Rattle.merge.specs.Write.{fieldBytes, operatorOf, writeRecord, writeComparison, writeComparisons, writeAnds}
+use Rattle.merge.specs.Write.{fieldBytes, writeRecord, writeComparison, writeComparisons, writeAnds}
 use Rattle.merge.specs.Write.{foldBytes}
 use Rattle.merge.specs.Write.{outcomeBytes}
 use Rattle.merge.proofs.Chains.{Below, below-more, below-app}
@@ -93,7 +94,7 @@ comparison-tree t rs u x room w hc hv = (e3 ∙ e2 ∙ e1, old, new)
     r2 = kind.Literal (literalType t (x .0)) (valueOf (x .1))
 
     r3 : Record
-    r3 = kind.Binary (operatorOf (comparisonOf (x .1))) (node u) (node (suc u))
+    r3 = kind.Binary (comparisonOperator (comparisonOf (x .1))) (node u) (node (suc u))
 
     rs1 : List ℕ
     rs1 = writeRecord rs u r1
@@ -135,7 +136,7 @@ comparison-tree t rs u x room w hc hv = (e3 ∙ e2 ∙ e1, old, new)
     new =
         tree-new rs2 (suc (suc u)) r3 m3 (u ∷ suc u ∷ [])
         (comparison-words (comparisonOf (x .1)) u (suc u) (omega arith) (omega arith))
-        (binary-inputs (operatorOf (comparisonOf (x .1))) u (suc u)) (omega arith, (omega arith, tt))
+        (binary-inputs (comparisonOperator (comparisonOf (x .1))) u (suc u)) (omega arith, (omega arith, tt))
         ∙ rw (t1, t2)
 
 comparisons-tree :

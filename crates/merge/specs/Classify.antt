@@ -5,11 +5,13 @@ use mathlib.Core.Option.{Option, none, some}
 use mathlib.Core.Bool.{Bool, true, false, not, _&&_, cond}
 use mathlib.Core.List.{List, [], _∷_, map}
 use Prim.Native.Nat.{ℕ}
-use lib.Dec.{leb}
+use lib.Dec.{leb, eqb}
 use lib.ListN.{length}
-use Rattle.records.specs.Operator.{negate}
+use Rattle.records.specs.Operator.{codeOf, isNullPropagatingComparison, swapOperands, negate}
 use Rattle.records.specs.declared.operator.Operator.{Operator}
 use Rattle.records.specs.declared.operator.Operator.the-variants as operator
+use Rattle.records.specs.declared.operator.Swapped.{Swapped}
+use Rattle.records.specs.declared.operator.Swapped.the-variants.{Nothing, To}
 use Rattle.records.specs.declared.operator.Negated.{Negated}
 use Rattle.records.specs.declared.operator.Negated.the-variants as negated
 use Rattle.truth.specs.Comparison.{Comparison, Eq, NotEq, Lt, LtEq, Gt, GtEq}
@@ -62,77 +64,16 @@ operand (IsIn nullsEqual a list) = Other
 operand Missing = Other
 
 -- ---- `classify_comparison`.
-abbrev pub swapComparison : Comparison → Comparison
-swapComparison Eq = Eq
-swapComparison NotEq = NotEq
-swapComparison Lt = Gt
-swapComparison LtEq = GtEq
-swapComparison Gt = Lt
-swapComparison GtEq = LtEq
+abbrev pub comparisonOperator : Comparison → Operator
+comparisonOperator Eq = operator.Eq
+comparisonOperator NotEq = operator.NotEq
+comparisonOperator Lt = operator.Lt
+comparisonOperator LtEq = operator.LtEq
+comparisonOperator Gt = operator.Gt
+comparisonOperator GtEq = operator.GtEq
 
--- The comparison that an operator is, if it is one of the six.
-abbrev pub asComparison : BinaryOp → Option Comparison
-asComparison (Compare o) = some o
-asComparison EqValidity = none
-asComparison NotEqValidity = none
-asComparison FloorDivide = none
-asComparison Modulus = none
-asComparison And = none
-asComparison Or = none
-asComparison Xor = none
-asComparison LogicalAnd = none
-asComparison LogicalOr = none
-
--- `swap_operands`: `lit op col` is read as `col op' lit`.
-abbrev pub swapOperands : Option Comparison → Option Comparison
-swapOperands none = none
-swapOperands (some o) = some (swapComparison o)
-
--- `col op lit` as bounds and excluded values; `==` is a lower and an upper bound, both inclusive.
-abbrev pub comparisonConstraints : {Val : Type 0} → Comparison → Val → List (Constraint Val)
-comparisonConstraints Eq v = Lower true v ∷ (Upper true v ∷ [])
-comparisonConstraints NotEq v = Exclude v ∷ []
-comparisonConstraints Lt v = Upper false v ∷ []
-comparisonConstraints LtEq v = Upper true v ∷ []
-comparisonConstraints Gt v = Lower false v ∷ []
-comparisonConstraints GtEq v = Lower true v ∷ []
-
--- A column and a literal: the column enters the table whatever the operator; all but the six comparisons stay opaque.
-abbrev pub classifyColumnLiteral : {Val : Type 0} → ℕ → ℕ → Val → Option Comparison → Conjunct Val
-classifyColumnLiteral n c v (some o) = Bounds c (comparisonConstraints o v)
-classifyColumnLiteral n c v none = Recorded false n c []
-
--- Two columns: only the comparisons that propagate nulls say something, and enter the columns.
-abbrev pub classifyColumnColumn : {Val : Type 0} → ℕ → ℕ → ℕ → Option Comparison → Conjunct Val
-classifyColumnColumn n a b (some Eq) = Equality a b n
-classifyColumnColumn n a b (some NotEq) = NonNullPair n a b
-classifyColumnColumn n a b (some Lt) = NonNullPair n a b
-classifyColumnColumn n a b (some LtEq) = NonNullPair n a b
-classifyColumnColumn n a b (some Gt) = NonNullPair n a b
-classifyColumnColumn n a b (some GtEq) = NonNullPair n a b
-classifyColumnColumn n a b none = Opaque n
-
-abbrev pub classifyComparison : {Val : Type 0} → ℕ → Option Comparison → Operand Val → Operand Val → Conjunct Val
-classifyComparison n op (AColumn a) (AColumn b) = classifyColumnColumn n a b op
-classifyComparison n op (AColumn c) (ALiteral v) = classifyColumnLiteral n c v op
-classifyComparison n op (AColumn c) (AList values) = Opaque n
-classifyComparison n op (AColumn c) Other = Opaque n
-classifyComparison n op (ALiteral v) (AColumn c) = classifyColumnLiteral n c v (swapOperands op)
-classifyComparison n op (ALiteral v) (ALiteral w) = Opaque n
-classifyComparison n op (ALiteral v) (AList values) = Opaque n
-classifyComparison n op (ALiteral v) Other = Opaque n
-classifyComparison n op (AList values) right = Opaque n
-classifyComparison n op Other right = Opaque n
-
--- ---- `classify_negation` of a comparison: that of the complementary operator, where it has one. Bounds so read force
--- the rebuild; an edge, or a conjunct that stays, is what it is without Not.
 abbrev pub operatorOf : BinaryOp → Operator
-operatorOf (Compare Eq) = operator.Eq
-operatorOf (Compare NotEq) = operator.NotEq
-operatorOf (Compare Lt) = operator.Lt
-operatorOf (Compare LtEq) = operator.LtEq
-operatorOf (Compare Gt) = operator.Gt
-operatorOf (Compare GtEq) = operator.GtEq
+operatorOf (Compare o) = comparisonOperator o
 operatorOf EqValidity = operator.EqValidity
 operatorOf NotEqValidity = operator.NotEqValidity
 operatorOf FloorDivide = operator.FloorDivide
@@ -166,6 +107,45 @@ ordinaryComparison operator.Xor = none
 ordinaryComparison operator.LogicalAnd = none
 ordinaryComparison operator.LogicalOr = none
 
+-- `col op lit` as bounds and excluded values; `==` is a lower and an upper bound, both inclusive.
+abbrev pub comparisonConstraints : {Val : Type 0} → Comparison → Val → List (Constraint Val)
+comparisonConstraints Eq v = Lower true v ∷ (Upper true v ∷ [])
+comparisonConstraints NotEq v = Exclude v ∷ []
+comparisonConstraints Lt v = Upper false v ∷ []
+comparisonConstraints LtEq v = Upper true v ∷ []
+comparisonConstraints Gt v = Lower false v ∷ []
+comparisonConstraints GtEq v = Lower true v ∷ []
+
+-- A column and a literal: the column enters the table whatever the operator; all but the six comparisons stay opaque.
+abbrev pub classifyColumnLiteral : {Val : Type 0} → ℕ → ℕ → Val → Option Comparison → Conjunct Val
+classifyColumnLiteral n c v (some o) = Bounds c (comparisonConstraints o v)
+classifyColumnLiteral n c v none = Recorded false n c []
+
+-- `lit op col` is read as `col op' lit`, with the operator of `swap_operands` where there is one.
+abbrev pub classifyLiteralColumn : {Val : Type 0} → ℕ → ℕ → Val → Swapped → Conjunct Val
+classifyLiteralColumn n c v Nothing = Opaque n
+classifyLiteralColumn n c v (To o) = classifyColumnLiteral n c v (ordinaryComparison o)
+
+-- Two columns: only the comparisons that propagate nulls say something, and enter the columns.
+abbrev pub classifyColumnColumn : {Val : Type 0} → ℕ → ℕ → ℕ → Operator → Conjunct Val
+classifyColumnColumn n a b o =
+    cond (isNullPropagatingComparison o)
+    (cond (eqb (codeOf o) (codeOf operator.Eq)) (Equality a b n) (NonNullPair n a b)) (Opaque n)
+
+abbrev pub classifyComparison : {Val : Type 0} → ℕ → Operator → Operand Val → Operand Val → Conjunct Val
+classifyComparison n o (AColumn a) (AColumn b) = classifyColumnColumn n a b o
+classifyComparison n o (AColumn c) (ALiteral v) = classifyColumnLiteral n c v (ordinaryComparison o)
+classifyComparison n o (AColumn c) (AList values) = Opaque n
+classifyComparison n o (AColumn c) Other = Opaque n
+classifyComparison n o (ALiteral v) (AColumn c) = classifyLiteralColumn n c v (swapOperands o)
+classifyComparison n o (ALiteral v) (ALiteral w) = Opaque n
+classifyComparison n o (ALiteral v) (AList values) = Opaque n
+classifyComparison n o (ALiteral v) Other = Opaque n
+classifyComparison n o (AList values) right = Opaque n
+classifyComparison n o Other right = Opaque n
+
+-- ---- `classify_negation` of a comparison: that of the complementary operator, where it has one. Bounds so read force
+-- the rebuild; an edge, or a conjunct that stays, is what it is without Not.
 abbrev pub normalized : {Val : Type 0} → Conjunct Val → Conjunct Val
 normalized (Bounds c l) = Normalized c l
 normalized (Normalized c l) = Normalized c l
@@ -176,7 +156,7 @@ normalized (Opaque n) = Opaque n
 
 abbrev pub classifyNegated : {Val : Type 0} → ℕ → Negated → Operand Val → Operand Val → Conjunct Val
 classifyNegated n negated.Nothing left right = Opaque n
-classifyNegated n (negated.To o) left right = normalized (classifyComparison n (ordinaryComparison o) left right)
+classifyNegated n (negated.To o) left right = normalized (classifyComparison n o left right)
 
 -- ---- `classify_is_between`: a lower and an upper bound, inclusive or not.
 abbrev pub classifyIsBetween : {Val : Type 0} → ℕ → Bool → Bool → Operand Val → Operand Val → Operand Val →
@@ -231,7 +211,7 @@ module _ {Val : Type 0} (R : ℕ → AExpr Val) where
   classifyRecord n (Literal v) = Opaque n
   classifyRecord n Null = Opaque n
   classifyRecord n (BinaryExpr op left right) =
-      classifyComparison n (asComparison op) (operand (R left)) (operand (R right))
+      classifyComparison n (operatorOf op) (operand (R left)) (operand (R right))
   classifyRecord n (Not a) = classifyNegation n (R a)
   classifyRecord n (IsNull a) = classifyNull n required.Null (operand (R a))
   classifyRecord n (IsNotNull a) = classifyNull n NonNull (operand (R a))

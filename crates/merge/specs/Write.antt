@@ -3,13 +3,12 @@ use mathlib.Core.List.{List, [], _∷_, _++_}
 use Prim.Native.Nat.{ℕ, suc, _+_, _*_, _/_, _%_}
 use lib.ListN.{length, getD, take, drop}
 use Rattle.records.specs.Record.{node, columnNumber, encode}
-use Rattle.records.specs.declared.operator.Operator.{Operator}
 use Rattle.records.specs.declared.operator.Operator.the-variants as operator
 use Rattle.records.specs.declared.record.Fields.{Fields}
 use Rattle.records.specs.declared.record.Record.{Record}
 use Rattle.records.specs.declared.record.Record.the-variants as kind
-use Rattle.truth.specs.Comparison.{Comparison, Eq, NotEq, Lt, LtEq, Gt, GtEq}
 use Rattle.constraints.specs.Comparisons.{ColumnComparison}
+use Rattle.merge.specs.Classify.{comparisonOperator}
 use Rattle.merge.specs.Emit.{Outcome, Unchanged, NothingPasses, Rebuilt}
 use Rattle.merge.specs.Rebuild.{comparisonOf, valueOf, comparisonNodes, comparisonsEnd}
 
@@ -30,14 +29,6 @@ splice l at vs = take at l ++ (vs ++ drop (at + length vs) l)
 abbrev pub writeRecord : List ℕ → ℕ → Record → List ℕ
 writeRecord rs n r = splice rs (16 * n) (fieldBytes (encode r))
 
-abbrev pub operatorOf : Comparison → Operator
-operatorOf Eq = operator.Eq
-operatorOf NotEq = operator.NotEq
-operatorOf Lt = operator.Lt
-operatorOf LtEq = operator.LtEq
-operatorOf Gt = operator.Gt
-operatorOf GtEq = operator.GtEq
-
 -- The type of the literal that is written beside column c: the column's.
 abbrev pub literalType : List ℕ → ℕ → ℕ
 literalType t c = getD t c 0
@@ -49,7 +40,7 @@ writeComparison t u x rs =
     (writeRecord
     (writeRecord rs u (kind.Column (columnNumber (x .0))))
     (suc u) (kind.Literal (literalType t (x .0)) (valueOf (x .1))))
-    (suc (suc u)) (kind.Binary (operatorOf (comparisonOf (x .1))) (node u) (node (suc u)))
+    (suc (suc u)) (kind.Binary (comparisonOperator (comparisonOf (x .1))) (node u) (node (suc u)))
 
 abbrev pub writeComparisons : List ℕ → ℕ → List (ℕ × ColumnComparison ℕ) → List ℕ → List ℕ
 writeComparisons t u [] rs = rs

@@ -5,8 +5,8 @@ use mathlib.Core.List.{List, [], _∷_}
 use Prim.Native.Nat.{ℕ, zero, suc, _≤_, _<_}
 use lib.Dec.{leb}
 use lib.ListN.{length}
-use borrow.Author.Tests.{le-leb, lt-leb}
-use Rattle.records.specs.Operator.{negate}
+use borrow.Author.Tests.{le-leb, lt-leb, eq-eqb, ne-eqb}
+use Rattle.records.specs.Operator.{codeOf, isNullPropagatingComparison, negate}
 use Rattle.records.specs.Record.{node, recordAt}
 use Rattle.records.specs.declared.operator.Operator.{Operator}
 use Rattle.records.specs.declared.operator.Operator.the-variants as operator
@@ -14,19 +14,11 @@ use Rattle.records.specs.declared.operator.Negated.{Negated}
 use Rattle.records.specs.declared.record.Node.{Node}
 use Rattle.records.specs.declared.record.Record.{Record}
 use Rattle.records.specs.declared.record.Record.the-variants as kind
-use Rattle.truth.specs.Comparison as truth
 use Rattle.truth.specs.AExpr.{AExpr}
-use Rattle.truth.specs.AExpr.{BinaryOp, Compare, EqValidity, NotEqValidity, And, Or, Xor, LogicalAnd, LogicalOr}
-use Rattle.truth.specs.AExpr.{FloorDivide, Modulus}
 use Rattle.truth.specs.FromBytes.{valuesFrom, binaryExpr, toAExpr, aexprOf}
-use Rattle.merge.specs.Classify.{Operand, AColumn, ALiteral, AList, Other, operand, Conjunct, Opaque, asComparison}
-use Rattle.merge.specs.Classify.{classifyColumnLiteral, classifyColumnColumn, classifyComparison}
-use Rattle.merge.specs.Classify.{classifyNegation, normalized, swapOperands, classifyRecord, classify}
-use Rattle.rewrite.specs.Read.{operationOf, columnLiteral, columnColumn, swappedOperation, compared, negatedIn}
-use Rattle.rewrite.specs.declared.classify.Comparison as code
-use Rattle.rewrite.specs.declared.classify.Comparison.the-variants as comparison
-use Rattle.rewrite.specs.declared.classify.Operation.{Operation}
-use Rattle.rewrite.specs.declared.classify.Operation.the-variants as operation
+use Rattle.merge.specs.Classify.{Operand, AList, Other, operand, Equality, NonNullPair, classifyColumnColumn}
+use Rattle.merge.specs.Classify.{classifyNegated, classifyNegation, classifyRecord, classify}
+use Rattle.rewrite.specs.Read.{binaryConjunct}
 
 pub values-length : (p : List ℕ) (start count : ℕ) → length (valuesFrom p start count) ≡ count
 unfolding valuesFrom
@@ -85,147 +77,59 @@ pub operand-law : (rs p : List ℕ) (n : Node) (r : Record) → r ≡ recordAt r
 unfolding aexprOf
 operand-law rs p n r e = ap (λ q. operand (toAExpr p q)) e
 
--- ---- A comparison, by what matters of its operator.
-abbrev operationIn : BinaryOp → Operation
-operationIn (Compare truth.Eq) = operation.Compare comparison.Eq
-operationIn (Compare truth.NotEq) = operation.Compare comparison.NotEq
-operationIn (Compare truth.Lt) = operation.Compare comparison.Lt
-operationIn (Compare truth.LtEq) = operation.Compare comparison.LtEq
-operationIn (Compare truth.Gt) = operation.Compare comparison.Gt
-operationIn (Compare truth.GtEq) = operation.Compare comparison.GtEq
-operationIn EqValidity = operation.Other
-operationIn NotEqValidity = operation.Other
-operationIn FloorDivide = operation.Other
-operationIn Modulus = operation.Other
-operationIn And = operation.Other
-operationIn Or = operation.Other
-operationIn Xor = operation.Other
-operationIn LogicalAnd = operation.Other
-operationIn LogicalOr = operation.Other
-
-literal-same : (n a v : ℕ) (b : BinaryOp) → columnLiteral n a v (operationIn b) ≡
-    classifyColumnLiteral n a v (asComparison b)
-literal-same n a v (Compare truth.Eq) = refl
-literal-same n a v (Compare truth.NotEq) = refl
-literal-same n a v (Compare truth.Lt) = refl
-literal-same n a v (Compare truth.LtEq) = refl
-literal-same n a v (Compare truth.Gt) = refl
-literal-same n a v (Compare truth.GtEq) = refl
-literal-same n a v EqValidity = refl
-literal-same n a v NotEqValidity = refl
-literal-same n a v FloorDivide = refl
-literal-same n a v Modulus = refl
-literal-same n a v And = refl
-literal-same n a v Or = refl
-literal-same n a v Xor = refl
-literal-same n a v LogicalAnd = refl
-literal-same n a v LogicalOr = refl
-
-swap-same : (n a v : ℕ) (b : BinaryOp)
-    → columnLiteral n a v (swappedOperation (operationIn b)) ≡
-    classifyColumnLiteral n a v (swapOperands (asComparison b))
-swap-same n a v (Compare truth.Eq) = refl
-swap-same n a v (Compare truth.NotEq) = refl
-swap-same n a v (Compare truth.Lt) = refl
-swap-same n a v (Compare truth.LtEq) = refl
-swap-same n a v (Compare truth.Gt) = refl
-swap-same n a v (Compare truth.GtEq) = refl
-swap-same n a v EqValidity = refl
-swap-same n a v NotEqValidity = refl
-swap-same n a v FloorDivide = refl
-swap-same n a v Modulus = refl
-swap-same n a v And = refl
-swap-same n a v Or = refl
-swap-same n a v Xor = refl
-swap-same n a v LogicalAnd = refl
-swap-same n a v LogicalOr = refl
-
-column-same : (n a b : ℕ) (o : BinaryOp) → columnColumn n a b (operationIn o) ≡
-    classifyColumnColumn n a b (asComparison o)
-column-same n a b (Compare truth.Eq) = refl
-column-same n a b (Compare truth.NotEq) = refl
-column-same n a b (Compare truth.Lt) = refl
-column-same n a b (Compare truth.LtEq) = refl
-column-same n a b (Compare truth.Gt) = refl
-column-same n a b (Compare truth.GtEq) = refl
-column-same n a b EqValidity = refl
-column-same n a b NotEqValidity = refl
-column-same n a b FloorDivide = refl
-column-same n a b Modulus = refl
-column-same n a b And = refl
-column-same n a b Or = refl
-column-same n a b Xor = refl
-column-same n a b LogicalAnd = refl
-column-same n a b LogicalOr = refl
-
-compared-same : (n : ℕ) (o : BinaryOp) (l r : Operand ℕ) → compared n (operationIn o) l r ≡
-    classifyComparison n (asComparison o) l r
-compared-same n o (AColumn a) (AColumn b) = column-same n a b o
-compared-same n o (AColumn a) (ALiteral v) = literal-same n a v o
-compared-same n o (AColumn a) (AList l) = refl
-compared-same n o (AColumn a) Other = refl
-compared-same n o (ALiteral v) (AColumn a) = swap-same n a v o
-compared-same n o (ALiteral v) (ALiteral w) = refl
-compared-same n o (ALiteral v) (AList l) = refl
-compared-same n o (ALiteral v) Other = refl
-compared-same n o (AList l) r = refl
-compared-same n o Other r = refl
-
-compared-missing : (n : ℕ) (l r : Operand ℕ) → compared n operation.Missing l r ≡ Opaque n
-compared-missing n (AColumn a) (AColumn b) = refl
-compared-missing n (AColumn a) (ALiteral v) = refl
-compared-missing n (AColumn a) (AList l) = refl
-compared-missing n (AColumn a) Other = refl
-compared-missing n (ALiteral v) (AColumn a) = refl
-compared-missing n (ALiteral v) (ALiteral w) = refl
-compared-missing n (ALiteral v) (AList l) = refl
-compared-missing n (ALiteral v) Other = refl
-compared-missing n (AList l) r = refl
-compared-missing n Other r = refl
-
+-- ---- A comparison.
 binary-same : (R : ℕ → AExpr ℕ) (n x y : ℕ) (o : Operator)
-    → compared n (operationOf o) (operand (R x)) (operand (R y)) ≡ classifyRecord R n (binaryExpr o x y)
-binary-same R n x y operator.Eq = compared-same n (Compare truth.Eq) (operand (R x)) (operand (R y))
-binary-same R n x y operator.EqValidity = compared-same n EqValidity (operand (R x)) (operand (R y))
-binary-same R n x y operator.NotEq = compared-same n (Compare truth.NotEq) (operand (R x)) (operand (R y))
-binary-same R n x y operator.NotEqValidity = compared-same n NotEqValidity (operand (R x)) (operand (R y))
-binary-same R n x y operator.Lt = compared-same n (Compare truth.Lt) (operand (R x)) (operand (R y))
-binary-same R n x y operator.LtEq = compared-same n (Compare truth.LtEq) (operand (R x)) (operand (R y))
-binary-same R n x y operator.Gt = compared-same n (Compare truth.Gt) (operand (R x)) (operand (R y))
-binary-same R n x y operator.GtEq = compared-same n (Compare truth.GtEq) (operand (R x)) (operand (R y))
-binary-same R n x y operator.Plus = compared-missing n (operand (R x)) (operand (R y))
-binary-same R n x y operator.Minus = compared-missing n (operand (R x)) (operand (R y))
-binary-same R n x y operator.Multiply = compared-missing n (operand (R x)) (operand (R y))
-binary-same R n x y operator.RustDivide = compared-missing n (operand (R x)) (operand (R y))
-binary-same R n x y operator.TrueDivide = compared-missing n (operand (R x)) (operand (R y))
-binary-same R n x y operator.FloorDivide = compared-same n FloorDivide (operand (R x)) (operand (R y))
-binary-same R n x y operator.Modulus = compared-same n Modulus (operand (R x)) (operand (R y))
-binary-same R n x y operator.And = compared-same n And (operand (R x)) (operand (R y))
-binary-same R n x y operator.Or = compared-same n Or (operand (R x)) (operand (R y))
-binary-same R n x y operator.Xor = compared-same n Xor (operand (R x)) (operand (R y))
-binary-same R n x y operator.LogicalAnd = compared-same n LogicalAnd (operand (R x)) (operand (R y))
-binary-same R n x y operator.LogicalOr = compared-same n LogicalOr (operand (R x)) (operand (R y))
+    → binaryConjunct n o (operand (R x)) (operand (R y)) ≡ classifyRecord R n (binaryExpr o x y)
+binary-same R n x y operator.Eq = refl
+binary-same R n x y operator.EqValidity = refl
+binary-same R n x y operator.NotEq = refl
+binary-same R n x y operator.NotEqValidity = refl
+binary-same R n x y operator.Lt = refl
+binary-same R n x y operator.LtEq = refl
+binary-same R n x y operator.Gt = refl
+binary-same R n x y operator.GtEq = refl
+binary-same R n x y operator.Plus = refl
+binary-same R n x y operator.Minus = refl
+binary-same R n x y operator.Multiply = refl
+binary-same R n x y operator.RustDivide = refl
+binary-same R n x y operator.TrueDivide = refl
+binary-same R n x y operator.FloorDivide = refl
+binary-same R n x y operator.Modulus = refl
+binary-same R n x y operator.And = refl
+binary-same R n x y operator.Or = refl
+binary-same R n x y operator.Xor = refl
+binary-same R n x y operator.LogicalAnd = refl
+binary-same R n x y operator.LogicalOr = refl
 
-pub binary-law : (rs p : List ℕ) (n : ℕ) (r : Record) (o : Operator) (x y : Node) (k : Operation) (a b : Operand ℕ)
-    → r ≡ kind.Binary o x y → k ≡ operationOf o → a ≡ operand (aexprOf rs p (x .0)) → b ≡ operand (aexprOf rs p (y .0))
-    → compared n k a b ≡ classifyRecord (aexprOf rs p) n (toAExpr p r)
-binary-law rs p n r o x y k a b e f g h =
-    ap (λ j. compared n j a b) f ∙ ap (λ l. compared n (operationOf o) l b) g
-    ∙ ap (λ l. compared n (operationOf o) (operand (aexprOf rs p (x .0))) l) h
+pub binary-law : (rs p : List ℕ) (n : ℕ) (r : Record) (o k : Operator) (x y : Node) (a b : Operand ℕ)
+    → r ≡ kind.Binary o x y → k ≡ o → a ≡ operand (aexprOf rs p (x .0)) → b ≡ operand (aexprOf rs p (y .0))
+    → binaryConjunct n k a b ≡ classifyRecord (aexprOf rs p) n (toAExpr p r)
+binary-law rs p n r o k x y a b e f g h =
+    ap (λ j. binaryConjunct n j a b) f ∙ ap (λ l. binaryConjunct n o l b) g
+    ∙ ap (λ l. binaryConjunct n o (operand (aexprOf rs p (x .0))) l) h
     ∙ binary-same (aexprOf rs p) n (x .0) (y .0) o
     ∙ ap (λ q. classifyRecord (aexprOf rs p) n (toAExpr p q)) (sym e)
 
+-- ---- Two columns, by the code k of the operator.
+pub columns-equal : (n a b : ℕ) (o : Operator) (k : ℕ) → isNullPropagatingComparison o ≡ true → k ≡ codeOf o → k ≡ 0
+    → Equality a b n ≡ classifyColumnColumn {Val = ℕ} n a b o
+columns-equal n a b o k h e z = rw (h, eq-eqb (codeOf o) 0 (sym e ∙ z))
+
+pub columns-paired : (n a b : ℕ) (o : Operator) (k : ℕ) → isNullPropagatingComparison o ≡ true → k ≡ codeOf o
+    → (k ≡ 0 → ⊥) → NonNullPair n a b ≡ classifyColumnColumn {Val = ℕ} n a b o
+columns-paired n a b o k h e z = rw (h, ne-eqb (codeOf o) 0 (λ q. z (e ∙ q)))
+
 -- ---- A comparison below Not.
 negated-same : (R : ℕ → AExpr ℕ) (n x y : ℕ) (o : Operator)
-    → negatedIn n (negate o) (operand (R x)) (operand (R y)) ≡ classifyNegation R n (binaryExpr o x y)
-negated-same R n x y operator.Eq = ap normalized (compared-same n (Compare truth.NotEq) (operand (R x)) (operand (R y)))
-negated-same R n x y operator.EqValidity = ap normalized (compared-same n NotEqValidity (operand (R x)) (operand (R y)))
-negated-same R n x y operator.NotEq = ap normalized (compared-same n (Compare truth.Eq) (operand (R x)) (operand (R y)))
-negated-same R n x y operator.NotEqValidity = ap normalized (compared-same n EqValidity (operand (R x)) (operand (R y)))
-negated-same R n x y operator.Lt = ap normalized (compared-same n (Compare truth.GtEq) (operand (R x)) (operand (R y)))
-negated-same R n x y operator.LtEq = ap normalized (compared-same n (Compare truth.Gt) (operand (R x)) (operand (R y)))
-negated-same R n x y operator.Gt = ap normalized (compared-same n (Compare truth.LtEq) (operand (R x)) (operand (R y)))
-negated-same R n x y operator.GtEq = ap normalized (compared-same n (Compare truth.Lt) (operand (R x)) (operand (R y)))
+    → classifyNegated n (negate o) (operand (R x)) (operand (R y)) ≡ classifyNegation R n (binaryExpr o x y)
+negated-same R n x y operator.Eq = refl
+negated-same R n x y operator.EqValidity = refl
+negated-same R n x y operator.NotEq = refl
+negated-same R n x y operator.NotEqValidity = refl
+negated-same R n x y operator.Lt = refl
+negated-same R n x y operator.LtEq = refl
+negated-same R n x y operator.Gt = refl
+negated-same R n x y operator.GtEq = refl
 negated-same R n x y operator.Plus = refl
 negated-same R n x y operator.Minus = refl
 negated-same R n x y operator.Multiply = refl
@@ -241,9 +145,9 @@ negated-same R n x y operator.LogicalOr = refl
 
 pub negation-binary : (rs p : List ℕ) (n : ℕ) (r : Record) (o : Operator) (x y : Node) (k : Negated) (a b : Operand ℕ)
     → r ≡ kind.Binary o x y → k ≡ negate o → a ≡ operand (aexprOf rs p (x .0)) → b ≡ operand (aexprOf rs p (y .0))
-    → negatedIn n k a b ≡ classifyNegation (aexprOf rs p) n (toAExpr p r)
+    → classifyNegated n k a b ≡ classifyNegation (aexprOf rs p) n (toAExpr p r)
 negation-binary rs p n r o x y k a b e f g h =
-    ap (λ j. negatedIn n j a b) f ∙ ap (λ l. negatedIn n (negate o) l b) g
-    ∙ ap (λ l. negatedIn n (negate o) (operand (aexprOf rs p (x .0))) l) h
+    ap (λ j. classifyNegated n j a b) f ∙ ap (λ l. classifyNegated n (negate o) l b) g
+    ∙ ap (λ l. classifyNegated n (negate o) (operand (aexprOf rs p (x .0))) l) h
     ∙ negated-same (aexprOf rs p) n (x .0) (y .0) o
     ∙ ap (λ q. classifyNegation (aexprOf rs p) n (toAExpr p q)) (sym e)

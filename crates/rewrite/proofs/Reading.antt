@@ -22,9 +22,8 @@ use Rattle.records.proofs.RoundTrips.{code-back}
 use Rattle.truth.specs.FromBytes.{valuesFrom, binaryExpr, toAExpr, aexprOf}
 use Rattle.merge.specs.Classify.{Operand, AColumn, ALiteral, AList, Other, operand, classify}
 use Rattle.merge.specs.Minterms.{andSides}
-use Rattle.rewrite.specs.Read.{operationOf, compared}
+use Rattle.rewrite.specs.Read.{binaryConjunct}
 use Rattle.rewrite.specs.Walk.{recordSides}
-use Rattle.rewrite.specs.declared.classify.Operation.{Operation}
 use Rattle.rewrite.proofs.Classifying.{no-operand, binary-law, classify-law}
 
 -- What holds of each kind's record, where the kind is that one, holds of the record.
@@ -158,12 +157,12 @@ module _ (rs : List ℕ) (n : Node) where
     operand-list start count e g h = rw (e, g, h)
 
     -- ---- A comparison.
-    pub binary-read : (k : Operation) (x y : ℕ) (a b : Operand ℕ) → getD rs (16 * n .0) 0 ≡ 4
-        → k ≡ operationOf (operatorAt (getD rs (16 * n .0 + 1) 0)) → x ≡ word rs (16 * n .0 + 4)
+    pub binary-read : (k : Operator) (x y : ℕ) (a b : Operand ℕ) → getD rs (16 * n .0) 0 ≡ 4
+        → k ≡ operatorAt (getD rs (16 * n .0 + 1) 0) → x ≡ word rs (16 * n .0 + 4)
         → y ≡ word rs (16 * n .0 + 8) → a ≡ operand (aexprOf rs p x) → b ≡ operand (aexprOf rs p y)
-        → compared (n .0) k a b ≡ classify (aexprOf rs p) (n .0)
+        → binaryConjunct (n .0) k a b ≡ classify (aexprOf rs p) (n .0)
     binary-read k x y a b e f g h i j =
-        binary-law rs p (n .0) (recordAt rs n) (operatorAt (getD rs (16 * n .0 + 1) 0)) (node (word rs (16 * n .0 + 4)))
-        (node (word rs (16 * n .0 + 8))) k a b (record-binary e) f (i ∙ ap (λ m. operand (aexprOf rs p m)) g)
+        binary-law rs p (n .0) (recordAt rs n) (operatorAt (getD rs (16 * n .0 + 1) 0)) k (node (word rs (16 * n .0 + 4)))
+        (node (word rs (16 * n .0 + 8))) a b (record-binary e) f (i ∙ ap (λ m. operand (aexprOf rs p m)) g)
         (j ∙ ap (λ m. operand (aexprOf rs p m)) h)
         ∙ classify-law rs p n (recordAt rs n) refl

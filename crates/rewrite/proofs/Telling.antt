@@ -1,6 +1,7 @@
 -- The tables say what the conjuncts say.
 use mathlib.Core.Path.{_≡_, refl, sym, _∙_, ap, subst}
-use mathlib.Core.Bool.{Bool, true, false, not, _&&_, true≢false}
+use mathlib.Core.Bool.{Bool, true, false, not, _&&_, cond, true≢false}
+use mathlib.Core.Option.{Option, none, some}
 use mathlib.Core.List.{List, [], _∷_}
 use Prim.Native.Nat.{ℕ, zero, suc, _+_, _*_, _≤_, _<_}
 use native.Mathlib.Omega.{arith}
@@ -9,21 +10,19 @@ use lib.ListN.{length, getD, set, drop}
 use lib.Seq.{getD-set-same, getD-set-other}
 use borrow.Author.Tests.{eqb-true, eqb-false, not-true}
 use Rattle.records.specs.Bytes.{word}
-use Rattle.records.specs.Operator.{operators, operatorAt}
+use Rattle.records.specs.Operator.{operators, operatorAt, codeOf, isLeftOut, isNullPropagatingComparison, swapOperands}
 use Rattle.records.specs.declared.operator.Operator.{Operator}
 use Rattle.records.specs.declared.operator.Operator.the-variants as operator
 use Rattle.records.specs.declared.record.Node.{Node}
 use Rattle.records.proofs.Laws.{by-test, and-left, and-right}
+use Rattle.truth.specs.Comparison as truth
 use Rattle.truth.specs.FromBytes.{valuesFrom, aexprOf}
 use Rattle.constraints.specs.Column.{Constraint, Lower, Upper, Exclude, Allow, Disallow, Require}
 use Rattle.columns.specs.Abstraction.{Conjuncts, conjuncts, listOf, marked, Fine}
 use Rattle.merge.specs.Classify as c
-use Rattle.rewrite.specs.Read.{saysIn, conjunctIn, operationOf, compared, columnLiteral, columnColumn}
-use Rattle.rewrite.specs.Read.{swappedOperation}
+use Rattle.rewrite.specs.Read.{saysIn, conjunctIn}
 use Rattle.rewrite.specs.Told.{saidBy, kindOf, literalOf, startOf, countOf, Holds, Told, ToldConjunct}
 use Rattle.rewrite.specs.declared.classify.Comparison.the-variants.{Eq, NotEq, Lt, LtEq, Gt, GtEq}
-use Rattle.rewrite.specs.declared.classify.Operation.{Operation}
-use Rattle.rewrite.specs.declared.classify.Operation.the-variants as operation
 use Rattle.rewrite.specs.declared.classify.Says.{Says}
 use Rattle.rewrite.specs.declared.classify.Says.the-variants as says
 use Rattle.rewrite.specs.declared.classify.Conjunct.{Conjunct}
@@ -129,26 +128,28 @@ filled-more rs nodes ks vs ss cs i k s a b d e lk lv ls lc ek es ea eb ed ee f p
 
 -- ---- A binary record whose operator is not != excludes no value and has no list: its place in the tables may hold
 -- anything.
-abbrev excludes : Operation → Bool
-excludes (operation.Compare Eq) = false
-excludes (operation.Compare NotEq) = true
-excludes (operation.Compare Lt) = false
-excludes (operation.Compare LtEq) = false
-excludes (operation.Compare Gt) = false
-excludes (operation.Compare GtEq) = false
-excludes operation.Other = false
-excludes operation.Missing = false
+abbrev excludes : Option truth.Comparison → Bool
+excludes none = false
+excludes (some truth.Eq) = false
+excludes (some truth.NotEq) = true
+excludes (some truth.Lt) = false
+excludes (some truth.LtEq) = false
+excludes (some truth.Gt) = false
+excludes (some truth.GtEq) = false
+
+abbrev excludesAs : Operator → Bool
+excludesAs o = excludes (c.ordinaryComparison o)
 
 abbrev noneExcludes : List Operator → Bool
 noneExcludes [] = true
-noneExcludes (o ∷ l) = not (excludes (operationOf o)) && noneExcludes l
+noneExcludes (o ∷ l) = not (excludesAs o) && noneExcludes l
 
-quiet-in : (l : List Operator) (n : ℕ) → noneExcludes l ≡ true → excludes (operationOf (getD l n operator.Eq)) ≡ false
+quiet-in : (l : List Operator) (n : ℕ) → noneExcludes l ≡ true → excludesAs (getD l n operator.Eq) ≡ false
 quiet-in [] n h = refl
-quiet-in (o ∷ l) zero h = not-true (excludes (operationOf o)) (and-left (not (excludes (operationOf o))) (noneExcludes l) h)
-quiet-in (o ∷ l) (suc n) h = quiet-in l n (and-right (not (excludes (operationOf o))) (noneExcludes l) h)
+quiet-in (o ∷ l) zero h = not-true (excludesAs o) (and-left (not (excludesAs o)) (noneExcludes l) h)
+quiet-in (o ∷ l) (suc n) h = quiet-in l n (and-right (not (excludesAs o)) (noneExcludes l) h)
 
-quiet-code : (code : ℕ) → (code ≡ 2 → ⊥) → excludes (operationOf (operatorAt code)) ≡ false
+quiet-code : (code : ℕ) → (code ≡ 2 → ⊥) → excludesAs (operatorAt code) ≡ false
 unfolding operatorAt
 quiet-code zero h = refl
 quiet-code (suc zero) h = refl
@@ -156,58 +157,75 @@ quiet-code (suc (suc zero)) h = absurd (h refl)
 quiet-code (suc (suc (suc n))) h = quiet-in (drop 3 operators) n refl
 
 module _ (t : Conjuncts) (j n : ℕ) where
-  quiet-literal : (a v : ℕ) (op : Operation) → excludes op ≡ false → ToldConjunct t j (columnLiteral n a v op)
-  quiet-literal a v (operation.Compare Eq) h = (tt, (tt, tt))
-  quiet-literal a v (operation.Compare NotEq) h = absurd (true≢false h)
-  quiet-literal a v (operation.Compare Lt) h = (tt, tt)
-  quiet-literal a v (operation.Compare LtEq) h = (tt, tt)
-  quiet-literal a v (operation.Compare Gt) h = (tt, tt)
-  quiet-literal a v (operation.Compare GtEq) h = (tt, tt)
-  quiet-literal a v operation.Other h = tt
-  quiet-literal a v operation.Missing h = tt
+  quiet-literal : (a v : ℕ) (k : Option truth.Comparison) → excludes k ≡ false
+      → ToldConjunct t j (c.classifyColumnLiteral n a v k)
+  quiet-literal a v none h = tt
+  quiet-literal a v (some truth.Eq) h = (tt, (tt, tt))
+  quiet-literal a v (some truth.NotEq) h = absurd (true≢false h)
+  quiet-literal a v (some truth.Lt) h = (tt, tt)
+  quiet-literal a v (some truth.LtEq) h = (tt, tt)
+  quiet-literal a v (some truth.Gt) h = (tt, tt)
+  quiet-literal a v (some truth.GtEq) h = (tt, tt)
 
-  quiet-columns : (a b : ℕ) (op : Operation) → ToldConjunct t j (columnColumn n a b op)
-  quiet-columns a b (operation.Compare Eq) = tt
-  quiet-columns a b (operation.Compare NotEq) = tt
-  quiet-columns a b (operation.Compare Lt) = tt
-  quiet-columns a b (operation.Compare LtEq) = tt
-  quiet-columns a b (operation.Compare Gt) = tt
-  quiet-columns a b (operation.Compare GtEq) = tt
-  quiet-columns a b operation.Other = tt
-  quiet-columns a b operation.Missing = tt
+  quiet-swapped : (a v : ℕ) (o : Operator) → excludesAs o ≡ false
+      → ToldConjunct t j (c.classifyLiteralColumn n a v (swapOperands o))
+  quiet-swapped a v operator.Eq h = (tt, (tt, tt))
+  quiet-swapped a v operator.EqValidity h = tt
+  quiet-swapped a v operator.NotEq h = absurd (true≢false h)
+  quiet-swapped a v operator.NotEqValidity h = tt
+  quiet-swapped a v operator.Lt h = (tt, tt)
+  quiet-swapped a v operator.LtEq h = (tt, tt)
+  quiet-swapped a v operator.Gt h = (tt, tt)
+  quiet-swapped a v operator.GtEq h = (tt, tt)
+  quiet-swapped a v operator.Plus h = tt
+  quiet-swapped a v operator.Minus h = tt
+  quiet-swapped a v operator.Multiply h = tt
+  quiet-swapped a v operator.RustDivide h = tt
+  quiet-swapped a v operator.TrueDivide h = tt
+  quiet-swapped a v operator.FloorDivide h = tt
+  quiet-swapped a v operator.Modulus h = tt
+  quiet-swapped a v operator.And h = tt
+  quiet-swapped a v operator.Or h = tt
+  quiet-swapped a v operator.Xor h = tt
+  quiet-swapped a v operator.LogicalAnd h = tt
+  quiet-swapped a v operator.LogicalOr h = tt
 
-  quiet-swapped : (op : Operation) → excludes op ≡ false → excludes (swappedOperation op) ≡ false
-  quiet-swapped (operation.Compare Eq) h = refl
-  quiet-swapped (operation.Compare NotEq) h = h
-  quiet-swapped (operation.Compare Lt) h = refl
-  quiet-swapped (operation.Compare LtEq) h = refl
-  quiet-swapped (operation.Compare Gt) h = refl
-  quiet-swapped (operation.Compare GtEq) h = refl
-  quiet-swapped operation.Other h = refl
-  quiet-swapped operation.Missing h = refl
+  quiet-columns : (a b : ℕ) (propagates equal : Bool)
+      → ToldConjunct t j (cond propagates (cond equal (c.Equality a b n) (c.NonNullPair n a b)) (c.Opaque n))
+  quiet-columns a b true true = tt
+  quiet-columns a b true false = tt
+  quiet-columns a b false equal = tt
 
-  quiet-compared : (op : Operation) (x y : c.Operand ℕ) → excludes op ≡ false → ToldConjunct t j (compared n op x y)
-  quiet-compared op (c.AColumn a) (c.AColumn b) h = quiet-columns a b op
-  quiet-compared op (c.AColumn a) (c.ALiteral v) h = quiet-literal a v op h
-  quiet-compared op (c.AColumn a) (c.AList l) h = tt
-  quiet-compared op (c.AColumn a) c.Other h = tt
-  quiet-compared op (c.ALiteral v) (c.AColumn a) h = quiet-literal a v (swappedOperation op) (quiet-swapped op h)
-  quiet-compared op (c.ALiteral v) (c.ALiteral w) h = tt
-  quiet-compared op (c.ALiteral v) (c.AList l) h = tt
-  quiet-compared op (c.ALiteral v) c.Other h = tt
-  quiet-compared op (c.AList l) y h = tt
-  quiet-compared op c.Other y h = tt
+  quiet-compared : (o : Operator) (x y : c.Operand ℕ) → excludesAs o ≡ false
+      → ToldConjunct t j (c.classifyComparison n o x y)
+  quiet-compared o (c.AColumn a) (c.AColumn b) h =
+      quiet-columns a b (isNullPropagatingComparison o) (eqb (codeOf o) (codeOf operator.Eq))
+  quiet-compared o (c.AColumn a) (c.ALiteral v) h = quiet-literal a v (c.ordinaryComparison o) h
+  quiet-compared o (c.AColumn a) (c.AList l) h = tt
+  quiet-compared o (c.AColumn a) c.Other h = tt
+  quiet-compared o (c.ALiteral v) (c.AColumn a) h = quiet-swapped a v o h
+  quiet-compared o (c.ALiteral v) (c.ALiteral w) h = tt
+  quiet-compared o (c.ALiteral v) (c.AList l) h = tt
+  quiet-compared o (c.ALiteral v) c.Other h = tt
+  quiet-compared o (c.AList l) y h = tt
+  quiet-compared o c.Other y h = tt
+
+  quiet-binary : (leftOut : Bool) (k : c.Conjunct ℕ) → ToldConjunct t j k
+      → ToldConjunct t j (cond leftOut (c.Opaque n) k)
+  quiet-binary true k h = tt
+  quiet-binary false k h = h
 
 pub quiet-told : (rs p : List ℕ) (n : Node) (t : Conjuncts) (j : ℕ) → getD rs (16 * n .0) 0 ≡ 4
     → (getD rs (16 * n .0 + 1) 0 ≡ 2 → ⊥) → ToldConjunct t j (c.classify (aexprOf rs p) (n .0))
 quiet-told rs p n t j e h =
-    subst (ToldConjunct t j)
-    (binary-read rs n p (operationOf (operatorAt (getD rs (16 * n .0 + 1) 0))) (word rs (16 * n .0 + 4))
-    (word rs (16 * n .0 + 8)) (c.operand (aexprOf rs p (word rs (16 * n .0 + 4))))
-    (c.operand (aexprOf rs p (word rs (16 * n .0 + 8)))) e refl refl refl refl refl)
-    (quiet-compared t j (n .0) (operationOf (operatorAt (getD rs (16 * n .0 + 1) 0)))
-    (c.operand (aexprOf rs p (word rs (16 * n .0 + 4)))) (c.operand (aexprOf rs p (word rs (16 * n .0 + 8))))
-    (quiet-code (getD rs (16 * n .0 + 1) 0) h))
+    let o = operatorAt (getD rs (16 * n .0 + 1) 0) in
+    let x = word rs (16 * n .0 + 4) in
+    let y = word rs (16 * n .0 + 8) in
+    let a = c.operand (aexprOf rs p x) in
+    let b = c.operand (aexprOf rs p y) in
+    subst (ToldConjunct t j) (binary-read rs n p o x y a b e refl refl refl refl refl)
+    (quiet-binary t j (n .0) (isLeftOut o) (c.classifyComparison (n .0) o a b)
+    (quiet-compared t j (n .0) o a b (quiet-code (getD rs (16 * n .0 + 1) 0) h)))
 
 -- One node more, whose place may hold anything.
 pub filled-skip : (rs nodes ks vs ss cs : List ℕ) (i : ℕ)

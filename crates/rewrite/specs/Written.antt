@@ -8,7 +8,8 @@ use Rattle.records.specs.Record.{node, columnNumber}
 use Rattle.records.specs.declared.operator.Operator.the-variants as operator
 use Rattle.records.specs.declared.record.Record.the-variants as kind
 use Rattle.truth.specs.Comparison.{Comparison}
-use Rattle.merge.specs.Write.{writeRecord, operatorOf}
+use Rattle.merge.specs.Classify.{comparisonOperator}
+use Rattle.merge.specs.Write.{writeRecord}
 
 -- A comparison of column a with v: column, literal, binary record.
 unfoldable pub writeCompared : List ℕ → ℕ → ℕ → Comparison → ℕ → List ℕ → List ℕ
@@ -17,7 +18,7 @@ writeCompared t u a k v rs =
     (writeRecord
     (writeRecord rs u (kind.Column (columnNumber a)))
     (u + 1) (kind.Literal (getD t a 0) v))
-    (u + 2) (kind.Binary (operatorOf k) (node u) (node (u + 1)))
+    (u + 2) (kind.Binary (comparisonOperator k) (node u) (node (u + 1)))
 
 -- The conjunct number i of a rebuilt chain: the kept nodes, then the comparisons, three records each, from `used` on.
 abbrev pub chainAt : List ℕ → ℕ → ℕ → ℕ → ℕ

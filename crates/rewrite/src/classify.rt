@@ -3,23 +3,24 @@
 ghost use mathlib.Core.Path.{_≡_};
 ghost use mathlib.Core.Bool.{Bool, not, _&&_, cond};
 ghost use mathlib.Core.List.{List, [], _∷_};
-ghost use mathlib.Core.Option.{some};
 ghost use Prim.Native.Nat.{ℕ, _+_, _*_, _<_};
 ghost use lib.Dec.{leb};
 ghost use lib.ListN.{length, getD};
-ghost use Rattle.records.specs.Operator.{operatorAt};
 ghost use Rattle.truth.specs.FromBytes.{valuesFrom, toAExpr, aexprOf, closesLow, closesHigh};
 ghost use Rattle.merge.specs.Classify as c;
-ghost use Rattle.rewrite.specs.Read.{operationOf, operandIn, listingIn, saysIn, conjunctIn, comparisonIn, swapped};
-ghost use Rattle.rewrite.specs.Read.{swappedOperation, columnLiteral, columnColumn, columnFirst, literalFirst};
-ghost use Rattle.rewrite.specs.Read.{compared, negatedIn};
+ghost use Rattle.rewrite.specs.Read.{ordinaryIn, operandIn, listingIn, saysIn, conjunctIn, binaryConjunct};
 use constraints::column::Nullability;
 use records::bytes::value_in;
 use records::bytes::word_in;
 use records::operator::Negated;
 use records::operator::Operator;
+use records::operator::Swapped;
+use records::operator::is_left_out;
+use records::operator::is_null_propagating_comparison;
 use records::operator::negate;
 use records::operator::operator_at;
+use records::operator::operator_code;
+use records::operator::swap_operands;
 use records::record::ClosedInterval;
 use records::record::Column;
 use records::record::Node;
@@ -37,11 +38,10 @@ pub enum Comparison {
     GtEq,
 }
 
-/// What matters of an operator. `Missing` is arithmetic that checking refuses.
-pub enum Operation {
-    Compare(Comparison),
-    Other,
-    Missing,
+/// The ordinary comparison that an operator is, if it is one of the six.
+pub enum Ordinary {
+    Nothing,
+    To(Comparison),
 }
 
 /// `List`: at most 100 values and no null; its start and count in the pool.
@@ -83,45 +83,30 @@ pub enum Conjunct {
     Opaque,
 }
 
-fn operation_of(o: Operator) -> Operation
-    ensures { λ r. ⌜ r ≡ operationOf o ⌝ }
+fn ordinary_comparison(o: Operator) -> Ordinary
+    ensures { λ r. ⌜ ordinaryIn r ≡ c.ordinaryComparison o ⌝ }
 {
     match o {
-        Operator::Eq => Operation::Compare(Comparison::Eq),
-        Operator::EqValidity => Operation::Other,
-        Operator::NotEq => Operation::Compare(Comparison::NotEq),
-        Operator::NotEqValidity => Operation::Other,
-        Operator::Lt => Operation::Compare(Comparison::Lt),
-        Operator::LtEq => Operation::Compare(Comparison::LtEq),
-        Operator::Gt => Operation::Compare(Comparison::Gt),
-        Operator::GtEq => Operation::Compare(Comparison::GtEq),
-        Operator::Plus => Operation::Missing,
-        Operator::Minus => Operation::Missing,
-        Operator::Multiply => Operation::Missing,
-        Operator::RustDivide => Operation::Missing,
-        Operator::TrueDivide => Operation::Missing,
-        Operator::FloorDivide => Operation::Other,
-        Operator::Modulus => Operation::Other,
-        Operator::And => Operation::Other,
-        Operator::Or => Operation::Other,
-        Operator::Xor => Operation::Other,
-        Operator::LogicalAnd => Operation::Other,
-        Operator::LogicalOr => Operation::Other,
-    }
-}
-
-// The operation of a binary record's code.
-fn operation_at(code: u8) -> Operation
-    ensures { λ r. ⌜ r ≡ operationOf (operatorAt code) ⌝ }
-{
-    match code {
-        0 => Operation::Compare(Comparison::Eq),
-        2 => Operation::Compare(Comparison::NotEq),
-        4 => Operation::Compare(Comparison::Lt),
-        5 => Operation::Compare(Comparison::LtEq),
-        6 => Operation::Compare(Comparison::Gt),
-        7 => Operation::Compare(Comparison::GtEq),
-        _ => operation_of(operator_at(code)),
+        Operator::Eq => Ordinary::To(Comparison::Eq),
+        Operator::EqValidity => Ordinary::Nothing,
+        Operator::NotEq => Ordinary::To(Comparison::NotEq),
+        Operator::NotEqValidity => Ordinary::Nothing,
+        Operator::Lt => Ordinary::To(Comparison::Lt),
+        Operator::LtEq => Ordinary::To(Comparison::LtEq),
+        Operator::Gt => Ordinary::To(Comparison::Gt),
+        Operator::GtEq => Ordinary::To(Comparison::GtEq),
+        Operator::Plus => Ordinary::Nothing,
+        Operator::Minus => Ordinary::Nothing,
+        Operator::Multiply => Ordinary::Nothing,
+        Operator::RustDivide => Ordinary::Nothing,
+        Operator::TrueDivide => Ordinary::Nothing,
+        Operator::FloorDivide => Ordinary::Nothing,
+        Operator::Modulus => Ordinary::Nothing,
+        Operator::And => Ordinary::Nothing,
+        Operator::Or => Ordinary::Nothing,
+        Operator::Xor => Ordinary::Nothing,
+        Operator::LogicalAnd => Ordinary::Nothing,
+        Operator::LogicalOr => Ordinary::Nothing,
     }
 }
 
@@ -187,96 +172,84 @@ fn operand_at(rs: &[u8], n: Node) -> Operand
 
 // ---- comparisons
 
-fn swap_comparison(k: Comparison) -> Comparison
-    ensures { λ r. ⌜ r ≡ swapped k ⌝ }
+fn column_literal(o: Operator, a: Column, v: Scalar) -> Conjunct
+    ensures { λ r. ⌜ ((p : List ℕ) (n : ℕ) → conjunctIn p n r ≡ c.classifyColumnLiteral n (a .0) (v .0)
+        (c.ordinaryComparison o)) ⌝ }
 {
-    match k {
-        Comparison::Eq => Comparison::Eq,
-        Comparison::NotEq => Comparison::NotEq,
-        Comparison::Lt => Comparison::Gt,
-        Comparison::LtEq => Comparison::GtEq,
-        Comparison::Gt => Comparison::Lt,
-        Comparison::GtEq => Comparison::LtEq,
+    let ordinary = ordinary_comparison(o);
+    match ordinary {
+        Ordinary::Nothing => Conjunct::Recorded(false, a, Says::Nothing),
+        Ordinary::To(k) => Conjunct::Bounds(a, Says::Compare(k, v)),
     }
 }
 
-/// `swap_operands`: `lit op col` is read as `col op' lit`.
-fn swap_operands(op: Operation) -> Operation
-    ensures { λ r. ⌜ r ≡ swappedOperation op ⌝ }
+// `lit op col` is read as `col op' lit`, with the operator of `swap_operands`.
+fn literal_column(swapped: Swapped, a: Column, v: Scalar) -> Conjunct
+    ensures { λ r. ⌜ ((p : List ℕ) (n : ℕ) → conjunctIn p n r ≡ c.classifyLiteralColumn n (a .0) (v .0) swapped) ⌝ }
 {
-    match op {
-        Operation::Compare(k) => Operation::Compare(swap_comparison(k)),
-        Operation::Other => Operation::Other,
-        Operation::Missing => Operation::Missing,
+    match swapped {
+        Swapped::Nothing => Conjunct::Opaque,
+        Swapped::To(o) => column_literal(o, a, v),
     }
 }
 
-fn column_literal(op: Operation, a: Column, v: Scalar) -> Conjunct
-    ensures { λ r. ⌜ ((p : List ℕ) (n : ℕ) → conjunctIn p n r ≡ columnLiteral n (a .0) (v .0) op) ⌝ }
+fn column_column(o: Operator, a: Column, b: Column) -> Conjunct
+    ensures { λ r. ⌜ ((p : List ℕ) (n : ℕ) → conjunctIn p n r ≡ c.classifyColumnColumn n (a .0) (b .0) o) ⌝ }
 {
-    match op {
-        Operation::Compare(k) => Conjunct::Bounds(a, Says::Compare(k, v)),
-        Operation::Other => Conjunct::Recorded(false, a, Says::Nothing),
-        Operation::Missing => Conjunct::Opaque,
+    if !is_null_propagating_comparison(o) {
+        return Conjunct::Opaque;
     }
+    if operator_code(o) == 0 {
+        return Conjunct::Equality(a, b);
+    }
+    Conjunct::NonNullPair(a, b)
 }
 
-fn columns(k: Comparison, a: Column, b: Column) -> Conjunct
-    ensures { λ r. ⌜ ((p : List ℕ) (n : ℕ) → conjunctIn p n r ≡ c.classifyColumnColumn n (a .0) (b .0)
-        (some (comparisonIn k))) ⌝ }
-{
-    match k {
-        Comparison::Eq => Conjunct::Equality(a, b),
-        Comparison::NotEq => Conjunct::NonNullPair(a, b),
-        Comparison::Lt => Conjunct::NonNullPair(a, b),
-        Comparison::LtEq => Conjunct::NonNullPair(a, b),
-        Comparison::Gt => Conjunct::NonNullPair(a, b),
-        Comparison::GtEq => Conjunct::NonNullPair(a, b),
-    }
-}
-
-fn column_column(op: Operation, a: Column, b: Column) -> Conjunct
-    ensures { λ r. ⌜ ((p : List ℕ) (n : ℕ) → conjunctIn p n r ≡ columnColumn n (a .0) (b .0) op) ⌝ }
-{
-    match op {
-        Operation::Compare(k) => columns(k, a, b),
-        Operation::Other => Conjunct::Opaque,
-        Operation::Missing => Conjunct::Opaque,
-    }
-}
-
-fn column_first(op: Operation, a: Column, right: Operand) -> Conjunct
-    ensures { λ r. ⌜ ((p : List ℕ) (n : ℕ) → conjunctIn p n r ≡ columnFirst n op (a .0) (operandIn p right)) ⌝ }
+fn column_first(o: Operator, a: Column, right: Operand) -> Conjunct
+    ensures { λ r. ⌜ ((p : List ℕ) (n : ℕ) → conjunctIn p n r ≡ c.classifyComparison n o (c.AColumn (a .0))
+        (operandIn p right)) ⌝ }
 {
     match right {
-        Operand::Column(b) => column_column(op, a, b),
-        Operand::Literal(v) => column_literal(op, a, v),
+        Operand::Column(b) => column_column(o, a, b),
+        Operand::Literal(v) => column_literal(o, a, v),
         Operand::List(_, _) => Conjunct::Opaque,
         Operand::Other => Conjunct::Opaque,
     }
 }
 
-fn literal_first(op: Operation, v: Scalar, right: Operand) -> Conjunct
-    ensures { λ r. ⌜ ((p : List ℕ) (n : ℕ) → conjunctIn p n r ≡ literalFirst n op (v .0) (operandIn p right)) ⌝ }
+fn literal_first(o: Operator, v: Scalar, right: Operand) -> Conjunct
+    ensures { λ r. ⌜ ((p : List ℕ) (n : ℕ) → conjunctIn p n r ≡ c.classifyComparison n o (c.ALiteral (v .0))
+        (operandIn p right)) ⌝ }
 {
     match right {
-        Operand::Column(a) => column_literal(swap_operands(op), a, v),
+        Operand::Column(a) => literal_column(swap_operands(o), a, v),
         Operand::Literal(_) => Conjunct::Opaque,
         Operand::List(_, _) => Conjunct::Opaque,
         Operand::Other => Conjunct::Opaque,
     }
 }
 
-fn classify_comparison(op: Operation, left: Operand, right: Operand) -> Conjunct
-    ensures { λ r. ⌜ ((p : List ℕ) (n : ℕ) → conjunctIn p n r ≡ compared n op (operandIn p left)
+fn classify_comparison(o: Operator, left: Operand, right: Operand) -> Conjunct
+    ensures { λ r. ⌜ ((p : List ℕ) (n : ℕ) → conjunctIn p n r ≡ c.classifyComparison n o (operandIn p left)
         (operandIn p right)) ⌝ }
 {
     match left {
-        Operand::Column(a) => column_first(op, a, right),
-        Operand::Literal(v) => literal_first(op, v, right),
+        Operand::Column(a) => column_first(o, a, right),
+        Operand::Literal(v) => literal_first(o, v, right),
         Operand::List(_, _) => Conjunct::Opaque,
         Operand::Other => Conjunct::Opaque,
     }
+}
+
+// Checking refuses a screen with an operator that is left out.
+fn binary_conjunct(o: Operator, left: Operand, right: Operand) -> Conjunct
+    ensures { λ r. ⌜ ((p : List ℕ) (n : ℕ) → conjunctIn p n r ≡ binaryConjunct n o (operandIn p left)
+        (operandIn p right)) ⌝ }
+{
+    if is_left_out(o) {
+        return Conjunct::Opaque;
+    }
+    classify_comparison(o, left, right)
 }
 
 // ---- is_between
@@ -382,12 +355,12 @@ fn normalized(k: Conjunct) -> Conjunct
 
 // A comparison below Not, by its complementary operator.
 fn classify_negated(op: Negated, left: Operand, right: Operand) -> Conjunct
-    ensures { λ r. ⌜ ((p : List ℕ) (n : ℕ) → conjunctIn p n r ≡ negatedIn n op (operandIn p left)
+    ensures { λ r. ⌜ ((p : List ℕ) (n : ℕ) → conjunctIn p n r ≡ c.classifyNegated n op (operandIn p left)
         (operandIn p right)) ⌝ }
 {
     match op {
         Negated::Nothing => Conjunct::Opaque,
-        Negated::To(o) => normalized(classify_comparison(operation_of(o), left, right)),
+        Negated::To(o) => normalized(classify_comparison(o, left, right)),
     }
 }
 
@@ -428,11 +401,7 @@ fn classify_record(rs: &[u8], r: Record) -> Conjunct
         Record::Column(_) => Conjunct::Opaque,
         Record::Literal(_, _) => Conjunct::Opaque,
         Record::Null(_) => Conjunct::Opaque,
-        Record::Binary(o, x, y) => classify_comparison(
-            operation_of(o),
-            operand_at(rs, x),
-            operand_at(rs, y),
-        ),
+        Record::Binary(o, x, y) => binary_conjunct(o, operand_at(rs, x), operand_at(rs, y)),
         Record::Not(x) => classify_negation(rs, record_at(rs, x)),
         Record::IsNull(x) => classify_null(Nullability::Null, operand_at(rs, x)),
         Record::IsNotNull(x) => classify_null(Nullability::NonNull, operand_at(rs, x)),
@@ -458,8 +427,8 @@ fn classify_binary(rs: &[u8], n: Node) -> Conjunct
     ensures { λ s. ⌜ ((p : List ℕ) → conjunctIn p (n .0) s ≡ c.classify (aexprOf (now (rs .entry)) p) (n .0)) ⌝ }
 {
     let at = 16 * (n.0 as usize);
-    classify_comparison(
-        operation_at(rs[at + 1]),
+    binary_conjunct(
+        operator_at(rs[at + 1]),
         operand_at(rs, Node(word_in(rs, at + 4))),
         operand_at(rs, Node(word_in(rs, at + 8))),
     )

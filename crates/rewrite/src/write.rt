@@ -4,7 +4,8 @@ ghost use mathlib.Core.List.{_∷_, []};
 ghost use Prim.Native.Nat.{ℕ, _+_, _*_, _-_, _≤_, _<_, _%_, _^_};
 ghost use lib.ListN.{length};
 ghost use Rattle.rewrite.specs.Read.{comparisonIn};
-ghost use Rattle.merge.specs.Write.{splice, wordBytes, fieldBytes, writeRecord, writeComparison, operatorOf};
+ghost use Rattle.merge.specs.Classify.{comparisonOperator};
+ghost use Rattle.merge.specs.Write.{splice, wordBytes, fieldBytes, writeRecord, writeComparison};
 ghost use Rattle.rewrite.specs.Written.{writeCompared, chainAt, andsTo};
 use crate::classify::Comparison;
 use records::bytes::byte;
@@ -66,7 +67,7 @@ pub fn put_record(rs: &mut [u8], n: Node, r: Record)
 }
 
 fn operator_of(k: Comparison) -> Operator
-    ensures { λ r. ⌜ r ≡ operatorOf (comparisonIn k) ⌝ }
+    ensures { λ r. ⌜ r ≡ comparisonOperator (comparisonIn k) ⌝ }
 {
     match k {
         Comparison::Eq => Operator::Eq,

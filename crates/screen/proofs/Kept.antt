@@ -22,8 +22,9 @@ use Rattle.merge.specs.declared.answer.RewriteAnswer.the-variants as answer
 use Rattle.merge.specs.Minterms.{minterms}
 use Rattle.merge.specs.Emit.{Outcome, Unchanged, NothingPasses, Rebuilt}
 use Rattle.merge.specs.Rebuild.{comparisonOf, valueOf, comparisonsEnd, andsEnd, foldUsed}
+use Rattle.merge.specs.Classify.{comparisonOperator}
 use Rattle.merge.specs.Write.{literalType}
-use Rattle.merge.specs.Write.{fieldBytes, writeRecord, operatorOf, writeComparison, writeComparisons, writeAnds}
+use Rattle.merge.specs.Write.{fieldBytes, writeRecord, writeComparison, writeComparisons, writeAnds}
 use Rattle.merge.specs.Write.{foldBytes, outcomeBytes}
 use Rattle.merge.specs.Rewrite.{outcomeOf, chainNodes, chainRoot, chainUsed, hasRoom, chainFits, outcomeAnswer}
 use Rattle.merge.specs.Rewrite.{rewriteIf, rewriteAnswer, writtenIf, rewriteBytes}
@@ -81,7 +82,7 @@ comparison-kept t rs u x h =
     literal = kind.Literal (literalType t (x .0)) (valueOf (x .1))
 
     binary : Record
-    binary = kind.Binary (operatorOf (comparisonOf (x .1))) (node u) (node (suc u))
+    binary = kind.Binary (comparisonOperator (comparisonOf (x .1))) (node u) (node (suc u))
 
     one : List ℕ
     one = writeRecord rs u column

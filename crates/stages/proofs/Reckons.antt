@@ -25,8 +25,9 @@ use Rattle.merge.specs.declared.answer.RewriteAnswer.the-variants as answer
 use Rattle.merge.specs.Classify.{readConjuncts}
 use Rattle.merge.specs.Emit.{Outcome, Unchanged, NothingPasses, Rebuilt, mergeFilterConstraints}
 use Rattle.merge.specs.Rebuild.{comparisonOf, valueOf, comparisonNodes, comparisonsEnd, andRoot, foldRoot, foldUsed}
+use Rattle.merge.specs.Classify.{comparisonOperator}
 use Rattle.merge.specs.Write.{literalType}
-use Rattle.merge.specs.Write.{fieldBytes, wordBytes, operatorOf, writeRecord, splice, writeComparison}
+use Rattle.merge.specs.Write.{fieldBytes, wordBytes, writeRecord, splice, writeComparison}
 use Rattle.merge.specs.Write.{writeComparisons, foldBytes, outcomeBytes}
 use Rattle.merge.specs.Rewrite.{outcomeOf, chainNodes, chainRoot, chainUsed, hasRoom, chainFits, outcomeAnswer}
 use Rattle.merge.proofs.Accepted.{inputs-fall}
@@ -118,8 +119,8 @@ write-cut : (t : List ℕ) (u : ℕ) (x : ℕ × ColumnComparison ℕ) (rs : Lis
     → writeComparison t u (x .0, cutComparison (x .1)) rs ≡ writeComparison t u x rs
 write-cut t u x rs =
     ap (λ o. writeRecord (second (valueOf (cutComparison (x .1)))) (suc (suc u))
-    (kind.Binary (operatorOf o) (node u) (node (suc u)))) (comparison-cut (x .1))
-    ∙ ap (λ s. writeRecord s (suc (suc u)) (kind.Binary (operatorOf (comparisonOf (x .1))) (node u) (node (suc u))))
+    (kind.Binary (comparisonOperator o) (node u) (node (suc u)))) (comparison-cut (x .1))
+    ∙ ap (λ s. writeRecord s (suc (suc u)) (kind.Binary (comparisonOperator (comparisonOf (x .1))) (node u) (node (suc u))))
     (ap second (value-cut (x .1))
     ∙ sym (ap (splice first (16 * suc u)) (literal-cut (literalType t (x .0)) (valueOf (x .1)))))
   where

@@ -1,180 +1,214 @@
-use Rattle.rewrite.proofs.Classifying.{binary-law, negation-law}
-use mathlib.Core.Path.{_∙_}
 use borrow.Author.Needs.{needs}
 use Rattle.rewrite.proofs.classify.classify_record.Statement.{statement}
 use Rattle.rewrite.proofs.classify.classify_record.Tie as tie
 use Rattle.rewrite.proofs.classify.classify_record.Reads as reads
 use Rattle.rewrite.proofs.classify.classify_record.Lts as lts
-use Rattle.rewrite.proofs.classify.classify_comparison.Reads as classify-comparison-reads
+use Rattle.records.proofs.record.record_at.Reads as record-at-reads
+use Rattle.rewrite.proofs.classify.binary_conjunct.Reads as binary-conjunct-reads
 use Rattle.rewrite.proofs.classify.classify_is_between.Reads as classify-is-between-reads
 use Rattle.rewrite.proofs.classify.classify_is_in.Reads as classify-is-in-reads
 use Rattle.rewrite.proofs.classify.classify_negation.Reads as classify-negation-reads
 use Rattle.rewrite.proofs.classify.classify_null.Reads as classify-null-reads
 use Rattle.rewrite.proofs.classify.operand_at.Reads as operand-at-reads
-use Rattle.rewrite.proofs.classify.operation_of.Reads as operation-of-reads
-use Rattle.records.proofs.record.record_at.Reads as record-at-reads
+use mathlib.Core.Path.{_∙_, refl}
+use Rattle.rewrite.proofs.Classifying.{binary-law, negation-law}
 
--- src/classify.rt:348:28
+-- src/classify.rt:400:28
 enum-told : tie.Need-enum-told
 enum-told c = search needs
 
--- src/classify.rt:349:30
+-- src/classify.rt:401:30
 enum-told-2 : tie.Need-enum-told-2
 enum-told-2 c = search needs
 
--- src/classify.rt:350:34
+-- src/classify.rt:402:34
 enum-told-3 : tie.Need-enum-told-3
 enum-told-3 c = search needs
 
--- src/classify.rt:351:28
+-- src/classify.rt:403:28
 enum-told-4 : tie.Need-enum-told-4
 enum-told-4 c = search needs
 
--- src/classify.rt:352:24
+-- src/classify.rt:404:24
 enum-known-r : tie.Need-enum-known-r
 enum-known-r c = search needs
 
--- src/classify.rt:353:13
-operation-of-requires : tie.Need-operation-of-requires
-operation-of-requires c κs = search needs
-
--- src/classify.rt:354:13
+-- src/classify.rt:406:13
 operand-at-requires : tie.Need-operand-at-requires
 operand-at-requires c κs = search needs
 
--- src/classify.rt:355:13
+-- src/classify.rt:407:13
 operand-at-requires-2 : tie.Need-operand-at-requires-2
 operand-at-requires-2 c κs = search needs
 
--- src/classify.rt:352:36
-classify-comparison-requires : tie.Need-classify-comparison-requires
-classify-comparison-requires c κs = search needs
+-- src/classify.rt:404:36
+binary-conjunct-requires : tie.Need-binary-conjunct-requires
+binary-conjunct-requires c κs = search needs
 
--- src/classify.rt:357:21
+-- src/classify.rt:409:21
 enum-known-r-2 : tie.Need-enum-known-r-2
 enum-known-r-2 c = search needs
 
--- src/classify.rt:357:49
+-- src/classify.rt:409:49
 record-at-requires : tie.Need-record-at-requires
 record-at-requires c κs = search needs
 
--- src/classify.rt:357:27
+-- src/classify.rt:409:27
 classify-negation-requires : tie.Need-classify-negation-requires
 classify-negation-requires c κs = search needs
 
--- src/classify.rt:358:24
+-- src/classify.rt:410:24
 enum-known-r-3 : tie.Need-enum-known-r-3
 enum-known-r-3 c = search needs
 
--- src/classify.rt:358:63
+-- src/classify.rt:410:63
 operand-at-requires-3 : tie.Need-operand-at-requires-3
 operand-at-requires-3 c κs = search needs
 
--- src/classify.rt:358:30
+-- src/classify.rt:410:30
 classify-null-requires : tie.Need-classify-null-requires
 classify-null-requires c κs = search needs
 
--- src/classify.rt:359:27
+-- src/classify.rt:411:27
 enum-known-r-4 : tie.Need-enum-known-r-4
 enum-known-r-4 c = search needs
 
--- src/classify.rt:359:69
+-- src/classify.rt:411:69
 operand-at-requires-4 : tie.Need-operand-at-requires-4
 operand-at-requires-4 c κs = search needs
 
--- src/classify.rt:359:33
+-- src/classify.rt:411:33
 classify-null-requires-2 : tie.Need-classify-null-requires-2
 classify-null-requires-2 c κs = search needs
 
--- src/classify.rt:360:27
+-- src/classify.rt:412:27
 enum-known-r-5 : tie.Need-enum-known-r-5
 enum-known-r-5 c = search needs
 
--- src/classify.rt:362:13
+-- src/classify.rt:414:13
 operand-at-requires-5 : tie.Need-operand-at-requires-5
 operand-at-requires-5 c κs = search needs
 
--- src/classify.rt:363:13
+-- src/classify.rt:415:13
 operand-at-requires-6 : tie.Need-operand-at-requires-6
 operand-at-requires-6 c κs = search needs
 
--- src/classify.rt:364:13
+-- src/classify.rt:416:13
 operand-at-requires-7 : tie.Need-operand-at-requires-7
 operand-at-requires-7 c κs = search needs
 
--- src/classify.rt:360:50
+-- src/classify.rt:412:50
 classify-is-between-requires : tie.Need-classify-is-between-requires
 classify-is-between-requires c κs = search needs
 
--- src/classify.rt:366:37
+-- src/classify.rt:418:37
 enum-told-5 : tie.Need-enum-told-5
 enum-told-5 c = search needs
 
--- src/classify.rt:367:25
+-- src/classify.rt:419:25
 enum-known-r-6 : tie.Need-enum-known-r-6
 enum-known-r-6 c = search needs
 
--- src/classify.rt:369:13
+-- src/classify.rt:421:13
 operand-at-requires-8 : tie.Need-operand-at-requires-8
 operand-at-requires-8 c κs = search needs
 
--- src/classify.rt:370:13
+-- src/classify.rt:422:13
 operand-at-requires-9 : tie.Need-operand-at-requires-9
 operand-at-requires-9 c κs = search needs
 
--- src/classify.rt:367:37
+-- src/classify.rt:419:37
 classify-is-in-requires : tie.Need-classify-is-in-requires
 classify-is-in-requires c κs = search needs
 
--- src/classify.rt:343:1
+-- src/classify.rt:395:1
 returns : tie.Need-returns
-returns c = λ p n. rw (c .enum-told .given .1)
+returns c =
+    let enum-told = c .enum-told in
+    λ p n. rw (enum-told .given .1)
 
--- src/classify.rt:343:1
+-- src/classify.rt:395:1
 returns-2 : tie.Need-returns-2
-returns-2 c = λ p n. rw (c .enum-told2 .given .1)
+returns-2 c =
+    let enum-told2 = c .enum-told2 in
+    λ p n. rw (enum-told2 .given .1)
 
--- src/classify.rt:343:1
+-- src/classify.rt:395:1
 returns-3 : tie.Need-returns-3
-returns-3 c = λ p n. rw (c .enum-told3 .given .1)
+returns-3 c =
+    let enum-told3 = c .enum-told3 in
+    λ p n. rw (enum-told3 .given .1)
 
--- src/classify.rt:343:1
+-- src/classify.rt:395:1
 returns-4 : tie.Need-returns-4
-returns-4 c = λ p n. rw (c .enum-told4 .given .1)
+returns-4 c =
+    let enum-told4 = c .enum-told4 in
+    λ p n. rw (enum-told4 .given .1)
 
--- src/classify.rt:343:1
+-- src/classify.rt:395:1
 returns-5 : tie.Need-returns-5
-returns-5 c = λ p n.
-    c .classify-comparison .ensures p n
-    ∙ binary-law _ p n _ _ _ _ _ _ _ (c .before .before .before .before .before .r .given .1)
-    (c .before .before .before .operation-of .ensures) (c .before .before .operand-at .ensures p)
-    (c .before .operand-at2 .ensures p)
+returns-5 c =
+    let r = c .before .before .before .before .r in
+    let operand-at = c .before .before .operand-at in
+    let operand-at2 = c .before .operand-at2 in
+    let binary-conjunct = c .binary-conjunct in
+    λ p n. binary-conjunct .ensures p n ∙ binary-law _ p n _ _ _ _ _ _ _ (r .given .1) refl (operand-at .ensures
+    p) (operand-at2 .ensures p)
 
--- src/classify.rt:343:1
+-- src/classify.rt:395:1
 returns-6 : tie.Need-returns-6
-returns-6 c = λ p n.
-    c .classify-negation .ensures p n
-    ∙ negation-law _ p n _ _ _ (c .before .before .before .r2 .given .1) (c .before .record-at .ensures)
+returns-6 c =
+    let r2 = c .before .before .before .r2 in
+    let classify-negation = c .classify-negation in
+    let record-at = c .before .record-at in
+    λ p n. classify-negation .ensures p n ∙ negation-law _ p n _ _ _ (r2 .given .1) (record-at .ensures)
 
--- src/classify.rt:343:1
+-- src/classify.rt:395:1
 returns-7 : tie.Need-returns-7
-returns-7 c = λ p n. rw (c .before .before .before .r3 .given .1, c .classify-null .ensures p n, c .before .operand-at3 .ensures p)
+returns-7 c =
+    let r3 = c .before .before .before .r3 in
+    let operand-at3 = c .before .operand-at3 in
+    let classify-null = c .classify-null in
+    λ p n. rw (r3 .given .1, classify-null .ensures p n, operand-at3 .ensures p)
 
--- src/classify.rt:343:1
+-- src/classify.rt:395:1
 returns-8 : tie.Need-returns-8
-returns-8 c = λ p n. rw (c .before .before .before .r4 .given .1, c .classify-null2 .ensures p n, c .before .operand-at4 .ensures p)
+returns-8 c =
+    let r4 = c .before .before .before .r4 in
+    let operand-at4 = c .before .operand-at4 in
+    let classify-null2 = c .classify-null2 in
+    λ p n. rw (r4 .given .1, classify-null2 .ensures p n, operand-at4 .ensures p)
 
--- src/classify.rt:343:1
+-- src/classify.rt:395:1
 returns-9 : tie.Need-returns-9
-returns-9 c = λ p n. rw (c .before .before .before .before .before .r5 .given .1, c .classify-is-between .ensures p n, c .before .operand-at7 .ensures p, c .before .before .operand-at6 .ensures p, c .before .before .before .operand-at5 .ensures p)
+returns-9 c =
+    let r5 = c .before .before .before .before .before .r5 in
+    let operand-at5 = c .before .before .before .operand-at5 in
+    let operand-at6 = c .before .before .operand-at6 in
+    let classify-is-between = c .classify-is-between in
+    let operand-at7 = c .before .operand-at7 in
+    λ p n. rw (
+      r5 .given .1,
+      classify-is-between .ensures p n,
+      operand-at7 .ensures p,
+      operand-at6 .ensures p,
+      operand-at5 .ensures p,
+    )
 
--- src/classify.rt:343:1
+-- src/classify.rt:395:1
 returns-10 : tie.Need-returns-10
-returns-10 c = λ p n. rw (c .enum-told5 .given .1)
+returns-10 c =
+    let enum-told5 = c .enum-told5 in
+    λ p n. rw (enum-told5 .given .1)
 
--- src/classify.rt:343:1
+-- src/classify.rt:395:1
 returns-11 : tie.Need-returns-11
-returns-11 c = λ p n. rw (c .before .before .before .before .r6 .given .1, c .classify-is-in .ensures p n, c .before .operand-at9 .ensures p, c .before .before .operand-at8 .ensures p)
+returns-11 c =
+    let r6 = c .before .before .before .before .r6 in
+    let operand-at8 = c .before .before .operand-at8 in
+    let operand-at9 = c .before .operand-at9 in
+    let classify-is-in = c .classify-is-in in
+    λ p n. rw (r6 .given .1, classify-is-in .ensures p n, operand-at9 .ensures p, operand-at8 .ensures p)
 
 pub classify-record-spec : {M : Type 1} → statement M
 classify-record-spec =
@@ -185,10 +219,9 @@ classify-record-spec =
     enum-told-3
     enum-told-4
     enum-known-r
-    operation-of-requires
     operand-at-requires
     operand-at-requires-2
-    classify-comparison-requires
+    binary-conjunct-requires
     enum-known-r-2
     record-at-requires
     classify-negation-requires

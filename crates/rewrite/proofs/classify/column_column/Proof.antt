@@ -3,37 +3,55 @@ use Rattle.rewrite.proofs.classify.column_column.Statement.{statement}
 use Rattle.rewrite.proofs.classify.column_column.Tie as tie
 use Rattle.rewrite.proofs.classify.column_column.Reads as reads
 use Rattle.rewrite.proofs.classify.column_column.Lts as lts
-use Rattle.rewrite.proofs.classify.columns.Reads as columns-reads
+use Rattle.records.proofs.operator.is_null_propagating_comparison.Reads as is-null-propagating-comparison-reads
+use Rattle.records.proofs.operator.operator_code.Reads as operator-code-reads
+use mathlib.Core.Path.{_∙_, sym}
+use borrow.Author.Tests.{not-false}
+use Rattle.records.proofs.Laws.{flags}
+use Rattle.rewrite.proofs.Classifying.{columns-equal, columns-paired}
 
--- src/classify.rt:192:28
-enum-known-op : tie.Need-enum-known-op
-enum-known-op c = search needs
+-- src/classify.rt:199:9
+is-null-propagating-comparison-requires : tie.Need-is-null-propagating-comparison-requires
+is-null-propagating-comparison-requires c κs = search needs
 
--- src/classify.rt:192:34
-columns-requires : tie.Need-columns-requires
-columns-requires c κs = search needs
-
--- src/classify.rt:193:29
-enum-told : tie.Need-enum-told
-enum-told c = search needs
-
--- src/classify.rt:194:31
-enum-told-2 : tie.Need-enum-told-2
-enum-told-2 c = search needs
-
--- src/classify.rt:188:1
+-- src/classify.rt:200:9
 returns : tie.Need-returns
-returns c = λ p n. rw (c .before .before .op .given .1, c .columns .ensures p n)
+returns c =
+    let is-null-propagating-comparison = c .before .is-null-propagating-comparison in
+    λ p n. search (flags, ← is-null-propagating-comparison .ensures)
 
--- src/classify.rt:188:1
+-- src/classify.rt:202:8
+operator-code-requires : tie.Need-operator-code-requires
+operator-code-requires c κs = search needs
+
+-- src/classify.rt:203:9
 returns-2 : tie.Need-returns-2
-returns-2 c = λ p n. rw (c .enum-told .given .1)
+returns-2 c =
+    let st = c .before .before .before .before in
+    let is-null-propagating-comparison = c .before .before .before .is-null-propagating-comparison in
+    let if1 = c .before .before .if1 in
+    let operator-code = c .before .operator-code in
+    let if2 = c .if2 in
+    λ p n. columns-equal n _ _ (st .args .o) _ (sym (is-null-propagating-comparison .ensures) ∙ not-false _ (if1 .left))
+    (operator-code .ensures) (if2 .taken)
 
--- src/classify.rt:188:1
+-- src/classify.rt:196:1
 returns-3 : tie.Need-returns-3
-returns-3 c = λ p n. rw (c .enum-told2 .given .1)
+returns-3 c =
+    let st = c .before .before .before .before in
+    let is-null-propagating-comparison = c .before .before .before .is-null-propagating-comparison in
+    let if1 = c .before .before .if1 in
+    let operator-code = c .before .operator-code in
+    let if2 = c .if2 in
+    λ p n. columns-paired n _ _ (st .args .o) _ (sym (is-null-propagating-comparison .ensures) ∙ not-false _ (if1 .left))
+    (operator-code .ensures) (if2 .left)
 
 pub column-column-spec : {M : Type 1} → statement M
 column-column-spec =
     tie.close
-    (tie.spec enum-known-op columns-requires enum-told enum-told-2 returns returns-2 returns-3)
+    (tie.spec
+    is-null-propagating-comparison-requires
+    returns
+    operator-code-requires
+    returns-2
+    returns-3)
