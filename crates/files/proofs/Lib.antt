@@ -1,5 +1,4 @@
 pub mod Lists
-pub mod Sums
 pub mod Parts
 pub mod Sizes
 pub mod Making
@@ -12,4 +11,3 @@ pub mod Sections
 pub mod Unique
 pub mod Survival
 pub mod Called
-pub mod Cases

@@ -9,8 +9,8 @@ use native.Mathlib.Omega.{arith}
 use lib.ListN.{length, getD, set, take, drop, replicate, length-append, length-drop, length-take, length-replicate}
 use lib.Seq.{length-take-le, take-all}
 use Rattle.checking.proofs.Bits.{lt-or-le}
-use Rattle.files.specs.Checksum.{checksum}
-use Rattle.files.specs.Format.{itemSize, cleared, sealed, unsealed, block, piece, blocksTo, overwrite}
+use Rattle.checksum.specs.Checksum.{checksum, cleared}
+use Rattle.files.specs.Format.{itemSize, sealed, unsealed, block, piece, blocksTo, overwrite}
 use Rattle.files.proofs.Lists.{drop-zeros, overwrite-more}
 
 -- a block of zeros with its content

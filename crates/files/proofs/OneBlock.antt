@@ -13,8 +13,8 @@ use borrow.Author.Tests.{eq-eqb, le-leb, eqb-true}
 use Rattle.records.specs.Bytes.{all}
 use Rattle.records.proofs.Laws.{and-left, and-right}
 use Rattle.records.proofs.Loops.{all-true, all-holds}
-use Rattle.files.specs.Checksum.{checksum}
-use Rattle.files.specs.Format.{itemSize, capacity, cleared, sealed, unsealed, block}
+use Rattle.checksum.specs.Checksum.{checksum, cleared}
+use Rattle.files.specs.Format.{itemSize, capacity, sealed, unsealed, block}
 use Rattle.files.specs.Read.{kindOf, countOf, contentSize, contentOf, checksumOk, numberOk, kindOk, countOk, zerosFrom}
 use Rattle.files.specs.Read.{unusedOk, blockOk, taken}
 use Rattle.files.proofs.Sizes.{by-kind, kind-low, kind-high}

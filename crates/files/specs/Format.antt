@@ -6,7 +6,7 @@ use mathlib.Core.List.{List, [], _∷_, _++_}
 use mathlib.Core.Bool.{Bool, cond, _||_}
 use lib.ListN.{length, take, drop, replicate}
 use lib.Dec.{eqb}
-use Rattle.files.specs.Checksum.{checksum}
+use Rattle.checksum.specs.Checksum.{checksum, cleared}
 
 -- the bytes of one thing counted: a column, a record, a value; the end counts its eight bytes as one
 unfoldable pub itemSize : ℕ → ℕ
@@ -19,10 +19,6 @@ capacity k = cond (eqb k 1) 255 (cond (eqb k 2) 31 (cond (eqb k 3) 62 1))
 -- the kinds that may have several blocks
 unfoldable pub repeats : ℕ → Bool
 repeats k = eqb k 2 || eqb k 3
-
--- the block with its bytes 0 and 1 zero, over which the checksum goes
-unfoldable pub cleared : List ℕ → List ℕ
-cleared b = 0 ∷ 0 ∷ drop 2 b
 
 -- the block with its checksum, the high byte first
 unfoldable pub sealed : List ℕ → List ℕ

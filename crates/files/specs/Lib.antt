@@ -1,4 +1,3 @@
-pub mod Checksum
 pub mod Format
 pub mod Read
 pub mod Answers

@@ -6,8 +6,8 @@ use mathlib.Core.Bool.{Bool, cond, _&&_, _||_}
 use lib.ListN.{length, getD, take, drop}
 use lib.Dec.{ltb, leb, eqb}
 use Rattle.records.specs.Bytes.{word, all}
-use Rattle.files.specs.Checksum.{checksum}
-use Rattle.files.specs.Format.{itemSize, capacity, repeats, cleared}
+use Rattle.checksum.specs.Checksum.{checksum, cleared}
+use Rattle.files.specs.Format.{itemSize, capacity, repeats}
 
 -- ---- a block
 

@@ -3,8 +3,8 @@ ghost use mathlib.Core.Path.{_≡_};
 ghost use Prim.Native.Nat.{ℕ, _+_, _*_, _/_, _≤_, _<_};
 ghost use lib.ListN.{length};
 ghost use Rattle.files.specs.Format.{itemSize, block, blocksTo, blocksFor, overwrite};
-use crate::checksum::block_checksum;
 use crate::copy::put;
+use checksum::block_checksum;
 
 // What a block of kind `kind` counts that has `bytes` bytes of content.
 fn item_count(kind: u8, bytes: usize) -> u8

@@ -9,7 +9,7 @@ ghost use Rattle.files.specs.Format.{itemSize, capacity, repeats};
 ghost use Rattle.files.specs.Read.{kindOf, countOf, contentSize, checksumOk, numberOk, kindOk, countOk, zerosFrom};
 ghost use Rattle.files.specs.Read.{unusedOk, blockOk, followsOk, blockAt, blocksIn, blocksOk, orderOk, endsOk, endOf};
 ghost use Rattle.files.specs.Read.{wholeOk, usedOk, rootOf, structureOk, countIf, totalTo, total};
-use crate::checksum::block_checksum;
+use checksum::block_checksum;
 use records::bytes::word_in;
 
 pub fn item_size(kind: u8) -> usize

@@ -4,7 +4,7 @@ use Rattle.files.proofs.block.block_bytes.Tie as tie
 use Rattle.files.proofs.block.block_bytes.Reads as reads
 use Rattle.files.proofs.block.block_bytes.Lts as lts
 use Rattle.files.proofs.block.item_count.Reads as item-count-reads
-use Rattle.files.proofs.checksum.block_checksum.Reads as block-checksum-reads
+use Rattle.checksum.proofs.block_checksum.Reads as block-checksum-reads
 use Rattle.files.proofs.copy.put.Reads as put-reads
 use native.Mathlib.Omega.{arith}
 use Rattle.files.proofs.Making.{block-made}

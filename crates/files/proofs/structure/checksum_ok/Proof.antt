@@ -3,7 +3,7 @@ use Rattle.files.proofs.structure.checksum_ok.Statement.{statement}
 use Rattle.files.proofs.structure.checksum_ok.Tie as tie
 use Rattle.files.proofs.structure.checksum_ok.Reads as reads
 use Rattle.files.proofs.structure.checksum_ok.Lts as lts
-use Rattle.files.proofs.checksum.block_checksum.Reads as block-checksum-reads
+use Rattle.checksum.proofs.block_checksum.Reads as block-checksum-reads
 use Rattle.files.proofs.structure.same_sum.Reads as same-sum-reads
 use Rattle.files.specs.Read.{checksumOk}
 

@@ -2,7 +2,7 @@
 use mathlib.Core.Path.{_≡_, refl}
 use mathlib.Core.List.{List, [], _∷_}
 use Prim.Native.Nat.{ℕ}
-use Rattle.files.specs.Checksum.{onesAdd, bigWord, onesSum, checksum}
+use Rattle.checksum.specs.Checksum.{onesAdd, bigWord, onesSum, checksum}
 
 -- RFC 1071, section 3: the words 0001 f203 f4f5 f6f7 have the sum ddf2, so the checksum is 220d
 abbrev numerical : List ℕ

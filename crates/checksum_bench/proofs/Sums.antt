@@ -1,24 +1,13 @@
--- The checksum of a block, a word at a time from word 1 on.
+-- The checksum of a block, a pair of bytes at a time from the second on.
 -- Assumes nothing.
-use Prim.Native.Nat.{ℕ, zero, suc, _+_, _-_, _*_, _/_, _≤_, _<_}
+use Prim.Native.Nat.{ℕ, _+_, _-_, _*_, _/_, _≤_}
 use mathlib.Core.Path.{_≡_, refl, sym, _∙_, ap, ap₂}
-use mathlib.Core.List.{List, [], _∷_}
+use mathlib.Core.List.{List}
 use native.Mathlib.Numerals.{add-one}
 use native.Mathlib.Omega.{arith}
-use lib.ListN.{length, getD, drop, length-drop}
-use lib.Seq.{getD-drop}
-use Rattle.files.specs.Checksum.{onesAdd, bigWord, onesSum, checksum}
-use Rattle.files.specs.Format.{cleared}
-
-pub length-cleared : (b : List ℕ) → 2 ≤ length b → length (cleared b) ≡ length b
-unfolding cleared
-length-cleared b h = let e = length-drop 2 b in omega (arith, e, h)
-
-pub getD-cleared : (b : List ℕ) (i : ℕ) → 2 ≤ i → getD (cleared b) i 0 ≡ getD b i 0
-unfolding cleared
-getD-cleared b zero h = absurd (omega arith)
-getD-cleared b (suc zero) h = absurd (omega arith)
-getD-cleared b (suc (suc i)) h = getD-drop 2 b i 0 ∙ ap (λ n. getD b n 0) (omega arith)
+use lib.ListN.{length, getD}
+use Rattle.checksum.specs.Checksum.{onesAdd, bigWord, onesSum, checksum, cleared}
+use Rattle.checksum.proofs.Words.{length-cleared, getD-cleared}
 
 pub cleared-none : (b : List ℕ) → 0 ≡ onesSum (cleared b) 1
 unfolding onesSum onesAdd bigWord cleared

@@ -1,9 +1,9 @@
 -- The Internet checksum, RFC 1071: the one's complement of the one's complement sum of the 16-bit words, the high byte of
 -- a word first. A last byte without a partner is followed by zero, as the RFC has it.
 use Prim.Native.Nat.{ℕ, zero, suc, _+_, _-_, _*_, _/_}
-use mathlib.Core.List.{List}
+use mathlib.Core.List.{List, _∷_}
 use mathlib.Core.Bool.{cond}
-use lib.ListN.{length, getD}
+use lib.ListN.{length, getD, drop}
 use lib.Dec.{ltb}
 
 -- one's complement addition: a carry out of the sixteen bits is added at the low end
@@ -21,3 +21,7 @@ onesSum l (suc n) = onesAdd (onesSum l n) (bigWord l n)
 
 unfoldable pub checksum : List ℕ → ℕ
 checksum l = 65535 - onesSum l ((length l + 1) / 2)
+
+-- the block with its bytes 0 and 1 zero, over which the checksum goes (02, 2.3)
+unfoldable pub cleared : List ℕ → List ℕ
+cleared b = 0 ∷ 0 ∷ drop 2 b

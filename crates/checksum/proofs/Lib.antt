@@ -1,0 +1,3 @@
+pub mod Congruence
+pub mod Words
+pub mod Cases
