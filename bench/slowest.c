@@ -78,9 +78,10 @@ static uint64_t rewrite(void)
 {
     uint64_t root = 0;
     uint64_t used = 0;
+    uint64_t passes = 0;
     memcpy(scratch, now.records, sizeof scratch);
     return screen_rewrite(now.table, now.s.table_len, scratch, sizeof scratch, now.pool, now.s.pool_len, now.s.used,
-                          now.s.root, &root, &used);
+                          now.s.root, &root, &used, &passes);
 }
 
 static volatile uint64_t sink;

@@ -76,9 +76,9 @@
 #include <stdint.h>
 
 /* Of this interface: the major number rises if a host must be changed to compile, the minor one if something is new. */
-#define SCREEN_VERSION_MAJOR 2
-#define SCREEN_VERSION_MINOR 1
-#define SCREEN_VERSION "2.1"
+#define SCREEN_VERSION_MAJOR 3
+#define SCREEN_VERSION_MINOR 0
+#define SCREEN_VERSION "3.0"
 
 /* A host that leaves an answer unread is warned, by compilers that can. */
 #if defined(__GNUC__)
@@ -159,7 +159,7 @@ enum screen_closed {
  * Why a call refused. The numbers are looked for in this order and the first that applies is given: 1, 2, 3; then the
  * used records from record 0 up, reached by the root or not, and for each of them 4, 5, 6, 7; then 7 for the root.
  * After these come the numbers of the single calls, in rising order. Loading alone looks first at the file: 15, then
- * 14, then 1 to 7 of the screen that it holds.
+ * 14, then 1 to 7 of the screen that it holds. Building the slowest screen looks for 19, then 11.
  */
 enum screen_refusal {
     /* Over 64 columns, or a byte of the table that is no type. */
@@ -193,7 +193,8 @@ enum screen_refusal {
     /* 10 is not used: no refusal has this number. */
     /*
      * No room for what rewriting would add: used with the added records would be over 4,096 or over the whole records
-     * lent, or the rewritten root's tree, counted as for 8, would have over 4,096 records.
+     * lent, or the rewritten root's tree, counted as for 8, would have over 4,096 records. Building the slowest screen: a
+     * lent table, or lent records, that cannot hold it.
      */
     SCREEN_REFUSED_ROOM = 11,
     /* The row has not exactly eight bytes for each column. */
@@ -209,7 +210,9 @@ enum screen_refusal {
      * Not a saved screen: a wrong checksum, block order, kind or count, an unused byte that is not zero, a used count
      * that is not the number of records held, a missing end or a trailing byte.
      */
-    SCREEN_REFUSED_FILE = 15
+    SCREEN_REFUSED_FILE = 15,
+    /* Building the slowest screen: not 2 to 64 columns. */
+    SCREEN_REFUSED_COLUMNS = 19
 };
 
 /* Is the answer of a call a refusal? */
@@ -255,6 +258,8 @@ static inline const char *screen_refusal_text(uint32_t answer)
         return "A lent buffer is too short for the file, or for what the file holds.";
     case SCREEN_REFUSED_FILE:
         return "This is not a saved screen, or it was damaged.";
+    case SCREEN_REFUSED_COLUMNS:
+        return "The slowest screen is built for 2 to 64 columns.";
     default:
         return screen_refused(answer) ? "No refusal has this number." : "Not refused.";
     }
@@ -300,6 +305,11 @@ enum screen_rewrite_answer {
  *                  Keeps its value with SCREEN_UNCHANGED and with a refusal
  *   new_used       not NULL, and not the same as new_root. Written with the same two answers: how many records belong
  *                  to the screen returned. Keeps its value with SCREEN_UNCHANGED and with a refusal
+ *   passes         not NULL, and none of these two. Written with all three answers: how many passes over the equalities
+ *                  were made, the last one, which changes nothing, counted; 0 without an equality, or where a line
+ *                  made its column impossible and the reading stopped there. Keeps its value with a refusal
+ *
+ * *passes is at most the number of different columns in the equalities; screen_slowest builds screens that reach it.
  *
  * The screen returned is the one sent with the records as they are after the call, *new_root and *new_used; with
  * SCREEN_UNCHANGED it is the one sent. It keeps its table and its pool.
@@ -342,7 +352,32 @@ enum screen_rewrite_answer {
 SCREEN_MUST_USE
 uint32_t screen_rewrite(const uint8_t *table, size_t table_len, uint8_t *records, size_t records_len,
                         const uint8_t *pool, size_t pool_len, uint64_t used, uint64_t root,
-                        uint64_t *new_root, uint64_t *new_used);
+                        uint64_t *new_root, uint64_t *new_used, uint64_t *passes);
+
+/* The answer of screen_slowest. */
+enum screen_slowest_answer {
+    SCREEN_BUILT = 256 /* the screen stands in the front of table and records */
+};
+
+/*
+ * Builds, for capacity planning, a screen of Int columns that takes as many passes over its equalities as it has columns:
+ * one bound on the first column, and the chain of equalities of neighbours, listed from its far end. Answers SCREEN_BUILT,
+ * or a refusal: 19, 11.
+ *
+ *   columns               2 to 64
+ *   table, table_len      written with SCREEN_BUILT: the first `columns` bytes, which are the screen's table
+ *   records, records_len  written with SCREEN_BUILT: the first 3 x columns records
+ *   root, used            not NULL, and not the same. Written with SCREEN_BUILT: the screen's root, and 3 x columns
+ *
+ * The screen needs no pool. screen_check accepts it with the table cut to `columns`; screen_rewrite, lent 8 x columns - 2
+ * records or more, does not refuse it and makes exactly `columns` passes. That every such screen has in common; the value of
+ * the bound, the place of the bound among the lines and the order of the records are this builder's choice.
+ *
+ * Bytes behind those, and with a refusal all bytes and numbers, keep their values.
+ */
+SCREEN_MUST_USE
+uint32_t screen_slowest(uint64_t columns, uint8_t *table, size_t table_len, uint8_t *records, size_t records_len,
+                        uint64_t *root, uint64_t *used);
 
 /* ---------------------------------------------------------------------------------------------------- testing a row */
 

@@ -341,13 +341,37 @@ static inline uint32_t screen_lent_check(const struct screen_lent *s)
     return screen_check(s->table, s->table_len, s->records, s->records_len, s->pool, s->pool_len, s->used, s->root);
 }
 
-/* As screen_rewrite; root and used become those of the screen returned. */
+/* As screen_rewrite; root and used become those of the screen returned, *passes as there. */
 SCREEN_MUST_USE
-static inline uint32_t screen_lent_rewrite(struct screen_lent *s)
+static inline uint32_t screen_lent_rewrite_counted(struct screen_lent *s, uint64_t *passes)
 {
     uint64_t root = s->root, used = s->used;
     uint32_t answer = screen_rewrite(s->table, s->table_len, s->records, s->records_len, s->pool, s->pool_len, s->used,
-                                     s->root, &root, &used);
+                                     s->root, &root, &used, passes);
+    s->root = root;
+    s->used = used;
+    return answer;
+}
+
+/* The same for a caller who does not ask for the passes. */
+SCREEN_MUST_USE
+static inline uint32_t screen_lent_rewrite(struct screen_lent *s)
+{
+    uint64_t passes = 0;
+    return screen_lent_rewrite_counted(s, &passes);
+}
+
+/* As screen_slowest, into the rooms of s, which becomes the screen built; it has no pool. A refusal leaves s. */
+SCREEN_MUST_USE
+static inline uint32_t screen_lent_slowest(struct screen_lent *s, uint64_t columns)
+{
+    uint64_t root = s->root, used = s->used;
+    uint32_t answer = screen_slowest(columns, s->table, s->table_room, s->records, s->records_room, &root, &used);
+    if (screen_refused(answer))
+        return answer;
+    s->table_len = columns;
+    s->records_len = s->records_room;
+    s->pool_len = 0;
     s->root = root;
     s->used = used;
     return answer;

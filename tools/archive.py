@@ -11,7 +11,8 @@ import tempfile
 REPO = os.path.dirname(os.path.dirname(os.path.abspath(__file__)))
 ARCHIVE = os.path.join(REPO, "target", "staticlib", "libscreen.a")
 MARKS = (0x0123456789ABCDEF, 0xFEDCBA9876543210)  # out-parameters before a call
-FOUR_MARKS = MARKS + (0x5555AAAA5555AAAA, 0x00FF00FF00FF00FF)
+THREE_MARKS = MARKS + (0x5555AAAA5555AAAA,)
+FOUR_MARKS = THREE_MARKS + (0x00FF00FF00FF00FF,)
 
 
 FILLER = bytes((7 * i + 3) % 251 for i in range(1 << 16))
@@ -68,10 +69,20 @@ class Archive:
         return answer
 
     def rewrite(self, s):
-        """The answer, the two out-parameters, which stand at MARKS before the call, and the records at exit."""
-        out = [ctypes.c_uint64(mark) for mark in MARKS]
+        """The answer, new root, new used and passes, which stand at THREE_MARKS before the call, and the records at exit."""
+        out = [ctypes.c_uint64(mark) for mark in THREE_MARKS]
         answer, records = self._call("screen_rewrite", s, *map(ctypes.byref, out), writes_records=True)
-        return answer, out[0].value, out[1].value, records
+        return answer, *(o.value for o in out), records
+
+    def slowest(self, columns, *rooms):
+        """The answer, root and used, which stand at MARKS before the call, and the lent table and records of `rooms`
+        bytes, after and before it."""
+        old = [filler(n, room) for n, room in enumerate(rooms)]
+        buffers = [(ctypes.c_uint8 * len(b)).from_buffer_copy(b) if b else None for b in old]
+        out = [ctypes.c_uint64(mark) for mark in MARKS]
+        lent = [x for b, room in zip(buffers, rooms) for x in (b, ctypes.c_size_t(room))]
+        answer = self.lib.screen_slowest(ctypes.c_uint64(columns), *lent, *map(ctypes.byref, out))
+        return answer, *(o.value for o in out), [bytes(b or b"") for b in buffers], old
 
     def save(self, s, room):
         """The answer, the length, which stands at a mark before the call, and the lent file after and before it."""

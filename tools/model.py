@@ -220,6 +220,17 @@ def conjuncts(s):
     return lines
 
 
+def has_equality(s):
+    """Whether a line is an equality of two columns: by Eq, or Not of NotEq."""
+    records = records_of(s)
+
+    def equality(r, code):
+        return r.kind == BINARY and r.code == code and records[r.a].kind == records[r.b].kind == COLUMN
+
+    lines = [records[n] for n in conjuncts(s)]
+    return any(equality(r, EQ) or r.kind == NOT and equality(records[r.a], NOT_EQ) for r in lines)
+
+
 def is_plain(s):
     """A plain screen, of one that checking accepts."""
     records = records_of(s)

@@ -17,7 +17,10 @@ class Rust:
             build = os.path.join(archive.REPO, "tools", "oracle", "build")
             folder = subprocess.run([build], check=True, stdout=subprocess.PIPE, text=True).stdout.strip()
             path = os.path.join(folder, "liboracle.so")
-        self.call = ctypes.CDLL(path).oracle_rewrite
+        lib = ctypes.CDLL(path)
+        self.call = lib.oracle_rewrite
+        self.count = lib.oracle_passes
+        self.count.restype = ctypes.c_uint64
         self.added = (ctypes.c_uint8 * ROOM)()
 
     def merge(self, s, difference=True):
@@ -28,6 +31,13 @@ class Rust:
                            ctypes.byref(size), ctypes.byref(root))
         assert answer >= 0, "more records added than any screen adds"
         return UNCHANGED + answer, root.value, bytes(self.added[:size.value])
+
+    def passes(self, s):
+        """The rounds over the equalities that the Rust makes of an accepted screen; the difference moves none of them."""
+        if not m.has_equality(s):
+            return 0
+        return self.count(s.records[:16 * s.used], ctypes.c_size_t(16 * s.used), s.pool, ctypes.c_size_t(len(s.pool)),
+                          ctypes.c_size_t(s.root))
 
     def rewrite(self, s, difference=True):
         """The answer, new root and new used (None where they are not written), and the records at exit."""

@@ -15,7 +15,7 @@ import ctypes
 import datetime
 import os
 
-VERSION = (2, 1)  # of include/screen.h
+VERSION = (3, 0)  # of include/screen.h
 
 INT, DAY, TRUTH = 1, 2, 3
 TYPES = {"Int": INT, "Day": DAY, "Truth": TRUTH}
@@ -46,6 +46,7 @@ REFUSALS = {
         "zero.",
     14: "A lent buffer is too short for the file, or for what the file holds.",
     15: "This is not a saved screen, or it was damaged.",
+    19: "The slowest screen is built for 2 to 64 columns.",
 }
 
 
@@ -284,11 +285,12 @@ class Screen:
         """screen_rewrite: merges the lines. Answers 'unchanged', 'nothing passes' or 'rewritten'.
 
         The screen becomes the one returned: a row passes it exactly if it passed before. What it was stays among its
-        records; copy_reached leaves it behind. Refused with 1 to 7, 8, 9, 11.
+        records; copy_reached leaves it behind. `passes` is then how many passes over the equalities were made. Refused
+        with 1 to 7, 8, 9, 11.
         """
-        root, used = ctypes.c_uint64(self.root), ctypes.c_uint64(self.used)
-        answer = _call("screen_rewrite", *self._lent(), ctypes.byref(root), ctypes.byref(used))
-        self.root, self.used = root.value, used.value
+        root, used, passes = ctypes.c_uint64(self.root), ctypes.c_uint64(self.used), ctypes.c_uint64()
+        answer = _call("screen_rewrite", *self._lent(), ctypes.byref(root), ctypes.byref(used), ctypes.byref(passes))
+        self.root, self.used, self.passes = root.value, used.value, passes.value
         return ("unchanged", "nothing passes", "rewritten")[answer - 256]
 
     def test_row(self, row):
@@ -345,6 +347,21 @@ class Screen:
         loaded.pool[:VALUE_BYTES * loaded.values] = lent[2].raw[:VALUE_BYTES * loaded.values]
         loaded._begun = True
         return loaded
+
+    @classmethod
+    def slowest(cls, columns):
+        """screen_slowest: a screen of so many Int columns, c0, c1, .., that takes as many passes to rewrite.
+
+        Refused with 19 if they are not 2 to 64.
+        """
+        built = cls()
+        table = ctypes.create_string_buffer(64)
+        root, used = ctypes.c_uint64(), ctypes.c_uint64()
+        _call("screen_slowest", ctypes.c_uint64(columns), *_slice(table, 64), *_slice(built.records, len(built.records)),
+              ctypes.byref(root), ctypes.byref(used))
+        built.names, built.kinds = [f"c{i}" for i in range(columns)], list(table.raw[:columns])
+        built.root, built.used, built._begun = root.value, used.value, True
+        return built
 
     # -------------------------------------------------------------------------------------------------- copying it out
 

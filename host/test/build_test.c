@@ -244,7 +244,7 @@ static void wrappers_agree(void)
 {
     static struct store bytes;
     struct screen_lent s = sent;
-    uint64_t columns[2] = {1, 1}, counts[2] = {2, 2}, root = sent.root, used = sent.used, nulls;
+    uint64_t columns[2] = {1, 1}, counts[2] = {2, 2}, root = sent.root, used = sent.used, passes = 3, nulls;
     uint8_t row[32];
     bytes = sent_store;
     s.table = bytes.table;
@@ -261,10 +261,33 @@ static void wrappers_agree(void)
                                    &columns[1], &counts[1]) && columns[0] == columns[1] && counts[0] == counts[1],
            "screen_lent_columns_read", "another answer");
     uint32_t answer = screen_rewrite(sent.table, sent.table_len, sent.records, sent.records_len, sent.pool,
-                                     sent.pool_len, sent.used, sent.root, &root, &used);
-    report(screen_lent_rewrite(&s) == answer && s.root == root && s.used == used, "screen_lent_rewrite",
-           "another answer");
+                                     sent.pool_len, sent.used, sent.root, &root, &used, &passes);
+    uint64_t counted = 3;
+    report(screen_lent_rewrite_counted(&s, &counted) == answer && s.root == root && s.used == used && counted == passes,
+           "screen_lent_rewrite_counted", "another answer");
     report(memcmp(&bytes, &sent_store, sizeof bytes) == 0, "the wrappers", "other bytes");
+}
+
+/* screen_lent_slowest beside screen_slowest: the struct becomes the screen built, and what is refused keeps it. */
+static void test_slowest(void)
+{
+    static struct store wrapped, plain;
+    for (uint64_t n = 0; n <= 66; n++) {
+        struct screen_lent s, before;
+        uint64_t root = 77, used = 77, passes = 0;
+        begin_in(&s, &wrapped);
+        begin_in(&before, &plain);
+        s.root = s.used = 77;
+        uint32_t answer = screen_slowest(n, plain.table, before.table_room, plain.records, before.records_room, &root, &used);
+        report(screen_lent_slowest(&s, n) == answer && s.root == root && s.used == used, "screen_lent_slowest",
+               "another answer");
+        if (screen_refused(answer))
+            continue;
+        report(s.table_len == n && s.pool_len == 0 && memcmp(wrapped.records, plain.records, 48 * n) == 0,
+               "screen_lent_slowest", "another screen");
+        report(screen_lent_rewrite_counted(&s, &passes) == SCREEN_REWRITTEN && passes == n, "screen_lent_slowest",
+               "not as many passes as columns");
+    }
 }
 
 /* ------------------------------------------------------------------------------------------------ saved and loaded */
@@ -455,6 +478,7 @@ int main(void)
     test_days();
     test_full();
     test_negative();
+    test_slowest();
     test_loaded();
     test_random();
     return finish();

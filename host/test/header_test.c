@@ -16,7 +16,8 @@ static int calls_refuse(void)
     uint32_t answer = screen_check(NONE, 0, NONE, 0, NONE, 0, 0, 0);
     return answer == SCREEN_REFUSED_ROOT && screen_refused(answer) && screen_refusal_text(answer)[0] == 'T' &&
            screen_test_row(NONE, 0, NONE, 0, NONE, 0, 0, 0, NONE, 0, 0) == SCREEN_REFUSED_ROOT &&
-           screen_rewrite(NONE, 0, NONE, 0, NONE, 0, 0, 0, &root, &used) == SCREEN_REFUSED_ROOT &&
+           screen_rewrite(NONE, 0, NONE, 0, NONE, 0, 0, 0, &root, &used, &count) == SCREEN_REFUSED_ROOT &&
+           screen_slowest(1, NONE, 0, NONE, 0, &root, &used) == SCREEN_REFUSED_COLUMNS &&
            screen_save(NONE, 0, NONE, 0, NONE, 0, 0, 0, NONE, 0, &count) == SCREEN_REFUSED_ROOT &&
            screen_load(NONE, 0, NONE, 0, NONE, 0, NONE, 0, &root, &columns, &used, &count) == SCREEN_REFUSED_FILE &&
            screen_columns_read(NONE, 0, NONE, 0, NONE, 0, 0, 0, &columns, &count) == SCREEN_REFUSED_ROOT;

@@ -110,6 +110,15 @@ def test_types():
     report(s.test_row({**row, "strike": 20805, "expiry": 20805}) is True, "a day as its number")
 
 
+def test_slowest():
+    for columns in (2, 3, 64):
+        s = screen.Screen.slowest(columns)
+        report(s.check() == "accepted" and s.used == 3 * columns, f"the slowest screen of {columns} columns")
+        report(s.rewrite() == "rewritten" and s.passes == columns, f"as many passes as {columns} columns")
+    for columns in (0, 1, 65):
+        refused(19, f"{columns} columns", lambda: screen.Screen.slowest(columns))
+
+
 def test_refusals():
     s = screen.Screen(c0="Int", c1="Day", c2="Truth")
     refused(3, "an empty screen", s.check)
@@ -249,7 +258,7 @@ def test_told():
     report(calls == used, f"the calls of the header: {calls ^ used}")
 
 
-for test in (test_cases, test_types, test_refusals, test_files, test_python, test_divisions, test_random, test_told):
+for test in (test_cases, test_types, test_slowest, test_refusals, test_files, test_python, test_divisions, test_random, test_told):
     test()
 print(f"{counts[True]} passed, {counts[False]} failed")
 sys.exit(counts[False] != 0)

@@ -14,6 +14,7 @@ enum { PLENTY = 700 }; /* more records than any screen here adds */
 /* Out-parameters before a call, to see that a refusal and an unchanged screen keep them. */
 #define MARK_ROOT UINT64_C(0x0123456789abcdef)
 #define MARK_USED UINT64_C(0xfedcba9876543210)
+#define MARK_PASSES UINT64_C(0x5555aaaa5555aaaa)
 
 /* ---------------------------------------------------------------------------------------- screens of joined lines */
 
@@ -111,6 +112,7 @@ static uint8_t records_after[LEND_RECORDS];
 static uint32_t answer;
 static uint64_t new_root;
 static uint64_t new_used;
+static uint64_t new_passes;
 static int others_kept; /* table and pool */
 
 /* Lends so many records behind the used ones, and some bytes more, with values that no record has. */
@@ -132,8 +134,9 @@ static void run(void)
     before.pool = before_store.pool;
     new_root = MARK_ROOT;
     new_used = MARK_USED;
+    new_passes = MARK_PASSES;
     answer = screen_rewrite(s.table, sent.table_len, s.records, sent.records_len, s.pool, sent.pool_len, sent.used,
-                            sent.root, &new_root, &new_used);
+                            sent.root, &new_root, &new_used, &new_passes);
     if (sent.records_len > 0)
         memcpy(records_after, s.records, sent.records_len);
     others_kept = kept(s.table, sent.table, sent.table_len) && kept(s.pool, sent.pool, sent.pool_len);
@@ -217,6 +220,7 @@ static void nothing_written(const char *name, uint32_t want)
 {
     report(answer == want, name, answer < 256 ? screen_refusal_text(answer) : "another answer");
     report(new_root == MARK_ROOT && new_used == MARK_USED, name, "an out-parameter was written");
+    report((new_passes == MARK_PASSES) == (want < 256), name, "passes are written exactly if the screen is not refused");
     report(others_kept && kept(records_after, before.records, before.records_len), name, "a lent byte changed");
 }
 
@@ -743,18 +747,47 @@ static void test_check_refusals(void)
     rewritten("the same screen undamaged", 3);
 }
 
+/* The slowest screen of each number of columns takes as many passes; in a shorter buffer, or of another number, none. */
+static void test_slowest(void)
+{
+    static uint8_t table[SCREEN_MAX_COLUMNS + 1], records[16 * 512];
+    for (uint64_t n = 0; n <= SCREEN_MAX_COLUMNS + 1; n++) {
+        uint64_t root = MARK_ROOT, used = MARK_USED, passes = MARK_PASSES, new_at = 0, new_end = 0;
+        int known = 2 <= n && n <= SCREEN_MAX_COLUMNS;
+        memset(table, 0xee, sizeof table);
+        memset(records, 0xee, sizeof records);
+        report(screen_slowest(n, NULL, 0, NULL, 0, &root, &used) == (known ? SCREEN_REFUSED_ROOM : SCREEN_REFUSED_COLUMNS),
+               "slowest", "19 stands before 11");
+        report(known == (screen_slowest(n, table, sizeof table, records, sizeof records, &root, &used) == SCREEN_BUILT),
+               "slowest", "2 to 64 columns");
+        report(known ? root == 3 * n - 1 && used == 3 * n : root == MARK_ROOT && used == MARK_USED, "slowest",
+               "root and used");
+        report(table[known ? n : 0] == 0xee && records[known ? 48 * n : 0] == 0xee, "slowest", "a byte too many");
+        if (!known)
+            continue;
+        report(screen_slowest(n, table, n - 1, records, sizeof records, &root, &used) == SCREEN_REFUSED_ROOM &&
+                   screen_slowest(n, table, n, records, 48 * n - 1, &root, &used) == SCREEN_REFUSED_ROOM &&
+                   screen_slowest(n, table, n, records, 48 * n, &root, &used) == SCREEN_BUILT, "slowest", "not 11");
+        report(screen_rewrite(table, n, records, 16 * (8 * n - 3), NULL, 0, used, root, &new_at, &new_end, &passes) ==
+                   SCREEN_REFUSED_ROOM && passes == MARK_PASSES, "slowest", "served with a record less");
+        report(screen_rewrite(table, n, records, 16 * (8 * n - 2), NULL, 0, used, root, &new_at, &new_end, &passes) ==
+                   SCREEN_REWRITTEN && passes == n && new_end == 8 * n - 2, "slowest", "another number of passes");
+    }
+}
+
 static void test_empty_slices(void)
 {
     uint8_t one[32] = {SCREEN_KIND_NULL, 0, TRUTH};
     uint8_t *odd = (uint8_t *)(uintptr_t)1;
     uint64_t root = MARK_ROOT;
     uint64_t used = MARK_USED;
-    report(screen_rewrite(NULL, 0, NULL, 0, NULL, 0, 0, 0, &root, &used) == SCREEN_REFUSED_ROOT, "all NULL", "not 3");
-    report(screen_rewrite(odd, 0, odd, 0, odd, 0, 0, 0, &root, &used) == SCREEN_REFUSED_ROOT, "address 1", "not 3");
-    report(screen_rewrite(NULL, 0, NULL, 0, NULL, 0, 1, 0, &root, &used) == SCREEN_REFUSED_SIZE, "all NULL", "not 2");
-    report(screen_rewrite(NULL, 0, one, 16, NULL, 0, 1, 0, &root, &used) == SCREEN_UNCHANGED, "a null alone",
+    uint64_t passes = MARK_PASSES;
+    report(screen_rewrite(NULL, 0, NULL, 0, NULL, 0, 0, 0, &root, &used, &passes) == SCREEN_REFUSED_ROOT, "all NULL", "not 3");
+    report(screen_rewrite(odd, 0, odd, 0, odd, 0, 0, 0, &root, &used, &passes) == SCREEN_REFUSED_ROOT, "address 1", "not 3");
+    report(screen_rewrite(NULL, 0, NULL, 0, NULL, 0, 1, 0, &root, &used, &passes) == SCREEN_REFUSED_SIZE, "all NULL", "not 2");
+    report(screen_rewrite(NULL, 0, one, 16, NULL, 0, 1, 0, &root, &used, &passes) == SCREEN_UNCHANGED, "a null alone",
            "not unchanged");
-    report(screen_rewrite(odd, 0, one, 32, odd, 0, 1, 0, &root, &used) == SCREEN_UNCHANGED, "a null alone",
+    report(screen_rewrite(odd, 0, one, 32, odd, 0, 1, 0, &root, &used, &passes) == SCREEN_UNCHANGED, "a null alone",
            "not unchanged");
     report(root == MARK_ROOT && used == MARK_USED, "empty slices", "an out-parameter was written");
 }
@@ -967,6 +1000,7 @@ int main(void)
     test_shared();
     test_chain();
     test_check_refusals();
+    test_slowest();
     test_empty_slices();
     test_tree();
     test_conjuncts();

@@ -141,6 +141,7 @@ void json_tidied(struct text *out, const struct tidied *tidied, const struct run
                  const struct faults *faults)
 {
     add_head(out, files->screen, answer_text(tidied->answer));
+    text_add(out, "  \"passes\": %llu,\n", (unsigned long long)tidied->passes);
     add_columns(out, tidied);
     add_typed(out, tidied);
     add_tidied(out, tidied);

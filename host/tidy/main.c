@@ -26,7 +26,7 @@ static const char HELP[] =
 enum color { COLOR_AUTO, COLOR_ALWAYS, COLOR_NEVER };
 
 struct options {
-    bool help, version, only, json;
+    bool help, version, only, json, verbose;
     const char *html, *save;
     enum color color;
     const char *files[2];
@@ -91,6 +91,8 @@ static bool read_word(struct options *options, const char *word, char **next, in
         return options->only = true;
     if (strcmp(word, "--json") == 0)
         return options->json = true;
+    if (strcmp(word, "--verbose") == 0)
+        return options->verbose = true;
     if (strncmp(word, "--color=", 8) == 0)
         return read_color(options, word + 8);
     if (is_option(word, "--html"))
@@ -225,6 +227,8 @@ static void print_tidied(struct session *session)
         json_tidied(&session->out, &session->tidied, &files, &session->faults);
     } else {
         report_screen(&session->out, page, &session->tidied);
+        if (session->options.verbose)
+            report_passes(&session->out, &session->tidied);
         if (files.chain != NULL)
             report_chain(&session->out, page, &session->tidied, files.chain, files.outcome, files.chain_name);
     }

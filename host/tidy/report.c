@@ -119,6 +119,11 @@ void report_screen(struct text *out, struct page page, const struct tidied *tidi
     text_free(&answer);
 }
 
+void report_passes(struct text *out, const struct tidied *tidied)
+{
+    text_add(out, "Passes over the equalities: %llu.\n", (unsigned long long)tidied->passes);
+}
+
 /* -------------------------------------------------------------------------------------------------------- the chain */
 
 /* By their line in the file, which is the number that a spreadsheet shows. */

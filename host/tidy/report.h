@@ -23,6 +23,9 @@ void add_answer(struct text *text, const struct tidied *tidied);
 /* Each typed line and what became of it, each tidied line and the typed ones on its columns, the columns read. */
 void report_screen(struct text *out, struct page page, const struct tidied *tidied);
 
+/* How many passes over the equalities merging took. */
+void report_passes(struct text *out, const struct tidied *tidied);
+
 /* The rows that pass, before and after. */
 void report_chain(struct text *out, struct page page, const struct tidied *tidied, const struct chain *chain,
                   const struct outcome *outcome, const char *name);

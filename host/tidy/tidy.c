@@ -68,7 +68,7 @@ void tidy(struct tidied *tidied, struct build *build)
     build_lend(build);
     tidied->build = build;
     tidied->typed = tidied->returned = build->lent;
-    tidied->answer = screen_lent_rewrite(&tidied->returned);
+    tidied->answer = screen_lent_rewrite_counted(&tidied->returned, &tidied->passes);
     if (screen_refused(tidied->answer))
         return;
     uint32_t read = screen_lent_columns_read(&tidied->typed, &tidied->columns, &tidied->column_count);

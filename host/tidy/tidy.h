@@ -38,6 +38,7 @@ struct tidied_line {
 struct tidied {
     const struct build *build;
     uint32_t answer; /* SCREEN_.., or a refusal */
+    uint64_t passes; /* over the equalities, with an answer that is no refusal */
     struct screen_lent typed, returned;
     struct screen_lent copied; /* what the root of `returned` reaches, in a buffer of its own: the screen to run */
     struct tidied_line *lines; /* of a screen that is not refused */

@@ -20,11 +20,13 @@ use Rattle.merge.specs.Collect.{Collected, isIn}
 use Rattle.merge.specs.Propagate.{propagate, propagateEmitted}
 use Rattle.merge.specs.Emit.{Outcome, Unchanged, NothingPasses, Rebuilt, ofColumn, keptEqualities, droppedEquality}
 use Rattle.merge.specs.Emit.{anyUnsat, comparisons, propagated, resolved, rewrites, rebuilt, conclude, mergeFilterConstraints}
+use Rattle.merge.specs.Passes.{passesMade, passesOf, mergePasses}
 use Rattle.merge.specs.Rebuild.{comparisonNodes}
 use Rattle.merge.specs.Write.{writeComparisons, outcomeBytes}
 use Rattle.merge.specs.Rewrite.{writtenIf}
 use Rattle.merge.specs.declared.answer.RewriteAnswer.{RewriteAnswer}
 use Rattle.merge.specs.declared.answer.RewriteAnswer.the-variants as answer
+use Rattle.merge.specs.declared.answer.Rewriting.{Rewriting}
 use Rattle.rewrite.specs.Walk.{firstOf}
 use Rattle.rewrite.specs.Written.{chainAt, andsTo}
 use Rattle.stages.specs.Reckon.{reckoned, reckonedAnswer}
@@ -54,6 +56,20 @@ pub answered-as : (t rs trees : List ℕ) (used : ℕ) (o o′ : Outcome ℕ) (r
     → Answered t rs trees used o′ r out → Answered t rs trees used o r out
 answered-as t rs trees used o o′ r out e h = subst (λ x. Answered t rs trees used x r out) (sym e) h
 
+-- The passes of the first n nodes.
+abbrev pub passesTo : (ℕ → AExpr ℕ) → List ℕ → ℕ → ℕ
+passesTo R nodes n = mergePasses payload (map (classify R) (firstOf nodes n))
+
+-- The answer and the passes as one.
+pub answered-with : (t rs trees : List ℕ) (used : ℕ) (o : Outcome ℕ) (a : RewriteAnswer) (k n : ℕ) (r : Rewriting) (out : List ℕ)
+    → r .answer ≡ a → r .passes ≡ k → Answered t rs trees used o a out → k ≡ n
+    → (r .answer ≡ reckonedAnswer (length rs) trees used o)
+    × ((out ≡ writtenIf (r .answer) rs (outcomeBytes t rs used o)) × (r .passes ≡ n))
+answered-with t rs trees used o a k n r out ea ek h p = (
+  ea ∙ h .0,
+  (h .1 ∙ ap (λ x. writtenIf x rs (outcomeBytes t rs used o)) (sym ea), ek ∙ p),
+)
+
 outcome-by : (s : Collected ℕ) (x y : Bool) → (s .unsat || anyUnsat (s .order) (resolved payload s)) ≡ x
     → rewrites payload s ≡ y → conclude payload s ≡ cond x NothingPasses (cond y (rebuilt payload s) Unchanged)
 outcome-by s x y ex ey =
@@ -68,6 +84,18 @@ conclude-stopped R nodes n b e h = stopped (collectTo R nodes n) (sym e ∙ h)
     stopped : (s : Collected ℕ) → s .unsat ≡ true → conclude payload s ≡ NothingPasses
     stopped s h =
         outcome-by s true (rewrites payload s) (ap (λ b. b || anyUnsat (s .order) (resolved payload s)) h) refl
+
+pub passes-stopped : (R : ℕ → AExpr ℕ) (nodes : List ℕ) (n : ℕ) (b : Bool) → b ≡ collectTo R nodes n .unsat → b ≡ true
+    → 0 ≡ passesTo R nodes n
+unfolding collectTo
+passes-stopped R nodes n b e h = stopped (collectTo R nodes n) (sym e ∙ h)
+  where
+    stopped : (s : Collected ℕ) → s .unsat ≡ true → 0 ≡ passesOf payload s
+    stopped s h = sym (ap (λ b. cond b 0 (passesMade payload (length (s .order)) (s .edges) (s .constraints))) h)
+
+pub passes-is : (R : ℕ → AExpr ℕ) (nodes : List ℕ) (n : ℕ) → passesOf payload (collectTo R nodes n) ≡ passesTo R nodes n
+unfolding collectTo
+passes-is R nodes n = refl
 
 pub outcome-is : (R : ℕ → AExpr ℕ) (nodes : List ℕ) (n : ℕ) → outcomeTo R nodes n ≡ conclude payload (collectTo R nodes n)
 unfolding collectTo
@@ -103,6 +131,13 @@ module _ (t : Conjuncts) (table₁ table₂ table₃ : List ColumnConstraints) (
       at-end .emits
       ∙ ap (λ k. propagateEmitted payload k (edgesOf lefts rights equals edges) (s .constraints)) columns-are
       ∙ ap (λ es. propagateEmitted payload (length (s .order)) es (s .constraints)) (C .linked .listed)
+
+  pub passes-are : passes ≡ passesOf payload s
+  passes-are =
+      at-end .counts
+      ∙ ap (λ k. passesMade payload k (edgesOf lefts rights equals edges) (s .constraints)) columns-are
+      ∙ ap (λ es. passesMade payload (length (s .order)) es (s .constraints)) (C .linked .listed)
+      ∙ ap (λ b. cond b 0 (passesMade payload (length (s .order)) (s .edges) (s .constraints))) (sym live ∙ C .stops)
 
   K : Kept (propagated payload s) (edgesOf lefts rights equals edges) kept keeps dropped (s .opaque)
   K = keeping t ms₂ (propagated payload s) (s .opaque) rights spread-shown (C .keeping)

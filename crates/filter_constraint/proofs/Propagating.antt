@@ -1,6 +1,6 @@
 -- Propagate: an edge, one edge more, one pass more, and the end.
 use Rattle.merge.proofs.Passes.{mergeEdgeIf, edgeAnyIf, edgeEmittedIf}
-use Rattle.merge.specs.Passes.{passTimes, passCount}
+use Rattle.merge.specs.Passes.{passTimes, passCount, passesMade}
 use mathlib.Core.Path.{_≡_, refl, sym, _∙_, ap, subst}
 use mathlib.Core.Bool.{Bool, true, false, not, cond, _&&_, _||_, true≢false, or-false}
 use mathlib.Core.List.{List, [], _∷_, _++_}
@@ -10,11 +10,12 @@ use native.Mathlib.Numerals.{add-one}
 use lib.ListN.{length, getD, set, length-set}
 use lib.Seq.{getD-set-same, getD-set-other}
 use lib.Dec.{ltb, eqb}
-use borrow.Author.Tests.{eq-eqb, ne-eqb, eqb-true, eqb-false, ltb-false}
+use borrow.Author.Tests.{eq-eqb, ne-eqb, eqb-true, eqb-false, lt-ltb, ltb-false}
 use Rattle.records.proofs.Laws.{by-test, cond-yes}
 use Rattle.constraints.specs.Column as q
 use Rattle.constraints.specs.Column.{mergeFrom, mergeEmitted, mergeAny}
 use Rattle.constraints.specs.Payload.{payload}
+use Rattle.constraints.specs.Values.{isEmpty}
 use Rattle.columns.specs.Abstraction.{Conjuncts, numbered, columnOf, Fine}
 use Rattle.columns.specs.declared.column.ColumnConstraints.{ColumnConstraints}
 use Rattle.merge.specs.Collect.{update}
@@ -170,17 +171,44 @@ times-snoc : (p : ℕ) (es : List (ℕ × ℕ × ℕ)) (T : ColumnTable)
 times-snoc zero es T = refl
 times-snoc (suc p) es T = times-snoc p es (pass payload es T)
 
-pub passed-none : (t : Conjuncts) (table : List ColumnConstraints) (ms : List ℕ) (es : List (ℕ × ℕ × ℕ)) (n : ℕ) (T : ColumnTable)
-    → Shows t table ms T → Passed t table ms es n 0 false true T
-passed-none t table ms es n T S =
+-- without equalities no pass is made, and none would change anything
+passed-some : (t : Conjuncts) (table : List ColumnConstraints) (ms : List ℕ) (es : List (ℕ × ℕ × ℕ)) (n : ℕ) (T : ColumnTable)
+    → Shows t table ms T → Passed t table ms es n 0 false (not (isEmpty es)) T
+passed-some t table ms [] n T S = record { shows = S; left = still n; emits = quiet n; counts = refl }
+  where
+    still : (n : ℕ) → T ≡ propagate payload n [] T
+    still zero = refl
+    still (suc n) = refl
+
+    quiet : (n : ℕ) → false ≡ propagateEmitted payload n [] T
+    quiet zero = refl
+    quiet (suc n) = refl
+passed-some t table ms (e ∷ es) n T S =
     let z : n - 0 ≡ n = omega arith in
-    let c : 0 + passCount payload (n - 0) es T ≡ passCount payload (n - 0) es T = omega arith in
+    let c : 0 + passCount payload (n - 0) (e ∷ es) T ≡ passCount payload (n - 0) (e ∷ es) T = omega arith in
     record {
       shows = S;
-      left = ap (λ k. propagate payload k es T) z;
-      emits = ap (λ k. propagateEmitted payload k es T) z;
-      counts = c ∙ ap (λ k. passCount payload k es T) z;
+      left = ap (λ k. propagate payload k (e ∷ es) T) z;
+      emits = ap (λ k. propagateEmitted payload k (e ∷ es) T) z;
+      counts = c ∙ ap (λ k. passCount payload k (e ∷ es) T) z;
     }
+
+edges-some : (lefts rights equals : List ℕ) (edges : ℕ) → ltb 0 edges ≡ not (isEmpty (edgesOf lefts rights equals edges))
+unfolding edgesOf
+edges-some lefts rights equals zero = refl
+edges-some lefts rights equals (suc n) =
+    lt-ltb 0 (suc n) (omega arith)
+    ∙ sym (ap not (snoc-some (edgesOf lefts rights equals n) (getD lefts n 0, getD rights n 0, getD equals n 0)))
+  where
+    snoc-some : (l : List (ℕ × ℕ × ℕ)) (e : ℕ × ℕ × ℕ) → isEmpty (l ++ (e ∷ [])) ≡ false
+    snoc-some [] e = refl
+    snoc-some (x ∷ l) e = refl
+
+pub passed-none : (t : Conjuncts) (table : List ColumnConstraints) (ms lefts rights equals : List ℕ) (edges n : ℕ) (T : ColumnTable)
+    → Shows t table ms T → Passed t table ms (edgesOf lefts rights equals edges) n 0 false (ltb 0 edges) T
+passed-none t table ms lefts rights equals edges n T S =
+    subst (λ b. Passed t table ms (edgesOf lefts rights equals edges) n 0 false b T)
+    (sym (edges-some lefts rights equals edges)) (passed-some t table ms (edgesOf lefts rights equals edges) n T S)
 
 -- a pass that is not the last
 propagate-by : (b : Bool) (m : ℕ) (es : List (ℕ × ℕ × ℕ)) (T : ColumnTable) → passAny payload es T ≡ b
@@ -212,7 +240,7 @@ passed-more t table table′ ms ms′ es n p emitted going em any T l eg P N =
     sym (ap (λ b. cond b (propagate payload (n - p) es U) U) eg) ∙ P .left in
     let emits : (emitted || propagateEmitted payload (n - p) es U) ≡ propagateEmitted payload n es T =
     sym (ap (λ b. emitted || cond b (propagateEmitted payload (n - p) es U) false) eg) ∙ P .emits in
-    let counts : p + passCount payload (n - p) es U ≡ passCount payload n es T =
+    let counts : p + passCount payload (n - p) es U ≡ passesMade payload n es T =
     sym (ap (λ b. p + cond b (passCount payload (n - p) es U) 0) eg) ∙ P .counts in
     let step : suc p + cond any (passCount payload m es (pass payload es U)) 0 ≡
     p + suc (cond any (passCount payload m es (pass payload es U)) 0) = omega arith in

@@ -14,7 +14,7 @@ use Rattle.columns.specs.declared.column.ColumnConstraints.{ColumnConstraints}
 use Rattle.merge.specs.Classify.{classify}
 use Rattle.merge.specs.Collect.{Table, Collected, begin, collect, isIn, addTo}
 use Rattle.merge.specs.Emit.{keptEqualities, droppedEquality, anyUnsat, comparisons}
-use Rattle.merge.specs.Passes.{passTimes, passCount}
+use Rattle.merge.specs.Passes.{passTimes, passCount, passesMade}
 use Rattle.merge.specs.Propagate.{mergeEdge, edgeAny, edgeEmitted, pass, passAny, passEmitted, propagate, propagateEmitted}
 use Rattle.merge.specs.Write.{writeComparisons}
 use Rattle.rewrite.specs.Walk.{firstOf}
@@ -121,14 +121,14 @@ pub record Passed (t : Conjuncts) (table : List ColumnConstraints) (marks : List
       (emitted || cond going (propagateEmitted payload (n - p) es (passTimes payload p es T)) false) ≡
       propagateEmitted payload n es T
   pub counts :
-      p + cond going (passCount payload (n - p) es (passTimes payload p es T)) 0 ≡ passCount payload n es T
+      p + cond going (passCount payload (n - p) es (passTimes payload p es T)) 0 ≡ passesMade payload n es T
 
 -- All passes of at most n.
 pub record Spread (t : Conjuncts) (table : List ColumnConstraints) (marks : List ℕ) (es : List (ℕ × ℕ × ℕ)) (n : ℕ)
     (emitted : Bool) (passes : ℕ) (T : ℕ → q.ColumnConstraints ℕ) : Type 0 where
   pub shows : Shows t table marks (propagate payload n es T)
   pub emits : emitted ≡ propagateEmitted payload n es T
-  pub counts : passes ≡ passCount payload n es T
+  pub counts : passes ≡ passesMade payload n es T
 
 -- ---- The kept equalities, as far as the edges es.
 pub record Kept (table : ℕ → q.ColumnConstraints ℕ) (es : List (ℕ × ℕ × ℕ)) (kept : List ℕ) (keeps : ℕ)

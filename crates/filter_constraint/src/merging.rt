@@ -9,6 +9,7 @@ ghost use Rattle.constraints.specs.Payload.{payload};
 ghost use Rattle.columns.specs.Abstraction.{conjuncts};
 ghost use Rattle.merge.specs.Classify.{classify};
 ghost use Rattle.merge.specs.Emit.{mergeFilterConstraints};
+ghost use Rattle.merge.specs.Passes.{mergePasses};
 ghost use Rattle.merge.specs.Write.{outcomeBytes};
 ghost use Rattle.merge.specs.Rewrite.{writtenIf};
 ghost use Rattle.rewrite.specs.Walk.{firstOf};
@@ -22,10 +23,21 @@ use crate::conclude::resolve_all;
 use crate::conclude::write_comparisons;
 use crate::propagate::propagate_equalities;
 use merge::answer::RewriteAnswer;
+use merge::answer::Rewriting;
 use rewrite::write::write_ands;
 use stages::fields::is_rewritten;
 use stages::reckon::nothing_passes;
 use stages::reckon::rebuilt_answer;
+
+fn with_passes(answer: RewriteAnswer, passes: usize) -> Rewriting
+    ensures { λ r. ⌜ r .answer ≡ answer ⌝ }
+    ensures { λ r. ⌜ r .passes ≡ passes ⌝ }
+{
+    Rewriting {
+        answer: answer,
+        passes: passes as u64,
+    }
+}
 
 /// The first n of `nodes` are the screen's conjuncts; kinds, values, starts and counts are their tables, `trees` the
 /// tree counts of the records up to the root. `marks` has room for the columns' numbers: 64 rows, n of them in each.
@@ -42,16 +54,18 @@ pub fn merge_filter_constraints(
     starts: &[u32],
     counts: &[u32],
     marks: &mut [u8],
-) -> RewriteAnswer
+) -> Rewriting
     requires { ⌜ (n ≤ stride (now marks)) × (stride (now marks) ≤ 128) × (used ≤ 4096) × (n ≤ length (now nodes)) ⌝ }
     requires { ⌜ ((i : ℕ) → i < n → ToldConjunct (conjuncts (now kinds) (now values) (now starts) (now counts) (now p)) i
         (classify (aexprOf (now rs) (now p)) (getD (now nodes) i 0))) ⌝ }
     requires { ⌜ ((i : ℕ) → i < n → ColumnsBelow 64 (classify (aexprOf (now rs) (now p)) (getD (now nodes) i 0))) ⌝ }
-    ensures { λ r. ⌜ r ≡ reckonedAnswer (length (now (rs .entry))) (now (trees .entry)) used (mergeFilterConstraints payload
+    ensures { λ r. ⌜ r .answer ≡ reckonedAnswer (length (now (rs .entry))) (now (trees .entry)) used (mergeFilterConstraints payload
         (map (classify (aexprOf (now (rs .entry)) (now (p .entry)))) (firstOf (now (nodes .entry)) n))) ⌝ }
-    ensures { λ r. ⌜ now (rs .exit) ≡ writtenIf r (now (rs .entry)) (outcomeBytes (now (t .entry)) (now (rs .entry)) used
-        (mergeFilterConstraints payload (map (classify (aexprOf (now (rs .entry)) (now (p .entry))))
+    ensures { λ r. ⌜ now (rs .exit) ≡ writtenIf (r .answer) (now (rs .entry)) (outcomeBytes (now (t .entry)) (now (rs .entry))
+        used (mergeFilterConstraints payload (map (classify (aexprOf (now (rs .entry)) (now (p .entry))))
         (firstOf (now (nodes .entry)) n)))) ⌝ }
+    ensures { λ r. ⌜ r .passes ≡ mergePasses payload (map (classify (aexprOf (now (rs .entry)) (now (p .entry))))
+        (firstOf (now (nodes .entry)) n)) ⌝ }
 {
     let mut cells = [0u64; 512];
     let mut order = [0u32; 260];
@@ -77,7 +91,7 @@ pub fn merge_filter_constraints(
         &mut equals,
     );
     if s.unsat {
-        return nothing_passes(rs, used);
+        return with_passes(nothing_passes(rs, used), 0);
     }
     let m = propagate_equalities(
         kinds,
@@ -105,16 +119,16 @@ pub fn merge_filter_constraints(
         s.columns,
     );
     if r.unsat {
-        return nothing_passes(rs, used);
+        return with_passes(nothing_passes(rs, used), m.passes);
     }
     if !((r.total < s.bounds) | (s.normalized | (m.emitted | k.dropped))) {
-        return RewriteAnswer::Unchanged;
+        return with_passes(RewriteAnswer::Unchanged, m.passes);
     }
     let answer = rebuilt_answer(rs.len(), trees, &kept, k.keeps, used, r.total);
     if !is_rewritten(answer) {
-        return answer;
+        return with_passes(answer, m.passes);
     }
     let u = write_comparisons(t, rs, used, kinds, values, &cells, marks, &order, s.columns);
     write_ands(rs, &kept, k.keeps, used, k.keeps + r.total, u);
-    answer
+    with_passes(answer, m.passes)
 }

@@ -111,7 +111,7 @@ pub fn propagate_pass(
     }
 }
 
-/// Passes up to and with the first that changes nothing, at most as many as columns.
+/// Passes up to and with the first that changes nothing, at most as many as columns; none without equalities.
 pub fn propagate_equalities(
     kinds: &[u8],
     values: &[u64],
@@ -135,7 +135,7 @@ pub fn propagate_equalities(
     ensures { λ _. ⌜ Fits (now (cells .exit)) (now (marks .exit)) ⌝ }
 {
     let mut emitted = false;
-    let mut going = true;
+    let mut going = 0 < edges;
     let mut passes: usize = 0;
     while (passes < columns) & going {
         let m = propagate_pass(

@@ -1,5 +1,5 @@
 -- The definitions yield the starred cases of 01: one table (specs/Cases.antt), one proof. So do they its other cases,
--- and those of negated lines.
+-- those of negated lines, and the numbers of passes.
 use mathlib.Core.Path.{_≡_, refl}
 use mathlib.Core.List.{map}
 use Rattle.records.specs.Bytes.{word, valueAt, all, first}
@@ -16,7 +16,8 @@ use Rattle.truth.specs.FromBytes.{valuesFrom, aexprOf, aexprAt, rowKeys}
 use Rattle.merge.specs.Rewrite.{rewriteAnswer, rewriteBytes}
 use Rattle.merge.specs.Write.{splice}
 use Rattle.constraints.specs.Payload.{payload}
-use Rattle.merge.specs.Cases.{starred, further, negatedLines, yielded, due}
+use Rattle.merge.specs.Passes.{rewritePasses}
+use Rattle.merge.specs.Cases.{starred, further, negatedLines, yielded, due, passesCases, passesYielded}
 
 pub starred-cases : map yielded starred ≡ map due starred
 unfolding payload word valueAt all first typesKnown tableOk sizesOk meaningFault recordFault firstFault recordsAnswer
@@ -41,3 +42,8 @@ unfolding payload word valueAt all first typesKnown tableOk sizesOk meaningFault
     knownOk zeroOr unusedOk literalOk shapeOk valuesFrom aexprOf aexprAt rowKeys rewriteAnswer rewriteBytes
     splice
 negated-cases = refl
+
+pub passes-cases : map passesYielded passesCases ≡ map (λ c. c .passes) passesCases
+unfolding payload word valueAt upTo course operatorAt fieldsAt closedAt decode recordAt valuesFrom aexprOf aexprAt
+    rewritePasses
+passes-cases = refl

@@ -6,8 +6,14 @@ use Prim.Native.Nat.{ℕ, zero, suc, _+_, _≤_}
 use native.Mathlib.Omega.{arith}
 use lib.ListN.{length}
 use Rattle.constraints.specs.Scalars.{Scalars}
-use Rattle.merge.specs.Collect.{isIn, enter, begin, collect}
-use Rattle.merge.specs.Passes.{edgeColumns, PassesEnd, PassesAtMostColumns}
+use Rattle.constraints.specs.Payload.{payload}
+use Rattle.constraints.specs.Values.{isEmpty}
+use Rattle.truth.specs.FromBytes.{aexprAt}
+use Rattle.merge.specs.Classify.{Conjunct, readConjuncts}
+use Rattle.merge.specs.Collect.{Table, Collected, isIn, enter, begin, collect}
+use Rattle.merge.specs.Passes.{equalities, edgeColumns, PassesEnd, PassesAtMostColumns, passCount, passesMade, passesOf}
+use Rattle.merge.specs.Passes.{mergePasses, MergePassesAtMostColumns, rewritePasses, RewritePassesAtMostColumns}
+use Rattle.merge.proofs.ReadBack.{collect-all, edges-read}
 use Rattle.merge.proofs.Passes.{In, EdgesIn, passCount-le}
 use Rattle.merge.proofs.Sound.{in-enter, enter-in, collect-in, edges-grow, ends}
 
@@ -42,3 +48,32 @@ module _ {K Val : Type 0} (S : Scalars K Val) where
   passes-at-most-columns n (e ∷ es) t h =
       passCount-le S (edgeColumns (e ∷ es)) n (e ∷ es) t (edges-in (e ∷ es))
       (enter-long (enter (e .0) (edgeColumns es)) (e .1))
+
+  -- a reading that did not stop has seen every equality
+  pub edges-are : (l : List (Conjunct Val)) → collect S l begin .unsat ≡ false → collect S l begin .edges ≡ equalities l
+  edges-are l h = ap (λ s. s .edges) (collect-all S l begin h) ∙ edges-read S l begin
+
+  made-at-most : (n : ℕ) (es : List (ℕ × ℕ × ℕ)) (t : Table Val) → passesMade S n es t ≤ length (edgeColumns es)
+  made-at-most n es t = go (isEmpty es) refl
+    where
+      go : (b : Bool) → isEmpty es ≡ b → cond b 0 (passCount S n es t) ≤ length (edgeColumns es)
+      go true e = omega arith
+      go false e = passes-at-most-columns n es t e
+
+  pub merge-passes-at-most : MergePassesAtMostColumns S
+  merge-passes-at-most l = go (collect S l begin) (edges-are l)
+    where
+      go : (s : Collected Val) → (s .unsat ≡ false → s .edges ≡ equalities l)
+          → passesOf S s ≤ length (edgeColumns (equalities l))
+      go s h = by (s .unsat) refl
+        where
+          by : (b : Bool) → s .unsat ≡ b → cond b 0 (passesMade S (length (s .order)) (s .edges) (s .constraints))
+              ≤ length (edgeColumns (equalities l))
+          by true e = omega arith
+          by false e =
+              subst (λ es. passesMade S (length (s .order)) (s .edges) (s .constraints) ≤ length (edgeColumns es)) (h e)
+              (made-at-most (length (s .order)) (s .edges) (s .constraints))
+
+pub rewrite-passes-at-most : RewritePassesAtMostColumns
+unfolding rewritePasses
+rewrite-passes-at-most rs p used root = merge-passes-at-most payload (readConjuncts (aexprAt rs p used) root)

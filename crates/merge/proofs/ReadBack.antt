@@ -19,6 +19,7 @@ use Rattle.merge.specs.Classify.{Bounds, Normalized, Conjunct, Equality,
 use Rattle.merge.specs.Collect.{Collected, Table, addTo, begin, collect, collectOne, enter, isIn}
 use Rattle.merge.specs.Collect.{requireNonNull}
 use Rattle.merge.specs.Emit.{comparisons, isFixed, ofColumn, propagated}
+use Rattle.merge.specs.Passes.{equalities}
 use Rattle.merge.proofs.Forms.{OnlyRecorded}
 use Rattle.merge.proofs.Passes.{In, eqb-path, eqb-self}
 use Rattle.merge.proofs.Sound.{collect-going, collectOne-grows, enter-in, upd-ind}
@@ -228,26 +229,17 @@ module _ {K Val : Type 0} (S : Scalars K Val) where
   kept-unforced (x ∷ l) s k = kept-unforced l (collectOne S x s) (k .1) ∙ collectOne-unforced x s (k .0)
 
   -- ---- The equalities read.
-  abbrev pub edgesOf : List (Conjunct Val) → List (ℕ × ℕ × ℕ)
-  edgesOf [] = []
-  edgesOf (Bounds c l ∷ xs) = edgesOf xs
-  edgesOf (Normalized c l ∷ xs) = edgesOf xs
-  edgesOf (Equality a b n ∷ xs) = (a, b, n) ∷ edgesOf xs
-  edgesOf (Recorded z n c l ∷ xs) = edgesOf xs
-  edgesOf (NonNullPair n a b ∷ xs) = edgesOf xs
-  edgesOf (Opaque n ∷ xs) = edgesOf xs
-
-  pub edges-read : (l : List (Conjunct Val)) (s : Collected Val) → collectAll l s .edges ≡ s .edges ++ edgesOf l
+  pub edges-read : (l : List (Conjunct Val)) (s : Collected Val) → collectAll l s .edges ≡ s .edges ++ equalities l
   edges-read [] s = sym (append-nil (s .edges))
   edges-read (Bounds c l ∷ xs) s = edges-read xs (collectOne S (Bounds c l) s)
   edges-read (Normalized c l ∷ xs) s = edges-read xs (collectOne S (Normalized c l) s)
   edges-read (Equality a b n ∷ xs) s = edges-read xs (collectOne S (Equality a b n) s)
-      ∙ append-assoc (s .edges) ((a, b, n) ∷ []) (edgesOf xs)
+      ∙ append-assoc (s .edges) ((a, b, n) ∷ []) (equalities xs)
   edges-read (Recorded z n c l ∷ xs) s = edges-read xs (collectOne S (Recorded z n c l) s)
   edges-read (NonNullPair n a b ∷ xs) s = edges-read xs (collectOne S (NonNullPair n a b) s)
   edges-read (Opaque n ∷ xs) s = edges-read xs (collectOne S (Opaque n) s)
 
-  pub edges-append : (l m : List (Conjunct Val)) → edgesOf (l ++ m) ≡ edgesOf l ++ edgesOf m
+  pub edges-append : (l m : List (Conjunct Val)) → equalities (l ++ m) ≡ equalities l ++ equalities m
   edges-append [] m = refl
   edges-append (Bounds c l ∷ xs) m = edges-append xs m
   edges-append (Normalized c l ∷ xs) m = edges-append xs m
@@ -256,7 +248,7 @@ module _ {K Val : Type 0} (S : Scalars K Val) where
   edges-append (NonNullPair n a b ∷ xs) m = edges-append xs m
   edges-append (Opaque n ∷ xs) m = edges-append xs m
 
-  others-edges : (l : List (Conjunct Val)) → edgesOf (keptOthers l) ≡ []
+  others-edges : (l : List (Conjunct Val)) → equalities (keptOthers l) ≡ []
   others-edges [] = refl
   others-edges (Bounds c l ∷ xs) = others-edges xs
   others-edges (Normalized c l ∷ xs) = others-edges xs
@@ -265,19 +257,19 @@ module _ {K Val : Type 0} (S : Scalars K Val) where
   others-edges (NonNullPair n a b ∷ xs) = others-edges xs
   others-edges (Opaque n ∷ xs) = others-edges xs
 
-  written-edges : (cs : List (ℕ × ColumnComparison Val)) → edgesOf (map conjunctOf cs) ≡ []
+  written-edges : (cs : List (ℕ × ColumnComparison Val)) → equalities (map conjunctOf cs) ≡ []
   written-edges [] = refl
   written-edges (x ∷ cs) = written-edges cs
 
   pub readBack-edges : (l : List (Conjunct Val)) (cs : List (ℕ × ColumnComparison Val)) →
-      edgesOf (readBack l cs) ≡ edgesOf (keptEquals (propagated S (collect S l begin)) l)
+      equalities (readBack l cs) ≡ equalities (keptEquals (propagated S (collect S l begin)) l)
   readBack-edges l cs =
       let t = propagated S (collect S l begin) in
       edges-append (keptConjuncts l) (map conjunctOf cs)
-      ∙ ap (λ e. edgesOf (keptConjuncts l) ++ e) (written-edges cs)
-      ∙ append-nil (edgesOf (keptConjuncts l))
+      ∙ ap (λ e. equalities (keptConjuncts l) ++ e) (written-edges cs)
+      ∙ append-nil (equalities (keptConjuncts l))
       ∙ edges-append (keptOthers l) (keptEquals t l)
-      ∙ ap (λ e. e ++ edgesOf (keptEquals t l)) (others-edges l)
+      ∙ ap (λ e. e ++ equalities (keptEquals t l)) (others-edges l)
 
   -- ---- The comparisons read.
   pub read-count : (cs : List (ℕ × ColumnComparison Val)) (s : Collected Val) →

@@ -18,11 +18,12 @@ use Rattle.merge.proofs.Operators.{ordinary-of}
 use Rattle.merge.specs.Classify.{Bounds, Normalized, Conjunct, Equality, NonNullPair, Opaque, Recorded, classify, readConjuncts}
 use Rattle.merge.specs.Collect.{Collected, Table, begin, collect, collectOne}
 use Rattle.merge.specs.Emit.{isFixed, keptEqualities, propagated}
+use Rattle.merge.specs.Passes.{equalities}
 use Rattle.merge.specs.Rebuild.{andRoot, comparisonNodes, comparisonOf, comparisonsEnd, foldRoot, valueOf}
 use Rattle.merge.proofs.Chains.{Below, minterms-law}
 use Rattle.merge.proofs.Classified.{classify-same}
 use Rattle.merge.proofs.Passes.{eqb-path, eqb-self}
-use Rattle.merge.proofs.ReadBack.{collect-all, collectAll, edges-read, edgesOf, keptConjuncts, keptEquals}
+use Rattle.merge.proofs.ReadBack.{collect-all, collectAll, edges-read, keptConjuncts, keptEquals}
 use Rattle.merge.proofs.ReadBack.{keptOthers}
 use Rattle.merge.proofs.Readings.{Names}
 use Rattle.merge.proofs.Rebuilding.{addAnds, addComparison, addComparisons, foldRecords, putRecord, rebuild}
@@ -227,7 +228,7 @@ module _ {K Val : Type 0} (S : Scalars K Val) where
         go (Opaque m) e p h = back-cons n m (Opaque m) (othersOf xs) (keptOthers xs) e p (o .0) h
 
     equals-back : (t : Table Val) (ms : List ℕ) → Ones R ms →
-        Back (keptEqualities S t (edgesOf S (map (classify R) ms))) (keptEquals S t (map (classify R) ms))
+        Back (keptEqualities S t (equalities (map (classify R) ms))) (keptEquals S t (map (classify R) ms))
     equals-back t [] o = (refl, tt)
     equals-back t (n ∷ ms) o = go (classify R n) refl (names n) (equals-back t ms (o .1))
       where
@@ -235,16 +236,16 @@ module _ {K Val : Type 0} (S : Scalars K Val) where
         xs = map (classify R) ms
 
         go : (x : Conjunct Val) → classify R n ≡ x → Names n x →
-            Back (keptEqualities S t (edgesOf S xs)) (keptEquals S t xs) →
-            Back (keptEqualities S t (edgesOf S (x ∷ xs))) (keptEquals S t (x ∷ xs))
+            Back (keptEqualities S t (equalities xs)) (keptEquals S t xs) →
+            Back (keptEqualities S t (equalities (x ∷ xs))) (keptEquals S t (x ∷ xs))
         go (Bounds c l) e p h = h
         go (Normalized c l) e p h = h
         go (Equality a b m) e p h = by (isFixed (fixedValue S (t a)))
           where
-            by : (f : Bool) → Back (cond f (keptEqualities S t (edgesOf S xs)) (m ∷ keptEqualities S t (edgesOf S xs)))
+            by : (f : Bool) → Back (cond f (keptEqualities S t (equalities xs)) (m ∷ keptEqualities S t (equalities xs)))
                 (cond f (keptEquals S t xs) (Equality a b m ∷ keptEquals S t xs))
             by true = h
-            by false = back-cons n m (Equality a b m) (keptEqualities S t (edgesOf S xs)) (keptEquals S t xs) e p
+            by false = back-cons n m (Equality a b m) (keptEqualities S t (equalities xs)) (keptEquals S t xs) e p
                 (o .0) h
         go (Recorded z m c l) e p h = h
         go (NonNullPair m a b) e p h = h
@@ -269,12 +270,12 @@ module _ {K Val : Type 0} (S : Scalars K Val) where
         let t = propagated S (collect S l begin) in
         let c = collect-all S l begin u in
         let a : collect S l begin .opaque ≡ othersOf l = ap (λ s. s .opaque) c ∙ others-read l begin in
-        let b : collect S l begin .edges ≡ edgesOf S l = ap (λ s. s .edges) c ∙ edges-read S l begin in
+        let b : collect S l begin .edges ≡ equalities l = ap (λ s. s .edges) c ∙ edges-read S l begin in
         subst (λ k. Back (k ++ keptEqualities S t (collect S l begin .edges)) (keptConjuncts S l)) (sym a)
         (subst (λ k. Back (othersOf l ++ keptEqualities S t k) (keptConjuncts S l)) (sym b)
-        (back-append (othersOf l) (keptEqualities S t (edgesOf S l)) (keptOthers l) (keptEquals S t l)
+        (back-append (othersOf l) (keptEqualities S t (equalities l)) (keptOthers l) (keptEquals S t l)
         (subst (λ k. Back (othersOf k) (keptOthers k)) e (others-back ms o))
-        (subst (λ k. Back (keptEqualities S t (edgesOf S k)) (keptEquals S t k)) e (equals-back t ms o))))
+        (subst (λ k. Back (keptEqualities S t (equalities k)) (keptEquals S t k)) e (equals-back t ms o))))
 
     -- ---- the whole chain
     same-ones : (Q : ℕ → AExpr Val) (u : ℕ) → Agrees Q u R → WF R → (ns : List ℕ) → Below u ns → Ones R ns →

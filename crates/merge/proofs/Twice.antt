@@ -20,7 +20,7 @@ use Rattle.constraints.specs.Scalars.{Scalars}
 use Rattle.constraints.specs.declared.column.Nullability.the-variants.{Unconstrained}
 use Rattle.merge.specs.Classify.{Bounds, Normalized, Conjunct, Equality, NonNullPair, Opaque, Recorded}
 use Rattle.merge.specs.Collect.{Collected, Table, begin, collect, isIn}
-use Rattle.merge.specs.Passes.{passTimes}
+use Rattle.merge.specs.Passes.{equalities, passTimes}
 use Rattle.merge.specs.Propagate.{pass, propagateEmitted}
 use Rattle.merge.specs.Emit.{NothingPasses, Outcome, Rebuilt, Unchanged, anyUnsat, comparisons, droppedEquality}
 use Rattle.merge.specs.Emit.{conclude, isFixed, keptEqualities, mergeFilterConstraints, propagated, rebuilt}
@@ -32,7 +32,7 @@ use Rattle.merge.proofs.Complete.{conclude-full, in-isIn, pass-consiste
 use Rattle.merge.proofs.Counting.{collect-once, comparisons-total, total, total-among, written}
 use Rattle.merge.proofs.Passes.{EdgesIn, In}
 use Rattle.merge.proofs.ReadBack.{AllBare, Each, IsKept, AsRead, Written, collect-all, collectAll, collectAll-append}
-use Rattle.merge.proofs.ReadBack.{comparison-written, each-append, each-kept, edges-read, edgesOf, equals-kept}
+use Rattle.merge.proofs.ReadBack.{comparison-written, each-append, each-kept, edges-read, equals-kept}
 use Rattle.merge.proofs.ReadBack.{kept-bare, kept-count, kept-unforced, keptConjuncts, keptEquals, keptOthers, others-kept}
 use Rattle.merge.proofs.ReadBack.{read-count, read-unforced, read-enters, read-table, readBack, readBack-edges, toldIf}
 use Rattle.merge.proofs.Reread.{conjunctOf, read-back, reread, reread-agree, reread-settled}
@@ -128,16 +128,16 @@ module _ {K Val : Type 0} (S : Scalars K Val) (H : HalfPoints S) where
 
   -- ---- A property of the kept equalities.
   kept-edges : (P : ℕ × ℕ × ℕ → Type 0) (cs : List ℕ) (t : Table Val) (l : List (Conjunct Val)) →
-      EdgesIn S cs (edgesOf S l) → AllEndsAgree S (edgesOf S l) t →
+      EdgesIn S cs (equalities l) → AllEndsAgree S (equalities l) t →
       ((e : ℕ × ℕ × ℕ) → In S (e .0) cs → In S (e .1) cs → EndsAgree S (e .0) (e .1) t →
-      fixedValue S (t (e .0)) ≡ none → P e) → AllE P (edgesOf S (keptEquals S t l))
+      fixedValue S (t (e .0)) ≡ none → P e) → AllE P (equalities (keptEquals S t l))
   kept-edges P cs t [] i g k = tt
   kept-edges P cs t (Bounds c l ∷ xs) i g k = kept-edges P cs t xs i g k
   kept-edges P cs t (Normalized c l ∷ xs) i g k = kept-edges P cs t xs i g k
   kept-edges P cs t (Equality a b n ∷ xs) i g k = go (fixedValue S (t a)) refl (kept-edges P cs t xs (i .1) (g .1) k)
     where
-      go : (o : Option Val) → fixedValue S (t a) ≡ o → AllE P (edgesOf S (keptEquals S t xs)) →
-          AllE P (edgesOf S (cond (isFixed o) (keptEquals S t xs) (Equality a b n ∷ keptEquals S t xs)))
+      go : (o : Option Val) → fixedValue S (t a) ≡ o → AllE P (equalities (keptEquals S t xs)) →
+          AllE P (equalities (cond (isFixed o) (keptEquals S t xs) (Equality a b n ∷ keptEquals S t xs)))
       go none e r = (k (a, b, n) (i .0 .0) (i .0 .1) (g .0) e, r)
       go (some v) e r = r
   kept-edges P cs t (Recorded z n c l ∷ xs) i g k = kept-edges P cs t xs i g k
@@ -173,7 +173,7 @@ module _ {K Val : Type 0} (S : Scalars K Val) (H : HalfPoints S) where
       mergeFilterConstraints S (readBack S l cs) ≡ Unchanged
   merged-again l shaped cs alive is-cs sound =
       nothing-new s′ alive′ counted unforced (still .1) (subst (λ es. droppedEquality S (propagated S s′) es ≡ false) (sym edges′)
-      (none-dropped (propagated S s′) (edgesOf S (keptEquals S P l)) unfixed))
+      (none-dropped (propagated S s′) (equalities (keptEquals S P l)) unfixed))
     where
       -- the first merging
       s : Collected Val
@@ -200,7 +200,7 @@ module _ {K Val : Type 0} (S : Scalars K Val) (H : HalfPoints S) where
       agreed : AllEndsAgree S (s .edges) P × AllConsistent S H P
       agreed = ends-agree s in-order checked possible
 
-      edges : s .edges ≡ edgesOf S l
+      edges : s .edges ≡ equalities l
       edges = ap (λ f. f .edges) (collect-all S l begin (going .0)) ∙ edges-read S l begin
 
       settled : (c : ℕ) → In S c (s .order) → Settled S (R c)
@@ -253,7 +253,7 @@ module _ {K Val : Type 0} (S : Scalars K Val) (H : HalfPoints S) where
           (or-no (s′ .unsat) (anyUnsat (s′ .order) (resolved S s′)) alive′ .0)
           ∙ collectAll-append S (keptConjuncts S l) (map conjunctOf cs) begin
 
-      edges′ : s′ .edges ≡ edgesOf S (keptEquals S P l)
+      edges′ : s′ .edges ≡ equalities (keptEquals S P l)
       edges′ = ap (λ f. f .edges) (collect-all S (readBack S l cs) begin
           (or-no (s′ .unsat) (anyUnsat (s′ .order) (resolved S s′)) alive′ .0))
           ∙ edges-read S (readBack S l cs) begin ∙ readBack-edges S l cs
@@ -293,10 +293,10 @@ module _ {K Val : Type 0} (S : Scalars K Val) (H : HalfPoints S) where
           (possible (e .0) i) (possible (e .1) j))
           (resolve-unfixed S (P (e .0)) (agreed .1 (e .0)) (possible (e .0) i) n))))
 
-      in-order′ : EdgesIn S (s .order) (edgesOf S l)
+      in-order′ : EdgesIn S (s .order) (equalities l)
       in-order′ = subst (EdgesIn S (s .order)) edges in-order
 
-      agreed′ : AllEndsAgree S (edgesOf S l) P
+      agreed′ : AllEndsAgree S (equalities l) P
       agreed′ = subst (λ es. AllEndsAgree S es P) edges (agreed .0)
 
       all-meeting : AllMeeting S T straight (s′ .edges)
@@ -321,7 +321,7 @@ module _ {K Val : Type 0} (S : Scalars K Val) (H : HalfPoints S) where
           ∙ ap (λ o. fixedAt S (R (e .0) .lower) (upperBy o (R (e .0) .upper))) f
           ∙ f
 
-      unfixed : AllE (λ e. fixedValue S (propagated S s′ (e .0)) ≡ none) (edgesOf S (keptEquals S P l))
+      unfixed : AllE (λ e. fixedValue S (propagated S s′ (e .0)) ≡ none) (equalities (keptEquals S P l))
       unfixed = kept-edges (λ e. fixedValue S (propagated S s′ (e .0)) ≡ none) (s .order) P l in-order′ agreed′
           unfixed-at
 

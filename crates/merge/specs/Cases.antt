@@ -7,6 +7,7 @@ use Rattle.merge.specs.declared.answer.RewriteAnswer.{RewriteAnswer}
 use Rattle.merge.specs.declared.answer.RewriteAnswer.the-variants.{Refused, Unchanged, NothingPasses}
 use Rattle.merge.specs.declared.answer.RewriteAnswer.the-variants.{Rewritten}
 use Rattle.merge.specs.Write.{fieldBytes}
+use Rattle.merge.specs.Passes.{rewritePasses}
 use Rattle.merge.specs.Rewrite.{rewriteAnswer, rewriteBytes}
 
 -- ---- Records as bytes.
@@ -225,3 +226,44 @@ yielded c = (
 
 abbrev pub due : Case → RewriteAnswer × List ℕ
 due c = (c .answered, c .left)
+
+-- ---- The passes over the equalities (02, 2.13).
+pub record PassesCase : Type 0 where
+  pub records : List ℕ
+  pub used : ℕ
+  pub root : ℕ
+  pub passes : ℕ
+
+abbrev pub passesCase : List ℕ → ℕ → ℕ → ℕ → PassesCase
+passesCase records used root passes = record { records = records; used = used; root = root; passes = passes }
+
+-- is_null(c0), c0==c1: 2 and 3 the conjuncts, 4 their And.
+abbrev pub nullEqual : List ℕ
+nullEqual = column 0 ++ column 1 ++ isNull 0 ++ binary eq 0 1 ++ binary and 2 3
+
+abbrev pub passesCases : List PassesCase
+passesCases =
+    -- c0>3, c0>5: no equality, no pass
+    passesCase (twoLines gt 3 gt 5) 6 5 0
+    -- c0==c0 alone: one pass, a quiet one
+    ∷ passesCase (column 0 ++ binary eq 0 0) 2 1 1
+    -- is_null(c0), c0==c1: the conflict does not stop the reading; a quiet pass
+    ∷ passesCase nullEqual 5 4 1
+    -- with c0>1 behind them the reading stops there
+    ∷ passesCase (nullEqual ++ literal 1 ++ binary gt 0 5 ++ binary and 4 6) 8 7 0
+    -- c0==c1, c0>5: c1 learns of it, then a quiet one
+    ∷ passesCase (equalLines gt 5) 6 5 2
+    -- c0>5, c0==c1, c1==c2: both learn of it in the first
+    ∷ passesCase
+    (column 0 ++ column 1 ++ column 2 ++ literal 5 ++ binary gt 0 3 ++ binary eq 0 1 ++ binary eq 1 2
+    ++ binary and 4 5 ++ binary and 7 6)
+    9 8 2
+    -- c0>5, c1==c2, c0==c1: from the far end, one column a pass
+    ∷ passesCase
+    (column 0 ++ column 1 ++ column 2 ++ literal 5 ++ binary gt 0 3 ++ binary eq 1 2 ++ binary eq 0 1
+    ++ binary and 4 5 ++ binary and 7 6)
+    9 8 3
+    ∷ []
+
+abbrev pub passesYielded : PassesCase → ℕ
+passesYielded c = rewritePasses (c .records) [] (c .used) (c .root)

@@ -7,3 +7,9 @@ pub enum RewriteAnswer {
     /// Root and used.
     Rewritten(u64, u64),
 }
+
+/// What rewriting gives: the answer, and how many passes over the equalities it made. A refusal says nothing of them.
+pub struct Rewriting {
+    pub answer: RewriteAnswer,
+    pub passes: u64,
+}

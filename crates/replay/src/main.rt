@@ -157,10 +157,11 @@ fn print_bytes(s: &[u8], from: usize, to: usize) {
     }
 }
 
-// Rewriting, whose out-parameters stand at 7 and 9 before the call; then the records that were added.
+// Rewriting, whose out-parameters stand at 7, 9 and 11 before the call; then the records that were added.
 fn rewrite(table: &[u8], records: &mut [u8], pool: &[u8], used: u64, root: u64) {
     let mut new_root: u64 = 7;
     let mut new_used: u64 = 9;
+    let mut passes: u64 = 11;
     let answer = screen::screen_rewrite(
         table,
         records,
@@ -169,10 +170,12 @@ fn rewrite(table: &[u8], records: &mut [u8], pool: &[u8], used: u64, root: u64) 
         root,
         &mut new_root,
         &mut new_used,
+        &mut passes,
     );
     print_number(wide(answer));
     print_number(new_root);
-    io::print_decimal(1, new_used);
+    print_number(new_used);
+    io::print_decimal(1, passes);
     if answer > 256 {
         io::write_all(1, b" ");
         print_bytes(records, place(used), place(new_used));

@@ -5,16 +5,30 @@ ghost use lib.ListN.{length, getD};
 ghost use Rattle.checking.specs.Check.{checkAnswer};
 ghost use Rattle.checking.specs.Tree.{treeCount};
 ghost use Rattle.checking.specs.declared.check.CheckAnswer.the-variants as check;
+ghost use mathlib.Core.Bool.{false};
+ghost use Rattle.merge.specs.Demand.{isRefused};
 ghost use Rattle.merge.specs.Minterms.{minterms};
+ghost use Rattle.merge.specs.Passes.{rewritePasses};
 ghost use Rattle.merge.specs.Rewrite.{rewriteAnswer, rewriteBytes};
+ghost use Rattle.merge.specs.declared.answer.RewriteAnswer.the-variants as answer;
 ghost use Rattle.rewrite.specs.Walk.{walked, firstOf};
 use checking::check::CheckAnswer;
 use checking::check::check_counted;
 use filter_constraint::merging::merge_filter_constraints;
 use merge::answer::RewriteAnswer;
+use merge::answer::Rewriting;
 use minterm_iter::minterms;
 use records::record::Node;
 use rewrite::literals::read_literals;
+
+fn refused(number: u32) -> Rewriting
+    ensures { λ r. ⌜ r .answer ≡ answer.Refused number ⌝ }
+{
+    Rewriting {
+        answer: RewriteAnswer::Refused(number),
+        passes: 0,
+    }
+}
 
 // The merging of the first n nodes, the conjuncts of an accepted screen. Most screens have few: then the tables and rows for
 // 128 need not be cleared.
@@ -27,15 +41,17 @@ fn merge_few(
     trees: &[u16],
     nodes: &[u32],
     n: usize,
-) -> RewriteAnswer
+) -> Rewriting
     requires accepted { ⌜ checkAnswer (now t) (now rs) (now p) used (root .0) ≡ check.Accepted ⌝ }
     requires counted { ⌜ ((a : ℕ) → a ≤ root .0 → getD (now trees) a 0 ≡ min (treeCount (now rs) a) 4097) ⌝ }
     requires small { ⌜ treeCount (now rs) (root .0) ≤ 4096 ⌝ }
     requires walked { ⌜ firstOf (now nodes) n ≡ minterms (walked (now rs)) (root .0) ⌝ }
     requires there { ⌜ (n ≤ 16) × (n ≤ length (now nodes)) ⌝ }
-    ensures answer { λ r. ⌜ r ≡ rewriteAnswer (now (t .entry)) (now (rs .entry)) (now (p .entry)) used (root .0) ⌝ }
+    ensures answer { λ r. ⌜ r .answer ≡ rewriteAnswer (now (t .entry)) (now (rs .entry)) (now (p .entry)) used (root .0) ⌝ }
     ensures bytes { λ _. ⌜ now (rs .exit) ≡ rewriteBytes (now (t .entry)) (now (rs .entry)) (now (p .entry)) used
         (root .0) ⌝ }
+    ensures passes { λ r. ⌜ (isRefused (r .answer) ≡ false → r .passes ≡ rewritePasses (now (rs .entry))
+        (now (p .entry)) used (root .0)) ⌝ }
 {
     let mut kinds = [0u8; 16];
     let mut values = [0u64; 16];
@@ -76,15 +92,17 @@ fn merge_many(
     trees: &[u16],
     nodes: &[u32],
     n: usize,
-) -> RewriteAnswer
+) -> Rewriting
     requires accepted { ⌜ checkAnswer (now t) (now rs) (now p) used (root .0) ≡ check.Accepted ⌝ }
     requires counted { ⌜ ((a : ℕ) → a ≤ root .0 → getD (now trees) a 0 ≡ min (treeCount (now rs) a) 4097) ⌝ }
     requires small { ⌜ treeCount (now rs) (root .0) ≤ 4096 ⌝ }
     requires walked { ⌜ firstOf (now nodes) n ≡ minterms (walked (now rs)) (root .0) ⌝ }
     requires there { ⌜ (n ≤ 128) × (n ≤ length (now nodes)) ⌝ }
-    ensures answer { λ r. ⌜ r ≡ rewriteAnswer (now (t .entry)) (now (rs .entry)) (now (p .entry)) used (root .0) ⌝ }
+    ensures answer { λ r. ⌜ r .answer ≡ rewriteAnswer (now (t .entry)) (now (rs .entry)) (now (p .entry)) used (root .0) ⌝ }
     ensures bytes { λ _. ⌜ now (rs .exit) ≡ rewriteBytes (now (t .entry)) (now (rs .entry)) (now (p .entry)) used
         (root .0) ⌝ }
+    ensures passes { λ r. ⌜ (isRefused (r .answer) ≡ false → r .passes ≡ rewritePasses (now (rs .entry))
+        (now (p .entry)) used (root .0)) ⌝ }
 {
     let mut kinds = [0u8; 128];
     let mut values = [0u64; 128];
@@ -125,18 +143,20 @@ fn rewrite_counted(
     used: u32,
     root: Node,
     trees: &[u16],
-) -> RewriteAnswer
+) -> Rewriting
     requires accepted { ⌜ checkAnswer (now t) (now rs) (now p) used (root .0) ≡ check.Accepted ⌝ }
     requires counted { ⌜ ((a : ℕ) → a ≤ root .0 → getD (now trees) a 0 ≡ min (treeCount (now rs) a) 4097) ⌝ }
     requires small { ⌜ treeCount (now rs) (root .0) ≤ 4096 ⌝ }
-    ensures answer { λ r. ⌜ r ≡ rewriteAnswer (now (t .entry)) (now (rs .entry)) (now (p .entry)) used (root .0) ⌝ }
+    ensures answer { λ r. ⌜ r .answer ≡ rewriteAnswer (now (t .entry)) (now (rs .entry)) (now (p .entry)) used (root .0) ⌝ }
     ensures bytes { λ _. ⌜ now (rs .exit) ≡ rewriteBytes (now (t .entry)) (now (rs .entry)) (now (p .entry)) used
         (root .0) ⌝ }
+    ensures passes { λ r. ⌜ (isRefused (r .answer) ≡ false → r .passes ≡ rewritePasses (now (rs .entry))
+        (now (p .entry)) used (root .0)) ⌝ }
 {
     let mut nodes = [0u32; 128];
     let n = minterms(rs, root, &mut nodes);
     if 128 < n {
-        return RewriteAnswer::Refused(9);
+        return refused(9);
     }
     if n <= 16 {
         return merge_few(t, rs, p, used, root, trees, &nodes, n);
@@ -153,17 +173,19 @@ fn rewrite_checked(
     used: u32,
     root: Node,
     trees: &[u16],
-) -> RewriteAnswer
+) -> Rewriting
     requires { ⌜ checkAnswer (now t) (now rs) (now p) used (root .0) ≡ check.Accepted ⌝ }
     requires counted { ⌜ ((a : ℕ) → a ≤ root .0 → getD (now trees) a 0 ≡ min (treeCount (now rs) a) 4097) ⌝ }
     requires { ⌜ root .0 < length (now trees) ⌝ }
-    ensures answer { λ r. ⌜ r ≡ rewriteAnswer (now (t .entry)) (now (rs .entry)) (now (p .entry)) used (root .0) ⌝ }
+    ensures answer { λ r. ⌜ r .answer ≡ rewriteAnswer (now (t .entry)) (now (rs .entry)) (now (p .entry)) used (root .0) ⌝ }
     ensures bytes { λ _. ⌜ now (rs .exit) ≡ rewriteBytes (now (t .entry)) (now (rs .entry)) (now (p .entry)) used
         (root .0) ⌝ }
+    ensures passes { λ r. ⌜ (isRefused (r .answer) ≡ false → r .passes ≡ rewritePasses (now (rs .entry))
+        (now (p .entry)) used (root .0)) ⌝ }
 {
     let top = trees[root.0 as usize];
     if 4096 < top {
-        return RewriteAnswer::Refused(8);
+        return refused(8);
     }
     rewrite_counted(t, rs, p, used, root, trees)
 }
@@ -176,26 +198,30 @@ fn rewrite_within(
     root: u64,
     types: &mut [u8],
     trees: &mut [u16],
-) -> RewriteAnswer
+) -> Rewriting
     requires { ⌜ (used ≤ 4096 → used ≤ length (now types)) ⌝ }
     requires { ⌜ (used ≤ 4096 → used ≤ length (now trees)) ⌝ }
-    ensures answer { λ r. ⌜ r ≡ rewriteAnswer (now (t .entry)) (now (rs .entry)) (now (p .entry)) used root ⌝ }
+    ensures answer { λ r. ⌜ r .answer ≡ rewriteAnswer (now (t .entry)) (now (rs .entry)) (now (p .entry)) used root ⌝ }
     ensures bytes { λ _. ⌜ now (rs .exit) ≡ rewriteBytes (now (t .entry)) (now (rs .entry)) (now (p .entry)) used
         root ⌝ }
+    ensures passes { λ r. ⌜ (isRefused (r .answer) ≡ false → r .passes ≡ rewritePasses (now (rs .entry))
+        (now (p .entry)) used root) ⌝ }
 {
     let answer = check_counted(t, rs, p, used, root, types, trees);
     match answer {
-        CheckAnswer::Refused(number) => RewriteAnswer::Refused(number),
+        CheckAnswer::Refused(number) => refused(number),
         CheckAnswer::Accepted => rewrite_checked(t, rs, p, used as u32, Node(root as u32), trees),
     }
 }
 
-/// The answer of rewriting; `rs` is written only if it is `NothingPasses` or `Rewritten`.
+/// The answer of rewriting, with the passes that it made; `rs` is written only if it is `NothingPasses` or `Rewritten`.
 // The tables of checking are as long as the screen needs: most have few records.
-pub fn rewrite_screen(t: &[u8], rs: &mut [u8], p: &[u8], used: u64, root: u64) -> RewriteAnswer
-    ensures answer { λ r. ⌜ r ≡ rewriteAnswer (now (t .entry)) (now (rs .entry)) (now (p .entry)) used root ⌝ }
+pub fn rewrite_screen(t: &[u8], rs: &mut [u8], p: &[u8], used: u64, root: u64) -> Rewriting
+    ensures answer { λ r. ⌜ r .answer ≡ rewriteAnswer (now (t .entry)) (now (rs .entry)) (now (p .entry)) used root ⌝ }
     ensures bytes { λ _. ⌜ now (rs .exit) ≡ rewriteBytes (now (t .entry)) (now (rs .entry)) (now (p .entry)) used
         root ⌝ }
+    ensures passes { λ r. ⌜ (isRefused (r .answer) ≡ false → r .passes ≡ rewritePasses (now (rs .entry))
+        (now (p .entry)) used root) ⌝ }
 {
     if used <= 64 {
         let mut few = [0u8; 64];

@@ -1,4 +1,5 @@
 pub mod Kept
 pub mod Listed
 pub mod Promised
+pub mod Slowest
 pub mod Filed

@@ -20,14 +20,16 @@ use Rattle.merge.specs.Demand.{Row, IsRow, IsChain, isRefused, isNothing, AreBy
 use Rattle.merge.specs.Demand.{rootAfter, usedAfter, AcceptedScreen}
 use Rattle.merge.specs.Emit.{Outcome, Unchanged, NothingPasses, Rebuilt}
 use Rattle.merge.specs.Minterms.{minterms}
+use Rattle.merge.specs.Passes.{edgeColumns, screenEqualities, rewritePasses}
 use Rattle.merge.specs.Usable.{Usable, SameTests}
 use Rattle.merge.specs.Rewrite.{outcomeOf, chainRoot, chainUsed, hasRoom, chainFits, outcomeAnswer}
 use Rattle.merge.specs.Rewrite.{rewriteIf, rewriteAnswer, rewriteBytes}
 use Rattle.merge.proofs.Compared.{rewritten-root-is-new}
 use Rattle.merge.proofs.Demand.{demand-3}
+use Rattle.merge.proofs.PassesEnd.{rewrite-passes-at-most}
 use Rattle.merge.proofs.TwiceBytes.{twice-unchanged}
 use Rattle.merge.proofs.Usable.{returned-usable, returned-tests-same}
-use Rattle.screen.specs.Answers.{rewriteNumber, newRootOut, newUsedOut}
+use Rattle.screen.specs.Answers.{rewriteNumber, newRootOut, newUsedOut, passesOut}
 use Rattle.screen.specs.Promises.{returned, BytesKept, RewritePromise}
 use Rattle.screen.specs.Listed.{rewriteListed}
 use Rattle.screen.proofs.Kept.{rewrite-kept}
@@ -103,9 +105,29 @@ root-returned answer.Unchanged root old h = refl
 root-returned (answer.NothingPasses root′ used′) root old h = refl
 root-returned (answer.Rewritten root′ used′) root old h = refl
 
--- ---- The promises of a call that answered a and left out; oldUsed and oldRoot stood in the out-parameters.
+-- What is said of the passes, of the answer that a match has told.
+pub counted-as : (x a : RewriteAnswer) (P : Type 0) → x ≡ a → (isRefused x ≡ false → P) → isRefused a ≡ false → P
+counted-as x a P e h k = h (ap isRefused e ∙ k)
+
+passes-written : (a : RewriteAnswer) (made defined old : ℕ) → (isRefused a ≡ false → made ≡ defined)
+    → passesOut a made old ≡ passesOut a defined old
+passes-written (answer.Refused k) made defined old h = refl
+passes-written answer.Unchanged made defined old h = h refl
+passes-written (answer.NothingPasses root used) made defined old h = h refl
+passes-written (answer.Rewritten root used) made defined old h = h refl
+
+passes-small : (a : RewriteAnswer) (made old most : ℕ) → SmallRefusal a → made ≤ most → 256 ≤ rewriteNumber a
+    → passesOut a made old ≤ most
+passes-small (answer.Refused k) made old most h m n = absurd (omega (arith, h, n))
+passes-small answer.Unchanged made old most h m n = m
+passes-small (answer.NothingPasses root used) made old most h m n = m
+passes-small (answer.Rewritten root used) made old most h m n = m
+
+-- ---- The promises of a call that answered a, made so many passes and left out; oldRoot, oldUsed and oldPasses stood in
+-- the out-parameters.
 module _ (t rs p : List ℕ) (used root : ℕ) (a : RewriteAnswer) (is : rewriteAnswer t rs p used root ≡ a)
-    (out : List ℕ) (written : out ≡ rewriteBytes t rs p used root) (oldRoot oldUsed : ℕ) where
+    (out : List ℕ) (written : out ≡ rewriteBytes t rs p used root) (made : ℕ)
+    (counted : isRefused a ≡ false → made ≡ rewritePasses rs p used root) (oldRoot oldUsed oldPasses : ℕ) where
   low : SmallRefusal a
   low = subst SmallRefusal is (small t rs p used root)
 
@@ -138,6 +160,16 @@ module _ (t rs p : List ℕ) (used root : ℕ) (a : RewriteAnswer) (is : rewrite
   new-root (answer.NothingPasses root′ used′) q h e = absurd (omega (arith, e))
   new-root (answer.Rewritten root′ used′) q h e = rewritten-root-is-new t rs p used root root′ used′ q
 
+  call-passes : passesOut a made oldPasses ≡ passesOut a (rewritePasses rs p used root) oldPasses
+  call-passes = passes-written a made (rewritePasses rs p used root) oldPasses counted
+
+  call-ceiling : 256 ≤ rewriteNumber a
+      → passesOut a made oldPasses ≤ length (edgeColumns (screenEqualities rs p used root))
+  call-ceiling n =
+      subst (λ k. k ≤ length (edgeColumns (screenEqualities rs p used root))) (sym call-passes)
+      (passes-small a (rewritePasses rs p used root) oldPasses (length (edgeColumns (screenEqualities rs p used root)))
+      low (rewrite-passes-at-most rs p used root) n)
+
   module _ (bytes : AreBytes rs) where
     kept : 256 ≤ rewriteNumber a → AcceptedScreen t rs p used root
     kept n = ap isRefused is ∙ accepted a low n
@@ -146,6 +178,7 @@ module _ (t rs p : List ℕ) (used root : ℕ) (a : RewriteAnswer) (is : rewrite
     demand n = demand-3 t rs p used root bytes (kept n)
 
     call-promise : RewritePromise t rs p used root (rewriteNumber a) out (newRootOut a oldRoot) (newUsedOut a oldUsed)
+        (passesOut a made oldPasses)
     call-promise =
         record {
           rows =
@@ -173,6 +206,7 @@ module _ (t rs p : List ℕ) (used root : ℕ) (a : RewriteAnswer) (is : rewrite
               (usedAfter (rewriteAnswer t rs p used root) used) (rootAfter (rewriteAnswer t rs p used root) root))
               (small t (rewriteBytes t rs p used root) p (usedAfter (rewriteAnswer t rs p used root) used)
               (rootAfter (rewriteAnswer t rs p used root) root)) m)));
+          ceiling = call-ceiling;
         }
 
     -- All that the call ensures.
@@ -183,14 +217,28 @@ module _ (t rs p : List ℕ) (used root : ℕ) (a : RewriteAnswer) (is : rewrite
         × ((newUsedOut a oldUsed ≡ newUsedOut (rewriteAnswer t rs p used root) oldUsed)
         × ((out ≡ rewriteBytes t rs p used root)
         × (BytesKept rs out used (returned (rewriteNumber a) used (newUsedOut a oldUsed))
-        × RewritePromise t rs p used root (rewriteNumber a) out (newRootOut a oldRoot) (newUsedOut a oldUsed))))))
+        × ((passesOut a made oldPasses ≡ passesOut (rewriteAnswer t rs p used root) (rewritePasses rs p used root) oldPasses)
+        × RewritePromise t rs p used root (rewriteNumber a) out (newRootOut a oldRoot) (newUsedOut a oldUsed)
+        (passesOut a made oldPasses)))))))
     call-ensures = (
       ap rewriteNumber (sym is),
       (
         subst (λ x. rewriteListed (rewriteNumber x) ≡ true) is (rewrite-listed t rs p used root),
         (
           ap (λ x. newRootOut x oldRoot) (sym is),
-          (ap (λ x. newUsedOut x oldUsed) (sym is), (written, (call-kept, call-promise))),
+          (
+            ap (λ x. newUsedOut x oldUsed) (sym is),
+            (
+              written,
+              (
+                call-kept,
+                (
+                  call-passes ∙ ap (λ x. passesOut x (rewritePasses rs p used root) oldPasses) (sym is),
+                  call-promise,
+                ),
+              ),
+            ),
+          ),
         ),
       ),
     )

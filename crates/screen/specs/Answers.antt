@@ -63,3 +63,10 @@ newUsedOut (rewrite.Refused k) old = old
 newUsedOut rewrite.Unchanged old = old
 newUsedOut (rewrite.NothingPasses root used) old = used
 newUsedOut (rewrite.Rewritten root used) old = used
+
+-- the same of `passes`, where rewriting made so many
+abbrev pub passesOut : RewriteAnswer → ℕ → ℕ → ℕ
+passesOut (rewrite.Refused k) made old = old
+passesOut rewrite.Unchanged made old = made
+passesOut (rewrite.NothingPasses root used) made old = made
+passesOut (rewrite.Rewritten root used) made old = made

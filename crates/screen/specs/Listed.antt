@@ -35,3 +35,7 @@ saveListed r = listed (checkRefusals ++ (14 ∷ 256 ∷ [])) r
 
 abbrev pub loadListed : ℕ → Bool
 loadListed r = listed (checkRefusals ++ (14 ∷ 15 ∷ 256 ∷ [])) r
+
+-- 02, 2.13: the slowest screen is refused with 19, then 11
+abbrev pub slowestListed : ℕ → Bool
+slowestListed r = listed (19 ∷ 11 ∷ 256 ∷ []) r

@@ -12,6 +12,7 @@ use Rattle.truth.specs.FromBytes.{aexprAt}
 use Rattle.merge.specs.Plain.{plainScreen}
 use Rattle.merge.specs.Demand.{Row, IsRow, IsChain, passes, rowsPassing}
 use Rattle.merge.specs.Usable.{Usable, SameTests}
+use Rattle.merge.specs.Passes.{edgeColumns, screenEqualities}
 use Rattle.merge.specs.Rewrite.{rewriteAnswer}
 use Rattle.screen.specs.Answers.{rewriteNumber}
 
@@ -31,15 +32,16 @@ pub record BytesKept (rs out : List ℕ) (first end : ℕ) : Type 0 where
   pub before : (i : ℕ) → i < 16 * first → getD out i 0 ≡ getD rs i 0
   pub behind : (i : ℕ) → 16 * end ≤ i → getD out i 0 ≡ getD rs i 0
 
--- Demand 3 of 01, for one call of rewriting: rs, used and root were sent; out, newRoot and newUsed stand in the
--- records, in new_root and in new_used after the call. If it did not refuse, each row passes under the screen returned
+-- Demand 3 of 01, for one call of rewriting: rs, used and root were sent; out, newRoot, newUsed and made stand in the
+-- records, in new_root, in new_used and in passes after the call. If it did not refuse, each row passes under the screen returned
 -- exactly when it passes under the screen sent, and of every chain as many rows pass; with 257 no row of any chain
 -- passes; and of a plain screen, 257 is the answer exactly when no row at all passes. The screen returned is itself
 -- accepted by checking, with a tree of at most 4,096 records; so testing a row, whatever its bytes and null marks,
 -- refuses it under both screens with the same number or under neither, and it passes under both or under neither. The
 -- root of a rewritten screen is one of the records added, so the screen sent still stands under its old root.
--- Rewriting the screen returned, unless that is refused, answers unchanged.
-pub record RewritePromise (t rs p : List ℕ) (used root answer : ℕ) (out : List ℕ) (newRoot newUsed : ℕ) : Type 0 where
+-- Rewriting the screen returned, unless that is refused, answers unchanged. No more passes are made over the equalities
+-- than they have different columns (02, 2.13).
+pub record RewritePromise (t rs p : List ℕ) (used root answer : ℕ) (out : List ℕ) (newRoot newUsed made : ℕ) : Type 0 where
   pub rows : 256 ≤ answer → (row : Row) → IsRow t (aexprAt rs p used) root row
       → passes out p (returned answer used newUsed) (returned answer root newRoot) row ≡ passes rs p used root row
   pub counts : 256 ≤ answer → (chain : List Row) → IsChain t (aexprAt rs p used) root chain
@@ -56,3 +58,4 @@ pub record RewritePromise (t rs p : List ℕ) (used root answer : ℕ) (out : Li
   pub again : 256 ≤ answer
       → 256 ≤ rewriteNumber (rewriteAnswer t out p (returned answer used newUsed) (returned answer root newRoot))
       → rewriteNumber (rewriteAnswer t out p (returned answer used newUsed) (returned answer root newRoot)) ≡ 256
+  pub ceiling : 256 ≤ answer → made ≤ length (edgeColumns (screenEqualities rs p used root))

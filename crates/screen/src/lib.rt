@@ -5,17 +5,20 @@ ghost use mathlib.Core.Bool.{true};
 ghost use Rattle.checking.specs.Check.{checkAnswer};
 ghost use Rattle.checking.specs.Columns.{columnsAnswer};
 ghost use Rattle.screen.specs.Answers.{checkNumber, columnsNumber, columnsOut, countOut, rowNumber, truthNumber};
-ghost use Rattle.screen.specs.Answers.{rewriteNumber, newRootOut, newUsedOut};
+ghost use Rattle.screen.specs.Answers.{rewriteNumber, newRootOut, newUsedOut, passesOut};
 ghost use Rattle.truth.specs.RowTest.{testRowAnswer};
+ghost use Rattle.merge.specs.Passes.{rewritePasses};
 ghost use Rattle.merge.specs.Rewrite.{rewriteAnswer, rewriteBytes};
 ghost use Rattle.screen.specs.Listed.{checkListed, columnsListed, rowListed, rewriteListed};
-ghost use Rattle.screen.specs.Listed.{saveListed, loadListed};
+ghost use Rattle.screen.specs.Listed.{saveListed, loadListed, slowestListed};
 ghost use Rattle.screen.specs.Promises.{ColumnsPromise, returned, BytesKept, RewritePromise};
 ghost use lib.ListN.{length};
 ghost use Rattle.files.specs.Read.{held};
 ghost use Rattle.files.specs.Answers.{saveAnswer, saveBytes, loadAnswer, loadedBytes};
 ghost use Rattle.files.specs.Calls.{saveNumber, savedLength, loadNumber, loadedRoot, loadedColumns, loadedUsed, loadedValues};
 ghost use Rattle.files.specs.Calls.{SavePromise, LoadPromise};
+ghost use Rattle.slowest.specs.Answers.{slowestAnswer, tableWritten, recordsWritten};
+ghost use Rattle.slowest.specs.Calls.{slowestNumber, builtRoot, builtUsed, SlowestPromise};
 use checking::check::CheckAnswer;
 use checking::check::check_screen;
 use checking::reads::ColumnsAnswer;
@@ -26,6 +29,8 @@ use files::save::SaveAnswer;
 use files::save::save_screen;
 use merge::answer::RewriteAnswer;
 use rule::rewrite_screen;
+use slowest::build::SlowestAnswer;
+use slowest::build::build_slowest;
 use truth::logic::Truth;
 use truth::test::RowAnswer;
 use truth::test::test_row;
@@ -107,9 +112,9 @@ pub extern "C" fn screen_test_row(
     }
 }
 
-// Below 256: the refusal's number. 256: unchanged, the screen returned is the one sent. Neither writes anything. 257:
+// Below 256: the refusal's number, and nothing is written. 256: unchanged, the screen returned is the one sent. 257:
 // nothing passes, 258: rewritten; the records added stand behind the used ones, and `new_root` and `new_used` have the
-// root and the used count of the screen returned.
+// root and the used count of the screen returned. With all three `passes` has the number of passes over the equalities.
 #[no_mangle]
 pub extern "C" fn screen_rewrite(
     table: &[u8],
@@ -119,6 +124,7 @@ pub extern "C" fn screen_rewrite(
     root: u64,
     new_root: &mut u64,
     new_used: &mut u64,
+    passes: &mut u64,
 ) -> u32
     ensures answer { λ r. ⌜ r ≡ rewriteNumber (rewriteAnswer (now (table .entry)) (now (records .entry))
         (now (pool .entry)) used root) ⌝ }
@@ -131,20 +137,30 @@ pub extern "C" fn screen_rewrite(
         (now (pool .entry)) used root ⌝ }
     ensures kept { λ r. ⌜ BytesKept (now (records .entry)) (now (records .exit)) used
         (returned r used (now («new_used» .exit))) ⌝ }
+    ensures passes { λ _. ⌜ now (passes .exit) ≡ passesOut (rewriteAnswer (now (table .entry)) (now (records .entry))
+        (now (pool .entry)) used root) (rewritePasses (now (records .entry)) (now (pool .entry)) used root)
+        (now (passes .entry)) ⌝ }
     ensures promise { λ r. ⌜ RewritePromise (now (table .entry)) (now (records .entry)) (now (pool .entry)) used root r
-        (now (records .exit)) (now («new_root» .exit)) (now («new_used» .exit)) ⌝ }
+        (now (records .exit)) (now («new_root» .exit)) (now («new_used» .exit)) (now (passes .exit)) ⌝ }
 {
-    match rewrite_screen(table, records, pool, used, root) {
+    let rewriting = rewrite_screen(table, records, pool, used, root);
+    let answer = rewriting.answer;
+    match answer {
         RewriteAnswer::Refused(k) => k,
-        RewriteAnswer::Unchanged => 256,
+        RewriteAnswer::Unchanged => {
+            *passes = rewriting.passes;
+            256
+        }
         RewriteAnswer::NothingPasses(literal, behind) => {
             *new_root = literal;
             *new_used = behind;
+            *passes = rewriting.passes;
             257
         }
         RewriteAnswer::Rewritten(node, count) => {
             *new_root = node;
             *new_used = count;
+            *passes = rewriting.passes;
             258
         }
     }
@@ -221,6 +237,41 @@ pub extern "C" fn screen_load(
             *columns = types;
             *used = count;
             *values = entries;
+            256
+        }
+    }
+}
+
+// Below 256: the refusal's number, and nothing is written. 256: the front of `table` and `records` is a screen of so many
+// columns that takes as many passes to rewrite, with its root and used count. Which bytes they are is this builder's choice;
+// what every choice has in common is `TakesAllPasses` in the promise.
+#[no_mangle]
+pub extern "C" fn screen_slowest(
+    columns: u64,
+    table: &mut [u8],
+    records: &mut [u8],
+    root: &mut u64,
+    used: &mut u64,
+) -> u32
+    ensures answer { λ r. ⌜ r ≡ slowestNumber (slowestAnswer columns (length (now (table .entry)))
+        (length (now (records .entry)))) ⌝ }
+    ensures listed { λ r. ⌜ slowestListed r ≡ true ⌝ }
+    ensures root { λ _. ⌜ now (root .exit) ≡ builtRoot (slowestAnswer columns (length (now (table .entry)))
+        (length (now (records .entry)))) (now (root .entry)) ⌝ }
+    ensures used { λ _. ⌜ now (used .exit) ≡ builtUsed (slowestAnswer columns (length (now (table .entry)))
+        (length (now (records .entry)))) (now (used .entry)) ⌝ }
+    ensures table { λ _. ⌜ now (table .exit) ≡ tableWritten (slowestAnswer columns (length (now (table .entry)))
+        (length (now (records .entry)))) columns (now (table .entry)) ⌝ }
+    ensures records { λ _. ⌜ now (records .exit) ≡ recordsWritten (slowestAnswer columns (length (now (table .entry)))
+        (length (now (records .entry)))) columns (now (records .entry)) ⌝ }
+    ensures promise { λ r. ⌜ SlowestPromise columns r (now (table .entry)) (now (table .exit)) (now (records .entry))
+        (now (records .exit)) (now (root .exit)) (now (used .exit)) ⌝ }
+{
+    match build_slowest(columns, table, records) {
+        SlowestAnswer::Refused(k) => k,
+        SlowestAnswer::Built(node, count) => {
+            *root = node;
+            *used = count;
             256
         }
     }

@@ -3,11 +3,11 @@
 
 uint32_t __wrap_screen_rewrite(const uint8_t *table, size_t table_len, uint8_t *records, size_t records_len,
                                const uint8_t *pool, size_t pool_len, uint64_t used, uint64_t root, uint64_t *new_root,
-                               uint64_t *new_used);
+                               uint64_t *new_used, uint64_t *passes);
 
 uint32_t __wrap_screen_rewrite(const uint8_t *table, size_t table_len, uint8_t *records, size_t records_len,
                                const uint8_t *pool, size_t pool_len, uint64_t used, uint64_t root, uint64_t *new_root,
-                               uint64_t *new_used)
+                               uint64_t *new_used, uint64_t *passes)
 {
     struct screen_lent s;
     (void)table, (void)table_len, (void)pool, (void)pool_len, (void)root;
@@ -16,5 +16,6 @@ uint32_t __wrap_screen_rewrite(const uint8_t *table, size_t table_len, uint8_t *
     screen_put_truth(&s, 0);
     *new_root = s.root;
     *new_used = s.used;
+    *passes = 0;
     return SCREEN_NOTHING_PASSES;
 }

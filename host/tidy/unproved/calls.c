@@ -10,6 +10,7 @@ void screen_test_row(void);
 void screen_columns_read(void);
 void screen_save(void);
 void screen_load(void);
+void screen_slowest(void);
 
 void screen_check(void)
 {
@@ -37,6 +38,11 @@ void screen_save(void)
 }
 
 void screen_load(void)
+{
+    _Exit(77);
+}
+
+void screen_slowest(void)
 {
     _Exit(77);
 }

@@ -1,94 +1,110 @@
-use Rattle.stages.proofs.Answers.{rewrite-refused}
-use Rattle.checking.proofs.Accepted.{checked, checked-used, accepted-root}
-use native.Mathlib.Omega.{arith}
-use Prim.Native.Nat.{_≤_, _<_}
-use mathlib.Core.Path.{sym, _∙_}
 use borrow.Author.Needs.{needs}
 use Rattle.rule.proofs.rewrite_within.Statement.{statement}
 use Rattle.rule.proofs.rewrite_within.Tie as tie
 use Rattle.rule.proofs.rewrite_within.Reads as reads
 use Rattle.rule.proofs.rewrite_within.Lts as lts
 use Rattle.checking.proofs.check.check_counted.Reads as check-counted-reads
+use Rattle.rule.proofs.refused.Reads as refused-reads
 use Rattle.rule.proofs.rewrite_checked.Reads as rewrite-checked-reads
+use Rattle.stages.proofs.Answers.{rewrite-refused}
+use Rattle.checking.proofs.Accepted.{checked, checked-used, accepted-root}
+use Rattle.rule.proofs.Merged.{none-said}
+use native.Mathlib.Omega.{arith}
+use Prim.Native.Nat.{_≤_, _<_}
+use mathlib.Core.Path.{sym, _∙_}
 
--- src/lib.rt:186:9
+-- src/lib.rt:210:9
 check-counted-requires : tie.Need-check-counted-requires
 check-counted-requires c κs = search needs
 
--- src/lib.rt:188:30
+-- src/lib.rt:212:30
 enum-known-answer : tie.Need-enum-known-answer
 enum-known-answer c = search needs
 
--- src/lib.rt:189:53
+-- src/lib.rt:212:41
+refused-requires : tie.Need-refused-requires
+refused-requires c κs = search needs
+
+-- src/lib.rt:213:53
 enum-told : tie.Need-enum-told
 enum-told c = search needs
 
--- src/lib.rt:189:60
+-- src/lib.rt:213:60
 cast-rewrite-checked : tie.Need-cast-rewrite-checked
 cast-rewrite-checked c =
-    let st = (c .before .before .before .before .before .before .before .before .before .before .before .before .before .before .before .before) in
-    let h : st .args .used ≤ 4096 =
-    checked-used (st .args .t .now) (st .args .rs .now) (st .args .p .now) (st .args .used) (st .args .root)
-    (checked (st .args .t .now) (st .args .rs .now) (st .args .p .now) (st .args .used) (st .args .root)
-    (sym ((c .before .before .before .before .before .before .before .check-counted) .ensures .0) ∙ (c .before .enum-told) .given .1)) in
+    let st = c .before .before .before .before .before .before .before .before .before .before .before .before
+        .before .before .before .before in
+    let check-counted = c .before .before .before .before .before .before .before .check-counted in
+    let enum-told = c .before .enum-told in
+    let h : st .args .used ≤ 4096 = checked-used (st .args .t .now) (st .args .rs .now) (st .args .p .now) (st
+        .args .used) (st .args .root) (checked (st .args .t .now) (st .args .rs .now) (st .args .p .now) (st
+        .args .used) (st .args .root) (sym (check-counted .ensures .0) ∙ enum-told .given .1)) in
     omega (arith, h)
 
--- src/lib.rt:189:78
+-- src/lib.rt:213:78
 cast-t20 : tie.Need-cast-t20
 cast-t20 c =
-    let st = (c .before .before .before .before .before .before .before .before .before .before .before .before .before .before .before .before) in
-    let h : st .args .root < 4096 =
-    accepted-root (st .args .t .now) (st .args .rs .now) (st .args .p .now) (st .args .used) (st .args .root)
-    (sym ((c .before .before .before .before .before .before .before .check-counted) .ensures .0) ∙ (c .before .enum-told) .given .1) in
+    let st = c .before .before .before .before .before .before .before .before .before .before .before .before
+        .before .before .before .before in
+    let check-counted = c .before .before .before .before .before .before .before .check-counted in
+    let enum-told = c .before .enum-told in
+    let h : st .args .root < 4096 = accepted-root (st .args .t .now) (st .args .rs .now) (st .args .p .now) (st
+        .args .used) (st .args .root) (sym (check-counted .ensures .0) ∙ enum-told .given .1) in
     omega (arith, h)
 
--- src/lib.rt:189:34
+-- src/lib.rt:213:34
 rewrite-checked-requires : tie.Need-rewrite-checked-requires
 rewrite-checked-requires c κs =
-    let st = (c .before .before .before .before .before .before .before .before .before .before .before .before .before .before .before .before .before) in
-    let accepted = sym ((c .before .before .before .before .before .before .before .before .check-counted) .ensures .0) ∙ (c .before .before .enum-told) .given .1 in
-    let ok = checked (st .args .t .now) (st .args .rs .now) (st .args .p .now) (st .args .used) (st .args .root) accepted in
+    let st = c .before .before .before .before .before .before .before .before .before .before .before .before
+        .before .before .before .before .before in
+    let check-counted = c .before .before .before .before .before .before .before .before .check-counted in
+    let enum-told = c .before .before .enum-told in
+    let accepted = sym (check-counted .ensures .0) ∙ enum-told .given .1 in
+    let ok = checked (st .args .t .now) (st .args .rs .now) (st .args .p .now) (st .args .used) (st .args .root)
+        accepted in
     let h : st .args .root < st .args .used = ok .root-used in
-    let small : st .args .used ≤ 4096 =
-    checked-used (st .args .t .now) (st .args .rs .now) (st .args .p .now) (st .args .used) (st .args .root) ok in (
-      accepted,
-      (λ a k. (c .before .before .before .before .before .before .before .before .check-counted) .ensures .1 ((c .before .before .enum-told) .given .1) a (omega (arith, k, h)), omega (arith, h, (c .before .before .before .before .before .before .before .before .before .before .before .before .before .before .before .before .before) .pre .1 small)),
-    )
+    let small : st .args .used ≤ 4096 = checked-used (st .args .t .now) (st .args .rs .now) (st .args .p .now)
+        (st .args .used) (st .args .root) ok in
+    (accepted, (λ a k. check-counted .ensures .1 (enum-told .given .1) a (omega (arith, k, h)), omega (arith, h,
+    st .pre .1 small)))
 
--- src/lib.rt:171:1
+-- src/lib.rt:193:1
 same-length : tie.Need-same-length
 same-length c = search needs
 
--- src/lib.rt:171:1
+-- src/lib.rt:193:1
 same-length-2 : tie.Need-same-length-2
 same-length-2 c = search needs
 
--- src/lib.rt:171:1
+-- src/lib.rt:193:1
 same-length-3 : tie.Need-same-length-3
 same-length-3 c = search needs
 
--- src/lib.rt:171:1
+-- src/lib.rt:193:1
 returns : tie.Need-returns
 returns c =
-    let st = (c .before .before .before .before .before .before .before .before .before .before .before .before .before .before .before .before) in
-    let h =
-    rewrite-refused (st .args .t .now) (st .args .rs .now) (st .args .p .now) (st .args .used) (st .args .root) _
-    (sym ((c .before .before .before .before .before .before .before .check-counted) .ensures .0) ∙ (c .before .answer) .given .1) in
-    (sym (h .0), sym (h .1))
+    let st = c .before .before .before .before .before .before .before .before .before .before .before .before
+        .before .before .before .before .before in
+    let check-counted = c .before .before .before .before .before .before .before .before .check-counted in
+    let answer = c .before .before .answer in
+    let refused = c .refused in
+    let h = rewrite-refused (st .args .t .now) (st .args .rs .now) (st .args .p .now) (st .args .used) (st .args
+        .root) _ (sym (check-counted .ensures .0) ∙ answer .given .1) in
+    (refused .ensures ∙ sym (h .0), (sym (h .1), none-said _ _ _ _ (refused .ensures)))
 
--- src/lib.rt:171:1
+-- src/lib.rt:193:1
 same-length-4 : tie.Need-same-length-4
 same-length-4 c = search needs
 
--- src/lib.rt:171:1
+-- src/lib.rt:193:1
 same-length-5 : tie.Need-same-length-5
 same-length-5 c = search needs
 
--- src/lib.rt:171:1
+-- src/lib.rt:193:1
 same-length-6 : tie.Need-same-length-6
 same-length-6 c = search needs
 
--- src/lib.rt:171:1
+-- src/lib.rt:193:1
 returns-2 : tie.Need-returns-2
 returns-2 c = search needs
 
@@ -98,6 +114,7 @@ rewrite-within-spec =
     (tie.spec
     check-counted-requires
     enum-known-answer
+    refused-requires
     enum-told
     cast-rewrite-checked
     cast-t20

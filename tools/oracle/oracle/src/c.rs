@@ -2,7 +2,7 @@
 //! may come with any pointer. The caller hands over only screens that checking accepts.
 
 use crate::aexpr::AExpr;
-use crate::{merge, prepare, rewrite, Outcome};
+use crate::{merge, passes, prepare, rewrite, Outcome};
 use polars_utils::arena::Arena;
 use std::slice;
 
@@ -38,7 +38,7 @@ pub unsafe extern "C" fn oracle_rewrite(
     new_root: *mut usize,
 ) -> i32 {
     let used = records_len / 16;
-    let (answer, at, made) = match rewrite(bytes(records, records_len), &values(pool, pool_len), root, difference).0 {
+    let (answer, at, made) = match rewrite(bytes(records, records_len), &values(pool, pool_len), root, difference) {
         Outcome::Unchanged => return 0,
         Outcome::NothingPasses => {
             let mut literal = [0; 16];
@@ -57,6 +57,21 @@ pub unsafe extern "C" fn oracle_rewrite(
     *added_len = made.len() * 16;
     *new_root = at;
     answer
+}
+
+/// The rounds of `propagate_equalities`, of a checked screen that has an equality.
+///
+/// # Safety
+/// The slices hold as many bytes as said.
+#[no_mangle]
+pub unsafe extern "C" fn oracle_passes(
+    records: *const u8,
+    records_len: usize,
+    pool: *const u8,
+    pool_len: usize,
+    root: usize,
+) -> u64 {
+    passes(bytes(records, records_len), &values(pool, pool_len), root)
 }
 
 /// A screen read into the Rust's arena once, for timing.

@@ -147,17 +147,14 @@ fn record(ae: &AExpr) -> [u8; 16] {
     r
 }
 
-/// `records` holds the used records of a checked screen. Also answers the calls of get_disjoint_mut.
-pub fn rewrite(records: &[u8], pool: &[i64], root: usize, difference: bool) -> (Outcome, u64) {
+/// `records` holds the used records of a checked screen.
+pub fn rewrite(records: &[u8], pool: &[i64], root: usize, difference: bool) -> Outcome {
     let used = records.len() / 16;
     let mut arena = Arena(records.chunks_exact(16).map(|r| node(r, pool)).collect::<Vec<_>>());
     if difference {
         apply_difference(&mut arena, root);
     }
-    polars_utils::aliases::take_disjoint_calls();
-    let found = filter_constraint::merge_filter_constraints(Node(root), false, &mut arena);
-    let calls = polars_utils::aliases::take_disjoint_calls();
-    let outcome = match found {
+    match filter_constraint::merge_filter_constraints(Node(root), false, &mut arena) {
         None => {
             assert_eq!(arena.0.len(), used, "unchanged, yet nodes added");
             Outcome::Unchanged
@@ -175,8 +172,22 @@ pub fn rewrite(records: &[u8], pool: &[i64], root: usize, difference: bool) -> (
                 _ => Outcome::Rewritten { root: n, added },
             }
         }
-    };
-    (outcome, calls)
+    }
+}
+
+/// How many rounds `propagate_equalities` makes of a checked screen that has an equality; 0 if it is not called. Behind
+/// the conjuncts stands one more, the equality of two columns that no screen has: it changes nothing, and is asked for
+/// once a round.
+pub fn passes(records: &[u8], pool: &[i64], root: usize) -> u64 {
+    let mut arena = prepare(records, pool);
+    let n = arena.0.len();
+    arena.0.push(AExpr::Column(PlSmallStr(64)));
+    arena.0.push(AExpr::Column(PlSmallStr(65)));
+    arena.0.push(AExpr::BinaryExpr { left: Node(n), op: Operator::Eq, right: Node(n + 1) });
+    arena.0.push(AExpr::BinaryExpr { left: Node(root), op: Operator::And, right: Node(n + 2) });
+    polars_utils::aliases::take_calls_for_last_two();
+    merge(&mut arena, n + 3);
+    polars_utils::aliases::take_calls_for_last_two()
 }
 
 /// For timing: the arena once, then the merging alone.

@@ -1,0 +1,4 @@
+pub mod Screen
+pub mod Answers
+pub mod Promise
+pub mod Calls
