@@ -70,6 +70,23 @@ static uint32_t list_line(unsigned number, int pattern, unsigned n, unsigned lis
     return screen_put_is_in(&now.s, x, screen_put_list(&now.s, SCREEN_TYPE_INT, values, LIST, 0), 0);
 }
 
+/* A list over values that the pool has already. */
+static uint32_t shared_line(unsigned number, uint32_t start, uint32_t count)
+{
+    uint32_t x = screen_put_column(&now.s, number);
+    return screen_put_is_in(&now.s, x, screen_put(&now.s, SCREEN_KIND_LIST, 0, SCREEN_TYPE_INT, start, count, 0), 0);
+}
+
+static void fill_pool(uint32_t values, int64_t modulus)
+{
+    int64_t list[LIST];
+    for (uint32_t from = 0; from < values; from += LIST) {
+        for (unsigned i = 0; i < LIST; i++)
+            list[i] = (int64_t)(from + i) % modulus;
+        screen_put_list(&now.s, SCREEN_TYPE_INT, list, LIST, 0);
+    }
+}
+
 /* ---------------------------------------------------------------------------------------------------------- timing */
 
 static uint8_t scratch[16 * 4096];
@@ -170,6 +187,62 @@ static void search_exclusions(void)
     close_family("exclusions");
 }
 
+/* What an index of the lists does not make cheaper, or should not be made for: as many lists as lines allow, over one part of
+ * the pool, with few equalities or many; lists that change nothing while a bound still moves, so that each is looked at in vain;
+ * one long list among short ones; numbers that stand for one value. `lists` of the lines are lists, `short_ones` have one value. */
+static void search_shared(void)
+{
+    static const unsigned counts[8] = {4, 8, 12, 24, 48, 64, 96, 126};
+    char name[120];
+    for (unsigned c = 0; c < 8; c++)
+        for (int pattern = 0; pattern < 4; pattern++)
+            for (int negated = 0; negated < 3; negated++)
+                for (int far = 0; far < 2; far++) {
+                    unsigned lists = counts[c];
+                    unsigned columns = LINES - lists > 64 ? 64 : LINES - lists;
+                    begin(columns, SCREEN_TYPE_INT);
+                    fill_pool(8000, pattern == 3 ? 150 : 8000);
+                    for (unsigned n = 0; n < lists; n++) {
+                        uint32_t start = pattern == 0 ? 0 : pattern == 1 ? n : 61 * n;
+                        uint32_t listed = shared_line(pattern == 2 ? 0 : n % columns, start, LIST);
+                        join(negated == 2 ? (n % 2 ? not_of(listed) : listed) : negated ? not_of(listed) : listed);
+                    }
+                    join(line(&now, SCREEN_OP_GT, 0, -5));
+                    join_chain(columns, far);
+                    snprintf(name, sizeof name, "%u lists, parts %d, %s, a bound, %u equalities%s", lists, pattern,
+                             negated == 2 ? "in turn" : negated ? "negated" : "allowed", columns - 1,
+                             far ? " from the far end" : "");
+                    time_screen(name);
+                }
+    close_family("shared lists, a bound");
+    for (unsigned short_ones = 4; short_ones <= 60; short_ones += 8)
+        for (int negated = 0; negated < 3; negated++)
+            for (int far = 0; far < 2; far++) {
+                begin(64, SCREEN_TYPE_INT);
+                fill_pool(200, 200);
+                join(shared_line(0, 0, LIST));
+                for (unsigned n = 0; n < short_ones; n++) {
+                    uint32_t listed = shared_line(n, 99 + n % 2, 1);
+                    join(negated == 2 ? (n % 2 ? not_of(listed) : listed) : negated ? not_of(listed) : listed);
+                }
+                join_chain(64, far);
+                snprintf(name, sizeof name, "%u of one value and one of 100, %s%s", short_ones,
+                         negated == 2 ? "in turn" : negated ? "negated" : "allowed", far ? ", far end" : "");
+                time_screen(name);
+            }
+    close_family("short lists");
+    for (unsigned different = 1; different <= 64; different *= 2)
+        for (int far = 0; far < 2; far++) {
+            begin(64, SCREEN_TYPE_INT);
+            for (unsigned n = 0; n < 64; n++)
+                join(line(&now, SCREEN_OP_NOT_EQ, n, n % different));
+            join_chain(64, far);
+            snprintf(name, sizeof name, "64 of %u values, one a column%s", different, far ? ", far end" : "");
+            time_screen(name);
+        }
+    close_family("equal exclusions");
+}
+
 static void search_one_column(void)
 {
     char name[120];
@@ -211,6 +284,7 @@ int main(void)
     search_lists(0, "lists, equalities");
     search_lists(1, "negated, equalities");
     search_lists(2, "in turn, equalities");
+    search_shared();
     printf("slowest screen found: %.3f ms (%s); ceiling %d ms %s, desk's %d ms %s\n", slowest_of_all / 1e6, slowest_name,
            CEILING_MS, slowest_of_all <= CEILING_MS * 1e6 ? "met" : "missed", DESK_MS,
            slowest_of_all <= DESK_MS * 1e6 ? "met" : "missed");

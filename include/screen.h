@@ -347,7 +347,7 @@ enum screen_rewrite_answer {
  *
  * A conjunct with a FloorDivide or Modulus in it is none of these: it stays as it is and says nothing of its columns.
  *
- * The call needs some 62 KB of stack, whatever the screen.
+ * The call needs some 62 KB of stack, and less than 384 KB where many lists are carried by many equalities.
  */
 SCREEN_MUST_USE
 uint32_t screen_rewrite(const uint8_t *table, size_t table_len, uint8_t *records, size_t records_len,

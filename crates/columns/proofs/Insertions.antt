@@ -59,7 +59,7 @@ abbrev pub within : Option (List ℕ) → List ℕ → Bool
 within none l = false
 within (some x) l = sub′ x l
 
-within-more : (o : Option (List ℕ)) (m l : List ℕ) → within o l ≡ true → within (some (q.common payload o m)) l ≡ true
+pub within-more : (o : Option (List ℕ)) (m l : List ℕ) → within o l ≡ true → within (some (q.common payload o m)) l ≡ true
 within-more none m l e = absurd (true≢false (sym e))
 within-more (some x) m l e = sub-kept l m x e
 
@@ -67,7 +67,7 @@ within-own : (o : Option (List ℕ)) (l : List ℕ) → within (some (q.common p
 within-own none l = sub-self l
 within-own (some x) l = kept-sub l x
 
-within-same : (o : Option (List ℕ)) (l : List ℕ) → within o l ≡ true → some (q.common payload o l) ≡ o
+pub within-same : (o : Option (List ℕ)) (l : List ℕ) → within o l ≡ true → some (q.common payload o l) ≡ o
 within-same none l e = absurd (true≢false (sym e))
 within-same (some x) l e = ap some (retain-subset payload l x e)
 

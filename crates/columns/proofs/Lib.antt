@@ -5,3 +5,6 @@ pub mod Lists
 pub mod Mergings
 pub mod Resolutions
 pub mod Written
+pub mod Asked
+pub mod Held
+pub mod Indexing

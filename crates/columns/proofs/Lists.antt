@@ -233,7 +233,7 @@ pub list-as : (ss cs ps : List ℕ) (j s n : ℕ) → s ≡ getD ss j 0 → n �
 unfolding listOf
 list-as ss cs ps j s n e f = rw (e, f)
 
-within-still : (o : Option (List ℕ)) (l : List ℕ) → within o l ≡ true → q.allowedChanges payload o l ≡ false
+pub within-still : (o : Option (List ℕ)) (l : List ℕ) → within o l ≡ true → q.allowedChanges payload o l ≡ false
 within-still none l h = absurd (true≢false (sym h))
 within-still (some m) l h = ap not h
 

@@ -124,7 +124,7 @@ new-disallowed d l x = rw (subset-extend d l x) (go (subset payload d x) refl)
     go true s = rw (extend-subset payload x d s)
     go false s = refl
 
-abbrev newAllowed : Option (List ℕ) → Option (List ℕ) → Bool
+abbrev pub newAllowed : Option (List ℕ) → Option (List ℕ) → Bool
 newAllowed o none = false
 newAllowed o (some m) = q.allowedChanges payload o m
 
@@ -141,7 +141,7 @@ new-allowed (some x) (some m) l = rw (subset-retain x l m) (go (subset payload x
     go false s = refl
 
 -- ---- a column that is not impossible, after some numbers
-abbrev taken : Merging → List ℕ → Option (List ℕ) → List ℕ → Merging
+abbrev pub taken : Merging → List ℕ → Option (List ℕ) → List ℕ → Merging
 taken m e o d =
     record {
       column = joined (m .column) e o d;
@@ -225,7 +225,7 @@ mark-taken t j m e o d u = go (eq-view (getD (t .kinds) j 0) 0) (eq-view (getD (
 start-taken : (m : Merging) → taken m [] none [] ≡ m
 start-taken m = rw (or-false (m .emitted), or-false (m .any))
 
-marks-taken : (t : Conjuncts) (a : List ℕ) (n : ℕ) (m : Merging) → m .column .unsat ≡ false →
+pub marks-taken : (t : Conjuncts) (a : List ℕ) (n : ℕ) (m : Merging) → m .column .unsat ≡ false →
     takeMarks t a n m ≡ taken m (excludedBy (t .kinds) (t .values) a n)
     (allowedBy (t .kinds) (t .starts) (t .counts) (t .pool) a n)
     (disallowedBy (t .kinds) (t .starts) (t .counts) (t .pool) a n)
@@ -266,7 +266,7 @@ dead-recording x m u = ap (λ b. record {
       m .any || (not b && q.changes payload x (m .column));
 }) u ∙ rw (or-false (m .any))
 
-dead-mark : (t : Conjuncts) (j : ℕ) (m : Merging) → m .column .unsat ≡ true → takeMark t j m ≡ m
+pub dead-mark : (t : Conjuncts) (j : ℕ) (m : Merging) → m .column .unsat ≡ true → takeMark t j m ≡ m
 unfolding takeMark
 dead-mark t j m u = go (ofKind (t .kinds) 0 j) (ofKind (t .kinds) 1 j) (ofKind (t .kinds) 2 j)
   where
@@ -278,7 +278,7 @@ dead-mark t j m u = go (ofKind (t .kinds) 0 j) (ofKind (t .kinds) 1 j) (ofKind (
     go false false true = dead-recording (q.Disallow false (listOf (t .starts) (t .counts) (t .pool) j)) m u
     go false false false = refl
 
-dead-marks : (t : Conjuncts) (a : List ℕ) (n : ℕ) (m : Merging) → m .column .unsat ≡ true → takeMarks t a n m ≡ m
+pub dead-marks : (t : Conjuncts) (a : List ℕ) (n : ℕ) (m : Merging) → m .column .unsat ≡ true → takeMarks t a n m ≡ m
 unfolding takeMarks
 dead-marks t a zero m u = refl
 dead-marks t a (suc n) m u = ap (λ y. takeMark t (getD a n 0) y) (dead-marks t a n m u) ∙ dead-mark t (getD a n 0) m u

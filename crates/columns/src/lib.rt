@@ -8,6 +8,7 @@
 pub mod bound;
 pub mod column;
 pub mod comparisons;
+pub mod index;
 pub mod marks;
 pub mod merging;
 pub mod resolve;

@@ -5,8 +5,9 @@ ghost use mathlib.Core.Path.{_≡_};
 ghost use mathlib.Core.Bool.{Bool, true, false, not, _&&_};
 ghost use mathlib.Core.List.{[]};
 ghost use lib.Dec.{eqb};
-ghost use Prim.Native.Nat.{ℕ, _+_, _<_, _≤_};
+ghost use Prim.Native.Nat.{ℕ, _+_, _^_, _<_, _≤_};
 ghost use lib.ListN.{length, getD, set};
+ghost use Rattle.records.specs.Bytes.{valueAt};
 ghost use Rattle.truth.specs.FromBytes.{valuesFrom};
 ghost use Rattle.truth.specs.Order.{isEqual};
 ghost use Rattle.constraints.specs.Scalars.{scalarCmp};
@@ -16,6 +17,7 @@ ghost use Rattle.constraints.specs.Resolve.{isAllowed, isFeasible, anyFeasible,
 ghost use Rattle.constraints.specs.Payload.{payload};
 ghost use Rattle.columns.specs.Abstraction.{Conjuncts, conjuncts, numbered, columnOf, listOf, ofKind};
 ghost use Rattle.columns.specs.Abstraction.{excludedBy, allowedBy, disallowedBy, marked, Fine, longer};
+ghost use Rattle.columns.specs.Index.{valueIn, Indexed, Low, NumberSet, KindSet};
 ghost use Rattle.columns.specs.Steps.{Lists, outside, anyOf, changesIn, anyOfKind};
 use crate::bound::clears_lower;
 use crate::bound::clears_upper;
@@ -23,9 +25,13 @@ use crate::bound::same;
 use crate::column::ColumnConstraints;
 use records::bytes::byte;
 use records::bytes::value_at;
+use sorted::bits::has;
+use sorted::bits::meets;
+use sorted::bits::put;
+use sorted::bits::within;
 use truth::scalar::Scalar;
 
-fn number_at(words: &[u32], i: usize) -> u32
+pub fn number_at(words: &[u32], i: usize) -> u32
     ensures { λ r. ⌜ r ≡ getD (now (words .entry)) i 0 ⌝ }
 {
     if i < words.len() {
@@ -187,6 +193,104 @@ fn has_mark(marks: &[u8], n: usize, j: u8) -> bool
     false
 }
 
+// ---- numbers of conjuncts as sets
+
+/// The numbers of a column as a set.
+pub fn number_set(marks: &[u8], n: usize) -> [u64; 2]
+    requires { ⌜ Low (now marks) n ⌝ }
+    ensures { λ r. ⌜ NumberSet (now (marks .entry)) n r ⌝ }
+{
+    let mut set = [0u64; 2];
+    let mut i: usize = 0;
+    while i < n {
+        let j = byte(marks, i);
+        put(&mut set, 0, j as usize);
+        i += 1;
+    }
+    set
+}
+
+/// Those of kind k.
+fn kind_set(kinds: &[u8], marks: &[u8], n: usize, k: u8) -> [u64; 2]
+    requires { ⌜ Low (now marks) n ⌝ }
+    ensures { λ r. ⌜ KindSet (now (kinds .entry)) k (now (marks .entry)) n r ⌝ }
+{
+    let mut set = [0u64; 2];
+    let mut i: usize = 0;
+    while i < n {
+        let j = byte(marks, i);
+        i += 1;
+        if byte(kinds, j as usize) != k {
+            continue;
+        }
+        put(&mut set, 0, j as usize);
+    }
+    set
+}
+
+// ---- looking up
+
+/// Is the value at place p in the list of conjunct j.
+fn listed_at(index: &[u64], starts: &[u32], counts: &[u32], pool: &[u8], j: u8, p: usize) -> bool
+    requires { ⌜ Indexed (now starts) (now counts) (now pool) (now index) × (p < 2 ^ 34) ⌝ }
+    ensures { λ r. ⌜ r ≡ valueIn (now (pool .entry)) p (listOf (now (starts .entry)) (now (counts .entry))
+        (now (pool .entry)) j) ⌝ }
+{
+    if (p < index.len() / 3) & (j < 128) {
+        return has(index, index[p] as usize, j as usize);
+    }
+    let v = Scalar(value_at(pool, p));
+    listed(starts, counts, pool, j, v)
+}
+
+/// Is the value at place p in every allowed list; `allowed` are the numbers of kind 1.
+fn allows_at(
+    index: &[u64],
+    kinds: &[u8],
+    starts: &[u32],
+    counts: &[u32],
+    pool: &[u8],
+    marks: &[u8],
+    n: usize,
+    allowed: &[u64],
+    p: usize,
+) -> bool
+    requires { ⌜ Indexed (now starts) (now counts) (now pool) (now index) × (p < 2 ^ 34) ⌝ }
+    requires { ⌜ Low (now marks) n × KindSet (now kinds) 1 (now marks) n (now allowed) ⌝ }
+    ensures { λ r. ⌜ r ≡ isAllowed payload (allowedBy (now (kinds .entry)) (now (starts .entry)) (now (counts .entry))
+        (now (pool .entry)) (now (marks .entry)) n) (payload .key (valueAt (now (pool .entry)) p)) ⌝ }
+{
+    if p < index.len() / 3 {
+        return within(allowed, 0, index, index[p] as usize);
+    }
+    let v = Scalar(value_at(pool, p));
+    allows(kinds, starts, counts, pool, marks, n, v)
+}
+
+/// Is the value at place p a disallowed one; `disallowed` are the numbers of kind 2.
+fn disallows_at(
+    index: &[u64],
+    kinds: &[u8],
+    starts: &[u32],
+    counts: &[u32],
+    pool: &[u8],
+    marks: &[u8],
+    n: usize,
+    disallowed: &[u64],
+    p: usize,
+) -> bool
+    requires { ⌜ Indexed (now starts) (now counts) (now pool) (now index) × (p < 2 ^ 34) ⌝ }
+    requires { ⌜ Low (now marks) n × KindSet (now kinds) 2 (now marks) n (now disallowed) ⌝ }
+    ensures { λ r. ⌜ r ≡ valueIn (now (pool .entry)) p (disallowedBy (now (kinds .entry)) (now (starts .entry))
+        (now (counts .entry)) (now (pool .entry)) (now (marks .entry)) n) ⌝ }
+{
+    if p < index.len() / 3 {
+        return meets(disallowed, 0, index, index[p] as usize);
+    }
+    let v = Scalar(value_at(pool, p));
+    disallows(kinds, starts, counts, pool, marks, n, v)
+}
+
 /// A column's numbers in an array of their own, for a walk over them while its row is written anew.
 pub fn copied(marks: &[u8], n: usize) -> [u8; 128]
     requires { ⌜ (n ≤ length (now marks)) × (n ≤ 128) ⌝ }
@@ -321,36 +425,44 @@ pub fn excluded_changes(
 }
 
 fn is_outside(
+    index: &[u64],
     kinds: &[u8],
     starts: &[u32],
     counts: &[u32],
     pool: &[u8],
     marks: &[u8],
     n: usize,
+    allowed: &[u64],
     j: u8,
-    v: Scalar,
+    p: usize,
 ) -> bool
+    requires { ⌜ Indexed (now starts) (now counts) (now pool) (now index) × (p < 2 ^ 34) ⌝ }
+    requires { ⌜ Low (now marks) n × KindSet (now kinds) 1 (now marks) n (now allowed) ⌝ }
     ensures { λ r. ⌜ r ≡ outside (allowedBy (now (kinds .entry)) (now (starts .entry)) (now (counts .entry))
         (now (pool .entry)) (now (marks .entry)) n) (listOf (now (starts .entry)) (now (counts .entry))
-        (now (pool .entry)) j) (v .0) ⌝ }
+        (now (pool .entry)) j) (valueAt (now (pool .entry)) p) ⌝ }
 {
-    if listed(starts, counts, pool, j, v) {
+    if listed_at(index, starts, counts, pool, j, p) {
         return false;
     }
-    allows(kinds, starts, counts, pool, marks, n, v)
+    allows_at(index, kinds, starts, counts, pool, marks, n, allowed, p)
 }
 
 // Has the list of f, one of the allowed ones, a value in all of them that is not in the list of j.
 fn any_outside(
+    index: &[u64],
     kinds: &[u8],
     starts: &[u32],
     counts: &[u32],
     pool: &[u8],
     marks: &[u8],
     n: usize,
+    allowed: &[u64],
     f: u8,
     j: u8,
 ) -> bool
+    requires { ⌜ Indexed (now starts) (now counts) (now pool) (now index) ⌝ }
+    requires { ⌜ Low (now marks) n × KindSet (now kinds) 1 (now marks) n (now allowed) ⌝ }
     ensures { λ r. ⌜ r ≡ anyOf (λ (v : ℕ). outside (allowedBy (now (kinds .entry)) (now (starts .entry))
         (now (counts .entry)) (now (pool .entry)) (now (marks .entry)) n)
         (listOf (now (starts .entry)) (now (counts .entry)) (now (pool .entry)) j) v)
@@ -360,8 +472,18 @@ fn any_outside(
     let m = number_at(counts, f as usize) as usize;
     let mut i: usize = 0;
     while i < m {
-        let v = Scalar(value_at(pool, s + i));
-        if is_outside(kinds, starts, counts, pool, marks, n, j, v) {
+        if is_outside(
+            index,
+            kinds,
+            starts,
+            counts,
+            pool,
+            marks,
+            n,
+            allowed,
+            j,
+            s + i,
+        ) {
             return true;
         }
         i += 1;
@@ -371,6 +493,7 @@ fn any_outside(
 
 // Is some value that every allowed list has not in the list of j. With no allowed list yet, the list itself is news.
 fn allowed_narrows(
+    index: &[u64],
     kinds: &[u8],
     starts: &[u32],
     counts: &[u32],
@@ -379,6 +502,7 @@ fn allowed_narrows(
     n: usize,
     j: u8,
 ) -> bool
+    requires { ⌜ Indexed (now starts) (now counts) (now pool) (now index) × Low (now marks) n ⌝ }
     ensures { λ r. ⌜ r ≡ q.allowedChanges payload (allowedBy (now (kinds .entry)) (now (starts .entry))
         (now (counts .entry)) (now (pool .entry)) (now (marks .entry)) n)
         (listOf (now (starts .entry)) (now (counts .entry)) (now (pool .entry)) j) ⌝ }
@@ -387,7 +511,8 @@ fn allowed_narrows(
     while i < n {
         let f = byte(marks, i);
         if byte(kinds, f as usize) == 1 {
-            return any_outside(kinds, starts, counts, pool, marks, n, f, j);
+            let allowed = kind_set(kinds, marks, n, 1);
+            return any_outside(index, kinds, starts, counts, pool, marks, n, &allowed, f, j);
         }
         i += 1;
     }
@@ -395,6 +520,7 @@ fn allowed_narrows(
 }
 
 pub fn allowed_changes(
+    index: &[u64],
     kinds: &[u8],
     starts: &[u32],
     counts: &[u32],
@@ -404,6 +530,7 @@ pub fn allowed_changes(
     j: u8,
 ) -> bool
     requires { ⌜ getD (now kinds) j 0 ≡ 1 ⌝ }
+    requires { ⌜ Indexed (now starts) (now counts) (now pool) (now index) × Low (now marks) (c .len) ⌝ }
     ensures { λ r. ⌜ ((t : Conjuncts) → Lists t (now (kinds .entry)) (now (starts .entry)) (now (counts .entry))
         (now (pool .entry)) → r ≡ changesIn (q.Allow (listOf (t .starts) (t .counts) (t .pool) j)) (columnOf t (numbered (now (marks .entry)) c))) ⌝ }
 {
@@ -413,11 +540,12 @@ pub fn allowed_changes(
     if has_mark(marks, c.len, j) {
         return false;
     }
-    allowed_narrows(kinds, starts, counts, pool, marks, c.len, j)
+    allowed_narrows(index, kinds, starts, counts, pool, marks, c.len, j)
 }
 
 // Has the list of j a value that is not disallowed yet.
 fn disallowed_widens(
+    index: &[u64],
     kinds: &[u8],
     starts: &[u32],
     counts: &[u32],
@@ -426,16 +554,27 @@ fn disallowed_widens(
     n: usize,
     j: u8,
 ) -> bool
+    requires { ⌜ Indexed (now starts) (now counts) (now pool) (now index) × Low (now marks) n ⌝ }
     ensures { λ r. ⌜ r ≡ not (subset payload (listOf (now (starts .entry)) (now (counts .entry)) (now (pool .entry))
         j) (disallowedBy (now (kinds .entry)) (now (starts .entry)) (now (counts .entry)) (now (pool .entry))
         (now (marks .entry)) n)) ⌝ }
 {
+    let disallowed = kind_set(kinds, marks, n, 2);
     let s = number_at(starts, j as usize) as usize;
     let m = number_at(counts, j as usize) as usize;
     let mut i: usize = 0;
     while i < m {
-        let v = Scalar(value_at(pool, s + i));
-        if !disallows(kinds, starts, counts, pool, marks, n, v) {
+        if !disallows_at(
+            index,
+            kinds,
+            starts,
+            counts,
+            pool,
+            marks,
+            n,
+            &disallowed,
+            s + i,
+        ) {
             return true;
         }
         i += 1;
@@ -444,6 +583,7 @@ fn disallowed_widens(
 }
 
 pub fn disallowed_changes(
+    index: &[u64],
     kinds: &[u8],
     starts: &[u32],
     counts: &[u32],
@@ -453,6 +593,7 @@ pub fn disallowed_changes(
     j: u8,
 ) -> bool
     requires { ⌜ getD (now kinds) j 0 ≡ 2 ⌝ }
+    requires { ⌜ Indexed (now starts) (now counts) (now pool) (now index) × Low (now marks) (c .len) ⌝ }
     ensures { λ r. ⌜ ((t : Conjuncts) → Lists t (now (kinds .entry)) (now (starts .entry)) (now (counts .entry))
         (now (pool .entry)) → r ≡ changesIn (q.Disallow false (listOf (t .starts) (t .counts) (t .pool) j))
         (columnOf t (numbered (now (marks .entry)) c))) ⌝ }
@@ -463,25 +604,33 @@ pub fn disallowed_changes(
     if has_mark(marks, c.len, j) {
         return false;
     }
-    disallowed_widens(kinds, starts, counts, pool, marks, c.len, j)
+    disallowed_widens(index, kinds, starts, counts, pool, marks, c.len, j)
 }
 
 // ---- feasible values
 
-/// Does v survive the bounds and the three sets.
-pub fn is_feasible(
+/// Does the value at place p survive the bounds and the three sets.
+fn is_feasible(
+    index: &[u64],
     kinds: &[u8],
     values: &[u64],
     starts: &[u32],
     counts: &[u32],
     pool: &[u8],
     marks: &[u8],
+    allowed: &[u64],
+    disallowed: &[u64],
     c: ColumnConstraints,
-    v: Scalar,
+    p: usize,
 ) -> bool
+    requires { ⌜ Indexed (now starts) (now counts) (now pool) (now index) × (p < 2 ^ 34) ⌝ }
+    requires { ⌜ Low (now marks) (c .len) × KindSet (now kinds) 1 (now marks) (c .len) (now allowed)
+        × KindSet (now kinds) 2 (now marks) (c .len) (now disallowed) ⌝ }
     ensures { λ r. ⌜ r ≡ isFeasible payload (columnOf (conjuncts (now (kinds .entry)) (now (values .entry))
-        (now (starts .entry)) (now (counts .entry)) (now (pool .entry))) (numbered (now (marks .entry)) c)) (payload .key (v .0)) ⌝ }
+        (now (starts .entry)) (now (counts .entry)) (now (pool .entry))) (numbered (now (marks .entry)) c))
+        (payload .key (valueAt (now (pool .entry)) p)) ⌝ }
 {
+    let v = Scalar(value_at(pool, p));
     let low = c.lower;
     if !clears_lower(low, v) {
         return false;
@@ -493,14 +642,25 @@ pub fn is_feasible(
     if excludes(kinds, values, marks, c.len, v) {
         return false;
     }
-    if !allows(kinds, starts, counts, pool, marks, c.len, v) {
+    if !allows_at(index, kinds, starts, counts, pool, marks, c.len, allowed, p) {
         return false;
     }
-    !disallows(kinds, starts, counts, pool, marks, c.len, v)
+    !disallows_at(
+        index,
+        kinds,
+        starts,
+        counts,
+        pool,
+        marks,
+        c.len,
+        disallowed,
+        p,
+    )
 }
 
 // Is some value of the list of f feasible.
 fn any_feasible(
+    index: &[u64],
     kinds: &[u8],
     values: &[u64],
     starts: &[u32],
@@ -510,16 +670,30 @@ fn any_feasible(
     c: ColumnConstraints,
     f: u8,
 ) -> bool
+    requires { ⌜ Indexed (now starts) (now counts) (now pool) (now index) × Low (now marks) (c .len) ⌝ }
     ensures { λ r. ⌜ r ≡ anyFeasible payload (columnOf (conjuncts (now (kinds .entry)) (now (values .entry))
         (now (starts .entry)) (now (counts .entry)) (now (pool .entry))) (numbered (now (marks .entry)) c))
         (listOf (now (starts .entry)) (now (counts .entry)) (now (pool .entry)) f) ⌝ }
 {
+    let allowed = kind_set(kinds, marks, c.len, 1);
+    let disallowed = kind_set(kinds, marks, c.len, 2);
     let s = number_at(starts, f as usize) as usize;
     let m = number_at(counts, f as usize) as usize;
     let mut i: usize = 0;
     while i < m {
-        let v = Scalar(value_at(pool, s + i));
-        if is_feasible(kinds, values, starts, counts, pool, marks, c, v) {
+        if is_feasible(
+            index,
+            kinds,
+            values,
+            starts,
+            counts,
+            pool,
+            marks,
+            &allowed,
+            &disallowed,
+            c,
+            s + i,
+        ) {
             return true;
         }
         i += 1;
@@ -529,6 +703,7 @@ fn any_feasible(
 
 /// Is some allowed value feasible; true of a column with no allowed list.
 pub fn any_allowed(
+    index: &[u64],
     kinds: &[u8],
     values: &[u64],
     starts: &[u32],
@@ -537,6 +712,7 @@ pub fn any_allowed(
     marks: &[u8],
     c: ColumnConstraints,
 ) -> bool
+    requires { ⌜ Indexed (now starts) (now counts) (now pool) (now index) × Low (now marks) (c .len) ⌝ }
     ensures { λ r. ⌜ (let t = conjuncts (now (kinds .entry)) (now (values .entry)) (now (starts .entry))
         (now (counts .entry)) (now (pool .entry)) in r ≡ allowedFeasible payload (columnOf t (numbered (now (marks .entry)) c))
         (columnOf t (numbered (now (marks .entry)) c) .allowed)) ⌝ }
@@ -546,7 +722,7 @@ pub fn any_allowed(
     while i < n {
         let f = byte(marks, i);
         if byte(kinds, f as usize) == 1 {
-            return any_feasible(kinds, values, starts, counts, pool, marks, c, f);
+            return any_feasible(index, kinds, values, starts, counts, pool, marks, c, f);
         }
         i += 1;
     }

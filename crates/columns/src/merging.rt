@@ -2,11 +2,12 @@
 ghost use mathlib.Core.Path.{_≡_};
 ghost use mathlib.Core.Bool.{false};
 ghost use mathlib.Core.List.{List};
-ghost use Prim.Native.Nat.{ℕ, _<_};
+ghost use Prim.Native.Nat.{ℕ, _<_, _≤_};
 ghost use lib.ListN.{length, getD};
 ghost use Rattle.constraints.specs.Column as q;
 ghost use Rattle.constraints.specs.Payload.{payload};
 ghost use Rattle.columns.specs.Abstraction.{Conjuncts, conjuncts, numbered, columnOf, boundOf, listOf, Fine};
+ghost use Rattle.columns.specs.Index.{Indexed};
 ghost use Rattle.columns.specs.Steps.{Lists, mergingOf, emitting, recording};
 ghost use Rattle.columns.specs.Steps.{takeLower, takeUpper, takeMark, takeMarks};
 use crate::bound::Bound;
@@ -20,7 +21,9 @@ use crate::marks::add_excluded;
 use crate::marks::allowed_changes;
 use crate::marks::disallowed_changes;
 use crate::marks::excluded_changes;
+use crate::marks::number_set;
 use records::bytes::byte;
+use sorted::bits::has;
 use truth::scalar::Scalar;
 
 /// A column after a merge. `emitted`: something that is written out again changed; `any`: something changed.
@@ -99,6 +102,7 @@ fn merge_excluded(kinds: &[u8], values: &[u64], own: &mut [u8], m: Merged, j: u8
 }
 
 fn merge_allowed(
+    index: &[u64],
     kinds: &[u8],
     starts: &[u32],
     counts: &[u32],
@@ -108,13 +112,22 @@ fn merge_allowed(
     j: u8,
 ) -> Merged
     requires { ⌜ Fine (length (now own)) (now own) (m .column .len) × (j < length (now own)) × (getD (now kinds) j 0 ≡ 1) ⌝ }
+    requires { ⌜ Indexed (now starts) (now counts) (now pool) (now index) × (length (now own) ≤ 128) ⌝ }
     ensures { λ r. ⌜ ((t : Conjuncts) → Lists t (now (kinds .entry)) (now (starts .entry)) (now (counts .entry))
         (now (pool .entry)) → mergingOf t (now (own .exit)) r ≡ recording (q.Allow (listOf (t .starts) (t .counts) (t .pool) j))
         (mergingOf t (now (own .entry)) m)) ⌝ }
     ensures { λ r. ⌜ Fine (length (now (own .entry))) (now (own .exit)) (r .column .len) ⌝ }
 {
     let c = m.column;
-    let changed = allowed_changes(kinds, starts, counts, pool, own, c, j);
+    if m.any {
+        let e = add_allowed(own, c, j);
+        return Merged {
+            column: e,
+            emitted: m.emitted,
+            any: true,
+        };
+    }
+    let changed = allowed_changes(index, kinds, starts, counts, pool, own, c, j);
     let d = add_allowed(own, c, j);
     Merged {
         column: d,
@@ -124,6 +137,7 @@ fn merge_allowed(
 }
 
 fn merge_disallowed(
+    index: &[u64],
     kinds: &[u8],
     starts: &[u32],
     counts: &[u32],
@@ -133,13 +147,22 @@ fn merge_disallowed(
     j: u8,
 ) -> Merged
     requires { ⌜ Fine (length (now own)) (now own) (m .column .len) × (j < length (now own)) × (getD (now kinds) j 0 ≡ 2) ⌝ }
+    requires { ⌜ Indexed (now starts) (now counts) (now pool) (now index) × (length (now own) ≤ 128) ⌝ }
     ensures { λ r. ⌜ ((t : Conjuncts) → Lists t (now (kinds .entry)) (now (starts .entry)) (now (counts .entry))
         (now (pool .entry)) → mergingOf t (now (own .exit)) r ≡ recording
         (q.Disallow false (listOf (t .starts) (t .counts) (t .pool) j)) (mergingOf t (now (own .entry)) m)) ⌝ }
     ensures { λ r. ⌜ Fine (length (now (own .entry))) (now (own .exit)) (r .column .len) ⌝ }
 {
     let c = m.column;
-    let changed = disallowed_changes(kinds, starts, counts, pool, own, c, j);
+    if m.any {
+        let e = add_disallowed(counts, own, c, j, false);
+        return Merged {
+            column: e,
+            emitted: m.emitted,
+            any: true,
+        };
+    }
+    let changed = disallowed_changes(index, kinds, starts, counts, pool, own, c, j);
     let d = add_disallowed(counts, own, c, j, false);
     Merged {
         column: d,
@@ -150,6 +173,7 @@ fn merge_disallowed(
 
 // One number of the other column: an excluded value or a list, by its kind.
 fn merge_mark(
+    index: &[u64],
     kinds: &[u8],
     values: &[u64],
     starts: &[u32],
@@ -160,6 +184,7 @@ fn merge_mark(
     j: u8,
 ) -> Merged
     requires { ⌜ Fine (length (now own)) (now own) (m .column .len) × (j < length (now own)) ⌝ }
+    requires { ⌜ Indexed (now starts) (now counts) (now pool) (now index) × (length (now own) ≤ 128) ⌝ }
     ensures { λ r. ⌜ (let t = conjuncts (now (kinds .entry)) (now (values .entry)) (now (starts .entry))
         (now (counts .entry)) (now (pool .entry)) in mergingOf t (now (own .exit)) r ≡ takeMark t j (mergingOf t (now (own .entry)) m)) ⌝ }
     ensures { λ r. ⌜ Fine (length (now (own .entry))) (now (own .exit)) (r .column .len) ⌝ }
@@ -169,15 +194,16 @@ fn merge_mark(
         return merge_excluded(kinds, values, own, m, j);
     }
     if k == 1 {
-        return merge_allowed(kinds, starts, counts, pool, own, m, j);
+        return merge_allowed(index, kinds, starts, counts, pool, own, m, j);
     }
     if k == 2 {
-        return merge_disallowed(kinds, starts, counts, pool, own, m, j);
+        return merge_disallowed(index, kinds, starts, counts, pool, own, m, j);
     }
     m
 }
 
 fn merge_marks(
+    index: &[u64],
     kinds: &[u8],
     values: &[u64],
     starts: &[u32],
@@ -189,23 +215,29 @@ fn merge_marks(
     n: usize,
 ) -> Merged
     requires { ⌜ Fine (length (now own)) (now own) (m0 .column .len) × Fine (length (now own)) (now marks) n ⌝ }
+    requires { ⌜ Indexed (now starts) (now counts) (now pool) (now index) × (length (now own) ≤ 128) ⌝ }
     ensures { λ r. ⌜ (let t = conjuncts (now (kinds .entry)) (now (values .entry)) (now (starts .entry))
         (now (counts .entry)) (now (pool .entry)) in mergingOf t (now (own .exit)) r ≡ takeMarks t (now (marks .entry)) n
         (mergingOf t (now (own .entry)) m0)) ⌝ }
     ensures { λ r. ⌜ Fine (length (now (own .entry))) (now (own .exit)) (r .column .len) ⌝ }
 {
+    let held = number_set(own, m0.column.len);
     let mut m = m0;
     let mut i: usize = 0;
     while i < n {
         let j = byte(marks, i);
-        m = merge_mark(kinds, values, starts, counts, pool, own, m, j);
         i += 1;
+        if has(&held, 0, j as usize) {
+            continue;
+        }
+        m = merge_mark(index, kinds, values, starts, counts, pool, own, m, j);
     }
     m
 }
 
 /// All that the column d says, its numbers in `marks`, put into c, its numbers in `own`.
 pub fn merge_from(
+    index: &[u64],
     kinds: &[u8],
     values: &[u64],
     starts: &[u32],
@@ -217,6 +249,7 @@ pub fn merge_from(
     d: ColumnConstraints,
 ) -> Merged
     requires { ⌜ Fine (length (now own)) (now own) (c .len) × Fine (length (now own)) (now marks) (d .len) ⌝ }
+    requires { ⌜ Indexed (now starts) (now counts) (now pool) (now index) × (length (now own) ≤ 128) ⌝ }
     ensures { λ r. ⌜ (let t = conjuncts (now (kinds .entry)) (now (values .entry)) (now (starts .entry))
         (now (counts .entry)) (now (pool .entry)) in
         (columnOf t (numbered (now (own .exit)) (r .column)) ≡ q.mergeFrom payload (columnOf t (numbered (now (own .entry)) c)) (columnOf t (numbered (now (marks .entry)) d))) ×
@@ -233,7 +266,18 @@ pub fn merge_from(
     };
     let m1 = merge_lower(m0, low);
     let m2 = merge_upper(m1, upp);
-    let mut m = merge_marks(kinds, values, starts, counts, pool, own, m2, marks, d.len);
+    let mut m = merge_marks(
+        index,
+        kinds,
+        values,
+        starts,
+        counts,
+        pool,
+        own,
+        m2,
+        marks,
+        d.len,
+    );
     m.any = m.emitted | m.any;
     m
 }

@@ -11,6 +11,7 @@ ghost use Rattle.constraints.specs.Column as q;
 ghost use Rattle.constraints.specs.Resolve as z;
 ghost use Rattle.constraints.specs.Payload.{payload};
 ghost use Rattle.columns.specs.Abstraction.{Conjuncts, conjuncts, numbered, columnOf, boundOf, fixedOf, Fine};
+ghost use Rattle.columns.specs.Index.{Indexed, Low};
 ghost use Rattle.columns.specs.Steps.{Lists, applyExcluded, stepExcluded, stepMark, stepMarks, begun};
 ghost use Rattle.constraints.specs.declared.column.ExcludedResolution.the-variants.{Keep};
 ghost use Rattle.constraints.specs.declared.column.ExcludedResolution.the-variants.{TightenLower};
@@ -340,6 +341,7 @@ fn fixed_disallowed(
 
 // The last two tests: some allowed value is feasible, and the value that the bounds pin is not disallowed.
 fn with_lists(
+    index: &[u64],
     kinds: &[u8],
     values: &[u64],
     starts: &[u32],
@@ -348,6 +350,7 @@ fn with_lists(
     marks: &[u8],
     mut c: ColumnConstraints,
 ) -> ColumnConstraints
+    requires { ⌜ Indexed (now starts) (now counts) (now pool) (now index) × Low (now marks) (c .len) ⌝ }
     ensures { λ r. ⌜ (let t = conjuncts (now (kinds .entry)) (now (values .entry)) (now (starts .entry))
         (now (counts .entry)) (now (pool .entry)) in columnOf t (numbered (now (marks .entry)) r) ≡ z.withLists payload (columnOf t (numbered (now (marks .entry)) c))) ⌝ }
     ensures { λ r. ⌜ r .len ≡ c .len ⌝ }
@@ -355,13 +358,14 @@ fn with_lists(
     if c.unsat {
         return c;
     }
-    let a = any_allowed(kinds, values, starts, counts, pool, marks, c);
+    let a = any_allowed(index, kinds, values, starts, counts, pool, marks, c);
     let p = fixed_disallowed(kinds, starts, counts, pool, marks, c);
     c.unsat = !a | p;
     c
 }
 
 pub fn resolve_deferred(
+    index: &[u64],
     kinds: &[u8],
     values: &[u64],
     starts: &[u32],
@@ -371,6 +375,7 @@ pub fn resolve_deferred(
     c: ColumnConstraints,
 ) -> ColumnConstraints
     requires { ⌜ Fine (length (now own)) (now own) (c .len) × (length (now own) ≤ 128) ⌝ }
+    requires { ⌜ Indexed (now starts) (now counts) (now pool) (now index) ⌝ }
     ensures { λ r. ⌜ (let t = conjuncts (now (kinds .entry)) (now (values .entry)) (now (starts .entry))
         (now (counts .entry)) (now (pool .entry)) in columnOf t (numbered (now (own .exit)) r) ≡ z.resolveDeferred payload (columnOf t (numbered (now (own .entry)) c))) ⌝ }
     ensures { λ r. ⌜ Fine (length (now (own .entry))) (now (own .exit)) (r .len) ⌝ }
@@ -380,5 +385,5 @@ pub fn resolve_deferred(
     let w = begin_walk(c);
     let mut d = step_marks(kinds, values, own, w, &old, c.len);
     d.unsat = c.unsat | (conflict | d.unsat);
-    with_lists(kinds, values, starts, counts, pool, own, d)
+    with_lists(index, kinds, values, starts, counts, pool, own, d)
 }

@@ -6,6 +6,7 @@ ghost use Prim.Native.Nat.{ℕ, _+_, _*_, _<_, _≤_};
 ghost use lib.ListN.{length, getD};
 ghost use Rattle.constraints.specs.Payload.{payload};
 ghost use Rattle.columns.specs.Abstraction.{Conjuncts, conjuncts};
+ghost use Rattle.columns.specs.Index.{Indexed};
 ghost use Rattle.merge.specs.Collect.{isIn};
 ghost use Rattle.merge.specs.Emit.{comparisons};
 ghost use Rattle.rewrite.specs.Walk.{firstOf};
@@ -69,6 +70,7 @@ pub fn keep_equalities(
 
 /// Every column of `order` resolved; whether one is impossible, and how many comparisons they are written out as.
 pub fn resolve_all(
+    index: &[u64],
     kinds: &[u8],
     values: &[u64],
     starts: &[u32],
@@ -79,7 +81,8 @@ pub fn resolve_all(
     order: &[u32],
     columns: usize,
 ) -> ResolvedColumns
-    requires { ⌜ Fits (now cells) (now marks) × (columns ≤ length (now order)) × (columns ≤ 256) ⌝ }
+    requires { ⌜ Fits (now cells) (now marks) × (columns ≤ length (now order)) × (columns ≤ 256)
+        × Indexed (now starts) (now counts) (now pool) (now index) ⌝ }
     requires { ⌜ ((o : ℕ) → o < columns → (getD (now order) o 0 < 64) ×
         (isIn (getD (now order) o 0) (firstOf (now order) o) ≡ false)) ⌝ }
     ensures { λ r. ⌜ (let t = conjuncts (now (kinds .entry)) (now (values .entry)) (now (starts .entry))
@@ -95,7 +98,7 @@ pub fn resolve_all(
     while o < columns {
         let x = slot(Column(order[o]));
         let c = load(cells, x);
-        let d = resolve_row(kinds, values, starts, counts, pool, marks, x, c);
+        let d = resolve_row(index, kinds, values, starts, counts, pool, marks, x, c);
         store(cells, x, d);
         unsat = unsat | d.unsat;
         total = total + count_row(kinds, marks, x, d);

@@ -7,6 +7,7 @@ ghost use lib.ListN.{length, getD};
 ghost use Rattle.truth.specs.FromBytes.{aexprOf};
 ghost use Rattle.constraints.specs.Payload.{payload};
 ghost use Rattle.columns.specs.Abstraction.{conjuncts};
+ghost use Rattle.columns.specs.Index.{Indexed};
 ghost use Rattle.merge.specs.Classify.{classify};
 ghost use Rattle.merge.specs.Emit.{mergeFilterConstraints};
 ghost use Rattle.merge.specs.Passes.{mergePasses};
@@ -40,7 +41,8 @@ fn with_passes(answer: RewriteAnswer, passes: usize) -> Rewriting
 }
 
 /// The first n of `nodes` are the screen's conjuncts; kinds, values, starts and counts are their tables, `trees` the
-/// tree counts of the records up to the root. `marks` has room for the columns' numbers: 64 rows, n of them in each.
+/// tree counts of the records up to the root. `index` is the index of the lists, or has none. `marks` has room
+/// for the columns' numbers: 64 rows, n of them in each.
 pub fn merge_filter_constraints(
     t: &[u8],
     rs: &mut [u8],
@@ -53,9 +55,11 @@ pub fn merge_filter_constraints(
     values: &[u64],
     starts: &[u32],
     counts: &[u32],
+    index: &[u64],
     marks: &mut [u8],
 ) -> Rewriting
-    requires { ⌜ (n ≤ stride (now marks)) × (stride (now marks) ≤ 128) × (used ≤ 4096) × (n ≤ length (now nodes)) ⌝ }
+    requires { ⌜ (n ≤ stride (now marks)) × (stride (now marks) ≤ 128) × (used ≤ 4096) × (n ≤ length (now nodes))
+        × Indexed (now starts) (now counts) (now p) (now index) ⌝ }
     requires { ⌜ ((i : ℕ) → i < n → ToldConjunct (conjuncts (now kinds) (now values) (now starts) (now counts) (now p)) i
         (classify (aexprOf (now rs) (now p)) (getD (now nodes) i 0))) ⌝ }
     requires { ⌜ ((i : ℕ) → i < n → ColumnsBelow 64 (classify (aexprOf (now rs) (now p)) (getD (now nodes) i 0))) ⌝ }
@@ -94,6 +98,7 @@ pub fn merge_filter_constraints(
         return with_passes(nothing_passes(rs, used), 0);
     }
     let m = propagate_equalities(
+        index,
         kinds,
         values,
         starts,
@@ -108,6 +113,7 @@ pub fn merge_filter_constraints(
     );
     let k = keep_equalities(&cells, &lefts, &equals, s.edges, &mut kept, s.keeps);
     let r = resolve_all(
+        index,
         kinds,
         values,
         starts,

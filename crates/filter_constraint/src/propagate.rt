@@ -4,6 +4,7 @@ ghost use mathlib.Core.List.{List};
 ghost use Prim.Native.Nat.{ℕ, _<_, _≤_};
 ghost use lib.ListN.{length};
 ghost use Rattle.columns.specs.Abstraction.{conjuncts};
+ghost use Rattle.columns.specs.Index.{Indexed};
 ghost use Rattle.filter_constraint.specs.Words.{columnsOf};
 ghost use Rattle.filter_constraint.specs.State.{ColumnTable, Shows, Fits, EdgesBelow, edgesOf, EdgeMerged, EdgesMerged, Spread};
 use crate::cells::load;
@@ -25,6 +26,7 @@ pub struct Propagated {
 
 /// The right column takes in what the left says, then the left what the right now says.
 pub fn merge_edge(
+    index: &[u64],
     kinds: &[u8],
     values: &[u64],
     starts: &[u32],
@@ -35,7 +37,8 @@ pub fn merge_edge(
     a: Column,
     b: Column,
 ) -> Moved
-    requires { ⌜ Fits (now cells) (now marks) × (a .0 < 64) × (b .0 < 64) ⌝ }
+    requires { ⌜ Fits (now cells) (now marks) × (a .0 < 64) × (b .0 < 64)
+        × Indexed (now starts) (now counts) (now pool) (now index) ⌝ }
     ensures { λ r. ⌜ (let t = conjuncts (now (kinds .entry)) (now (values .entry)) (now (starts .entry))
         (now (counts .entry)) (now (pool .entry)) in (T : ColumnTable) →
         Shows t (columnsOf (now (cells .entry))) (now (marks .entry)) T →
@@ -52,10 +55,34 @@ pub fn merge_edge(
     }
     let c = load(cells, x);
     let d = load(cells, y);
-    let right = merge_rows(kinds, values, starts, counts, pool, marks, y, d, x, c);
+    let right = merge_rows(
+        index,
+        kinds,
+        values,
+        starts,
+        counts,
+        pool,
+        marks,
+        y,
+        d,
+        x,
+        c,
+    );
     let f = right.column;
     store(cells, y, f);
-    let left = merge_rows(kinds, values, starts, counts, pool, marks, x, c, y, f);
+    let left = merge_rows(
+        index,
+        kinds,
+        values,
+        starts,
+        counts,
+        pool,
+        marks,
+        x,
+        c,
+        y,
+        f,
+    );
     let g = left.column;
     store(cells, x, g);
     Moved {
@@ -66,6 +93,7 @@ pub fn merge_edge(
 
 /// One pass over the equalities of the columns `lefts` and `rights`.
 pub fn propagate_pass(
+    index: &[u64],
     kinds: &[u8],
     values: &[u64],
     starts: &[u32],
@@ -77,7 +105,8 @@ pub fn propagate_pass(
     rights: &[u32],
     edges: usize,
 ) -> Moved
-    requires { ⌜ Fits (now cells) (now marks) × (edges ≤ length (now lefts)) × (edges ≤ length (now rights)) ⌝ }
+    requires { ⌜ Fits (now cells) (now marks) × (edges ≤ length (now lefts)) × (edges ≤ length (now rights))
+        × Indexed (now starts) (now counts) (now pool) (now index) ⌝ }
     requires { ⌜ EdgesBelow (now lefts) (now rights) edges ⌝ }
     ensures { λ r. ⌜ (let t = conjuncts (now (kinds .entry)) (now (values .entry)) (now (starts .entry))
         (now (counts .entry)) (now (pool .entry)) in (T : ColumnTable) (equals : List ℕ) →
@@ -91,6 +120,7 @@ pub fn propagate_pass(
     let mut e: usize = 0;
     while e < edges {
         let m = merge_edge(
+            index,
             kinds,
             values,
             starts,
@@ -113,6 +143,7 @@ pub fn propagate_pass(
 
 /// Passes up to and with the first that changes nothing, at most as many as columns; none without equalities.
 pub fn propagate_equalities(
+    index: &[u64],
     kinds: &[u8],
     values: &[u64],
     starts: &[u32],
@@ -125,7 +156,8 @@ pub fn propagate_equalities(
     edges: usize,
     columns: usize,
 ) -> Propagated
-    requires { ⌜ Fits (now cells) (now marks) × (edges ≤ length (now lefts)) × (edges ≤ length (now rights)) ⌝ }
+    requires { ⌜ Fits (now cells) (now marks) × (edges ≤ length (now lefts)) × (edges ≤ length (now rights))
+        × Indexed (now starts) (now counts) (now pool) (now index) ⌝ }
     requires { ⌜ EdgesBelow (now lefts) (now rights) edges ⌝ }
     ensures { λ r. ⌜ (let t = conjuncts (now (kinds .entry)) (now (values .entry)) (now (starts .entry))
         (now (counts .entry)) (now (pool .entry)) in (T : ColumnTable) (equals : List ℕ) →
@@ -139,6 +171,7 @@ pub fn propagate_equalities(
     let mut passes: usize = 0;
     while (passes < columns) & going {
         let m = propagate_pass(
+            index,
             kinds,
             values,
             starts,

@@ -12,6 +12,12 @@ ghost use Rattle.merge.specs.Passes.{rewritePasses};
 ghost use Rattle.merge.specs.Rewrite.{rewriteAnswer, rewriteBytes};
 ghost use Rattle.merge.specs.declared.answer.RewriteAnswer.the-variants as answer;
 ghost use Rattle.rewrite.specs.Walk.{walked, firstOf};
+
+pub mod far;
+pub mod indexed;
+
+use crate::far::travels_far;
+use crate::indexed::merge_indexed;
 use checking::check::CheckAnswer;
 use checking::check::check_counted;
 use filter_constraint::merging::merge_filter_constraints;
@@ -31,7 +37,8 @@ fn refused(number: u32) -> Rewriting
 }
 
 // The merging of the first n nodes, the conjuncts of an accepted screen. Most screens have few: then the tables and rows for
-// 128 need not be cleared.
+// 128 need not be cleared. The index of the lists has a frame of its own, which the compiler keeps apart because two functions
+// call it: a frame so large costs time even where it is not used.
 fn merge_few(
     t: &[u8],
     rs: &mut [u8],
@@ -58,6 +65,7 @@ fn merge_few(
     let mut starts = [0u32; 16];
     let mut counts = [0u32; 16];
     let mut marks = [0u8; 1024];
+    let none = [0u64; 1];
     read_literals(
         rs,
         nodes,
@@ -67,6 +75,22 @@ fn merge_few(
         &mut starts,
         &mut counts,
     );
+    if travels_far(rs, nodes, n, &starts, &counts) {
+        return merge_indexed(
+            t,
+            rs,
+            p,
+            used,
+            trees,
+            nodes,
+            n,
+            &kinds,
+            &values,
+            &starts,
+            &counts,
+            &mut marks,
+        );
+    }
     merge_filter_constraints(
         t,
         rs,
@@ -79,6 +103,7 @@ fn merge_few(
         &values,
         &starts,
         &counts,
+        &none,
         &mut marks,
     )
 }
@@ -109,6 +134,7 @@ fn merge_many(
     let mut starts = [0u32; 128];
     let mut counts = [0u32; 128];
     let mut marks = [0u8; 8192];
+    let none = [0u64; 1];
     read_literals(
         rs,
         nodes,
@@ -118,6 +144,22 @@ fn merge_many(
         &mut starts,
         &mut counts,
     );
+    if travels_far(rs, nodes, n, &starts, &counts) {
+        return merge_indexed(
+            t,
+            rs,
+            p,
+            used,
+            trees,
+            nodes,
+            n,
+            &kinds,
+            &values,
+            &starts,
+            &counts,
+            &mut marks,
+        );
+    }
     merge_filter_constraints(
         t,
         rs,
@@ -130,6 +172,7 @@ fn merge_many(
         &values,
         &starts,
         &counts,
+        &none,
         &mut marks,
     )
 }

@@ -8,6 +8,7 @@ ghost use Rattle.constraints.specs.Comparisons.{collectColumnComparisons};
 ghost use Rattle.constraints.specs.Payload.{payload};
 ghost use Rattle.constraints.specs.Resolve.{resolveDeferred};
 ghost use Rattle.columns.specs.Abstraction.{Conjuncts, conjuncts, numbered, columnOf, Fine};
+ghost use Rattle.columns.specs.Index.{Indexed};
 ghost use Rattle.merge.specs.Emit.{ofColumn};
 ghost use Rattle.merge.specs.Write.{writeComparisons};
 ghost use Rattle.rewrite.specs.Read.{saysIn};
@@ -63,6 +64,7 @@ pub fn add_in_row(
 
 /// All that the column d in row y says, put into the column c in row x.
 pub fn merge_rows(
+    index: &[u64],
     kinds: &[u8],
     values: &[u64],
     starts: &[u32],
@@ -74,7 +76,8 @@ pub fn merge_rows(
     y: usize,
     d: ColumnConstraints,
 ) -> Merged
-    requires { ⌜ (x < 64) × (y < 64) × (stride (now marks) ≤ 128) ⌝ }
+    requires { ⌜ (x < 64) × (y < 64) × (stride (now marks) ≤ 128)
+        × Indexed (now starts) (now counts) (now pool) (now index) ⌝ }
     requires { ⌜ Fine (stride (now marks)) (rowOf (now marks) x) (c .len) ⌝ }
     requires { ⌜ Fine (stride (now marks)) (rowOf (now marks) y) (d .len) ⌝ }
     ensures { λ r. ⌜ (let t = conjuncts (now (kinds .entry)) (now (values .entry)) (now (starts .entry))
@@ -92,6 +95,7 @@ pub fn merge_rows(
     let at = x * size;
     let end = at + size;
     merge_from(
+        index,
         kinds,
         values,
         starts,
@@ -105,6 +109,7 @@ pub fn merge_rows(
 }
 
 pub fn resolve_row(
+    index: &[u64],
     kinds: &[u8],
     values: &[u64],
     starts: &[u32],
@@ -114,7 +119,8 @@ pub fn resolve_row(
     x: usize,
     c: ColumnConstraints,
 ) -> ColumnConstraints
-    requires { ⌜ (x < 64) × (stride (now marks) ≤ 128) × Fine (stride (now marks)) (rowOf (now marks) x) (c .len) ⌝ }
+    requires { ⌜ (x < 64) × (stride (now marks) ≤ 128) × Fine (stride (now marks)) (rowOf (now marks) x) (c .len)
+        × Indexed (now starts) (now counts) (now pool) (now index) ⌝ }
     ensures { λ r. ⌜ (let t = conjuncts (now (kinds .entry)) (now (values .entry)) (now (starts .entry))
         (now (counts .entry)) (now (pool .entry)) in columnOf t (numbered (rowOf (now (marks .exit)) x) r) ≡
         resolveDeferred payload (columnOf t (numbered (rowOf (now (marks .entry)) x) c))) ⌝ }
@@ -124,7 +130,16 @@ pub fn resolve_row(
     let size = marks.len() / 64;
     let at = x * size;
     let end = at + size;
-    resolve_deferred(kinds, values, starts, counts, pool, &mut marks[at..end], c)
+    resolve_deferred(
+        index,
+        kinds,
+        values,
+        starts,
+        counts,
+        pool,
+        &mut marks[at..end],
+        c,
+    )
 }
 
 /// How many comparisons the column c in row x is written out as.

@@ -1,9 +1,3 @@
-use Rattle.columns.proofs.marks.any_allowed.Statement.{statement}
-use Rattle.columns.proofs.marks.any_allowed.Tie as tie
-use Rattle.columns.proofs.marks.any_allowed.Reads as reads
-use Rattle.columns.proofs.marks.any_allowed.Lts as lts
-use Rattle.columns.proofs.marks.any_feasible.Reads as any-feasible-reads
-use Rattle.records.proofs.bytes.byte.Reads as byte-reads
 use mathlib.Core.Path.{_≡_, sym, _∙_, ap}
 use mathlib.Core.Option.{none}
 use Prim.Native.Nat.{ℕ, _≤_, _-_}
@@ -13,41 +7,38 @@ use Rattle.columns.specs.Abstraction.{conjuncts, numbered, allowedBy}
 use Rattle.columns.proofs.Pigeon.{marked-at}
 use Rattle.columns.proofs.Lists.{feasible-first, skip-allowed, none-allowed}
 use borrow.Author.Needs.{needs}
+use Rattle.columns.proofs.marks.any_allowed.Statement.{statement}
+use Rattle.columns.proofs.marks.any_allowed.Tie as tie
 
 abbrev Inv-loop : tie.InvT-loop
-Inv-loop kinds values starts counts pool marks c n i₀ i =
-    (i ≤ n) × (allowedBy kinds starts counts pool marks i ≡ none)
+Inv-loop index kinds values starts counts pool marks c n i₀ i = (i ≤ n) × (allowedBy kinds starts counts pool marks i ≡ none)
 
 abbrev μ-loop : tie.MeasureT-loop
-μ-loop kinds values starts counts pool marks c n i₀ i =
-    n - i
+μ-loop index kinds values starts counts pool marks c n i₀ i = n - i
 
--- src/marks.rt:527:5
 loop-holds : tie.Need-loop-holds Inv-loop μ-loop
 loop-holds c =
     (search needs, none-allowed _ _ _ _ _)
 
--- src/marks.rt:528:13
 byte-requires : tie.Need-byte-requires Inv-loop μ-loop
 byte-requires c κs = search needs
 
--- src/marks.rt:529:24
 cast-byte : tie.Need-cast-byte Inv-loop μ-loop
 cast-byte c = search needs
 
--- src/marks.rt:529:12
 byte-requires-2 : tie.Need-byte-requires-2 Inv-loop μ-loop
 byte-requires-2 c κs = search needs
 
--- src/marks.rt:530:13
 any-feasible-requires : tie.Need-any-feasible-requires Inv-loop μ-loop
-any-feasible-requires c κs = search needs
+any-feasible-requires c κs =
+    let st = c .before .before .before .before .before .before .before .before .before .before .before .before
+    in
+    (st .pre .0, st .pre .1)
 
--- src/marks.rt:530:13
 returns : tie.Need-returns Inv-loop μ-loop
 returns c =
     let st = c .before .before .before .before .before .before .before .before .before .before .before .before
-    in
+    .before in
     let loop = c .before .before .before .before .before .loop in
     let loop-test = c .before .before .before .before .loop-test in
     let byte = c .before .before .before .byte in
@@ -59,18 +50,16 @@ returns c =
     _ (marked-at (st .args .marks .now) (loop .i) (st .args .c .len) _ (loop-test .taken) (sym (byte .ensures)))
     (sym (byte2 .ensures) ∙ if1 .taken)
 
--- src/marks.rt:532:9
 add-i : tie.Need-add-i Inv-loop μ-loop
 add-i c = search needs
 
--- src/marks.rt:527:5
 loop-less : tie.Need-loop-less Inv-loop μ-loop
 loop-less c = search needs
 
--- src/marks.rt:527:5
 loop-again : tie.Need-loop-again Inv-loop μ-loop
 loop-again c =
-    let st = c .before .before .before .before .before .before .before .before .before .before .before in
+    let st = c .before .before .before .before .before .before .before .before .before .before .before .before
+    in
     let loop = c .before .before .before .before .loop in
     let byte = c .before .before .byte in
     let byte2 = c .before .byte2 in
@@ -81,14 +70,14 @@ loop-again c =
           getD (st .args .kinds .now) m 0) (byte .ensures) ∙ e)),
     )
 
--- src/marks.rt:513:1
 returns-2 : tie.Need-returns-2 Inv-loop μ-loop
 returns-2 c =
-    let st = c .before .before .before .before .before .before .before .before in
+    let st = c .before .before .before .before .before .before .before .before .before in
     let loop = c .before .loop in
     let loop-test = c .loop-test in
     let e : loop .i ≡ st .args .c .len = omega (arith, loop .inv .0, loop-test .left) in
-    let h = rw e at (loop .inv .1) in rw h
+    let h = rw e at (loop .inv .1) in
+    rw h
 
 pub any-allowed-spec : {M : Type 1} → statement M
 any-allowed-spec =

@@ -11,12 +11,10 @@ use Rattle.columns.proofs.marks.any_outside.Statement.{statement}
 use Rattle.columns.proofs.marks.any_outside.Tie as tie
 
 abbrev Inv-loop : tie.InvT-loop
-Inv-loop kinds starts counts pool marks n f j s m i₀ i =
-    (i ≤ m) × (anyOf (λ (v : ℕ). outside (allowedBy kinds starts counts pool marks n) (listOf starts counts pool j) v)
-    (valuesFrom pool s i) ≡ false)
+Inv-loop index kinds starts counts pool marks n allowed f j s m i₀ i = (i ≤ m) × (anyOf (λ (v : ℕ). outside (allowedBy kinds starts counts pool marks n) (listOf starts counts pool j) v) (valuesFrom pool s i) ≡ false)
 
 abbrev μ-loop : tie.MeasureT-loop
-μ-loop kinds starts counts pool marks n f j s m i₀ i = m - i
+μ-loop index kinds starts counts pool marks n allowed f j s m i₀ i = m - i
 
 number-at-requires : tie.Need-number-at-requires Inv-loop μ-loop
 number-at-requires c κs = search needs
@@ -31,32 +29,34 @@ cast-m : tie.Need-cast-m Inv-loop μ-loop
 cast-m c = search needs
 
 loop-holds : tie.Need-loop-holds Inv-loop μ-loop
-loop-holds c = (search needs, an-none _ _ _)
+loop-holds c =
+    (search needs, an-none _ _ _)
 
-add-value-at : tie.Need-add-value-at Inv-loop μ-loop
-add-value-at c = search needs
-
-value-at-requires : tie.Need-value-at-requires Inv-loop μ-loop
-value-at-requires c κs = search needs
+add-is-outside : tie.Need-add-is-outside Inv-loop μ-loop
+add-is-outside c = search needs
 
 is-outside-requires : tie.Need-is-outside-requires Inv-loop μ-loop
-is-outside-requires c κs = search needs
+is-outside-requires c κs =
+    let st = c .before .before .before .before .before .before .before .before .before .before .before in
+    ((st .pre .0, search needs), st .pre .1)
 
 returns : tie.Need-returns Inv-loop μ-loop
 returns c =
-    let st = c .before .before .before .before .before .before .before .before .before .before .before .before in
-    an-found (λ (v : ℕ). outside (allowedBy (st .args .kinds .now) (st .args .starts .now) (st .args .counts .now)
-    (st .args .pool .now) (st .args .marks .now) (st .args .n))
-    (listOf (st .args .starts .now) (st .args .counts .now) (st .args .pool .now) (st .args .j)) v) _ _ _ _
-    (c .before .before .before .loop-test .taken)
-    (rw (← c .before .before .value-at .ensures, ← c .before .is-outside .ensures) (c .if1 .taken)) ∙
-    ap (λ (l : List ℕ). anyOf (λ (v : ℕ). outside
-    (allowedBy (st .args .kinds .now) (st .args .starts .now) (st .args .counts .now) (st .args .pool .now)
-    (st .args .marks .now) (st .args .n))
-    (listOf (st .args .starts .now) (st .args .counts .now) (st .args .pool .now) (st .args .j)) v) l)
-    (list-as (st .args .starts .now) (st .args .counts .now) (st .args .pool .now) (st .args .f) _ _
-    (c .before .before .before .before .before .before .number-at .ensures)
-    (c .before .before .before .before .before .number-at2 .ensures))
+    let st = c .before .before .before .before .before .before .before .before .before .before .before .before
+    .before in
+    let number-at = c .before .before .before .before .before .number-at in
+    let number-at2 = c .before .before .before .before .number-at2 in
+    let loop-test = c .before .before .loop-test in
+    let is-outside = c .before .is-outside in
+    let if1 = c .if1 in
+    an-found (λ (v : ℕ). outside (allowedBy (st .args .kinds .now) (st .args .starts .now) (st .args .counts
+    .now) (st .args .pool .now) (st .args .marks .now) (st .args .n)) (listOf (st .args .starts .now) (st .args
+    .counts .now) (st .args .pool .now) (st .args .j)) v) _ _ _ _ (loop-test .taken) (rw (← is-outside .ensures)
+    (if1 .taken)) ∙ ap (λ (l : List ℕ). anyOf (λ (v : ℕ). outside (allowedBy (st .args .kinds .now) (st .args
+    .starts .now) (st .args .counts .now) (st .args .pool .now) (st .args .marks .now) (st .args .n)) (listOf
+    (st .args .starts .now) (st .args .counts .now) (st .args .pool .now) (st .args .j)) v) l) (list-as (st
+    .args .starts .now) (st .args .counts .now) (st .args .pool .now) (st .args .f) _ _ (number-at .ensures)
+    (number-at2 .ensures))
 
 add-i : tie.Need-add-i Inv-loop μ-loop
 add-i c = search needs
@@ -66,29 +66,33 @@ loop-less c = search needs
 
 loop-again : tie.Need-loop-again Inv-loop μ-loop
 loop-again c =
-    let st = c .before .before .before .before .before .before .before .before .before .before .before .before in (
+    let st = c .before .before .before .before .before .before .before .before .before .before .before .before
+    .before in
+    let loop = c .before .before .before .loop in
+    let is-outside = c .before .is-outside in
+    let if1 = c .if1 in (
       search needs,
-      an-more (λ (v : ℕ). outside
-          (allowedBy (st .args .kinds .now) (st .args .starts .now) (st .args .counts .now) (st .args .pool .now)
-          (st .args .marks .now) (st .args .n))
-          (listOf (st .args .starts .now) (st .args .counts .now) (st .args .pool .now) (st .args .j)) v) _ _ _
-          (c .before .before .before .before .loop .inv .1)
-          (rw (← c .before .before .value-at .ensures, ← c .before .is-outside .ensures) (c .if1 .left)),
+      an-more (λ (v : ℕ). outside (allowedBy (st .args .kinds .now) (st .args .starts .now) (st
+          .args .counts .now) (st .args .pool .now) (st .args .marks .now) (st .args .n)) (listOf (st .args .starts
+          .now) (st .args .counts .now) (st .args .pool .now) (st .args .j)) v) _ _ _ (loop .inv .1) (rw (← is-outside
+          .ensures) (if1 .left)),
     )
 
 returns-2 : tie.Need-returns-2 Inv-loop μ-loop
 returns-2 c =
-    let st = c .before .before .before .before .before .before .before .before .before in
-    an-done (λ (v : ℕ). outside (allowedBy (st .args .kinds .now) (st .args .starts .now) (st .args .counts .now)
-    (st .args .pool .now) (st .args .marks .now) (st .args .n))
-    (listOf (st .args .starts .now) (st .args .counts .now) (st .args .pool .now) (st .args .j)) v) _ _ _ _
-    (c .before .loop .inv .0) (c .loop-test .left) (c .before .loop .inv .1) ∙
-    ap (λ (l : List ℕ). anyOf (λ (v : ℕ). outside
-    (allowedBy (st .args .kinds .now) (st .args .starts .now) (st .args .counts .now) (st .args .pool .now)
-    (st .args .marks .now) (st .args .n))
-    (listOf (st .args .starts .now) (st .args .counts .now) (st .args .pool .now) (st .args .j)) v) l)
-    (list-as (st .args .starts .now) (st .args .counts .now) (st .args .pool .now) (st .args .f) _ _
-    (c .before .before .before .number-at .ensures) (c .before .before .number-at2 .ensures))
+    let st = c .before .before .before .before .before .before .before .before .before .before .before in
+    let number-at = c .before .before .before .number-at in
+    let number-at2 = c .before .before .number-at2 in
+    let loop = c .before .loop in
+    let loop-test = c .loop-test in
+    an-done (λ (v : ℕ). outside (allowedBy (st .args .kinds .now) (st .args .starts .now) (st .args .counts
+    .now) (st .args .pool .now) (st .args .marks .now) (st .args .n)) (listOf (st .args .starts .now) (st .args
+    .counts .now) (st .args .pool .now) (st .args .j)) v) _ _ _ _ (loop .inv .0) (loop-test .left) (loop .inv
+    .1) ∙ ap (λ (l : List ℕ). anyOf (λ (v : ℕ). outside (allowedBy (st .args .kinds .now) (st .args .starts
+    .now) (st .args .counts .now) (st .args .pool .now) (st .args .marks .now) (st .args .n)) (listOf (st .args
+    .starts .now) (st .args .counts .now) (st .args .pool .now) (st .args .j)) v) l) (list-as (st .args .starts
+    .now) (st .args .counts .now) (st .args .pool .now) (st .args .f) _ _ (number-at .ensures) (number-at2
+    .ensures))
 
 pub any-outside-spec : {M : Type 1} → statement M
 any-outside-spec =
@@ -101,8 +105,7 @@ any-outside-spec =
     number-at-requires-2
     cast-m
     loop-holds
-    add-value-at
-    value-at-requires
+    add-is-outside
     is-outside-requires
     returns
     add-i

@@ -13,13 +13,15 @@ use Rattle.columns.proofs.marks.disallowed_widens.Statement.{statement}
 use Rattle.columns.proofs.marks.disallowed_widens.Tie as tie
 
 abbrev Inv-loop : tie.InvT-loop
-Inv-loop kinds starts counts pool marks n j s m i₀ i =
-    (i ≤ m) × (anyOf (λ (v : ℕ). not
-    (contains payload (payload .key v) (disallowedBy kinds starts counts pool marks n))) (valuesFrom pool s i) ≡
-    false)
+Inv-loop index kinds starts counts pool marks n j disallowed s m i₀ i = (i ≤ m) × (anyOf (λ (v : ℕ). not (contains payload (payload .key v) (disallowedBy kinds starts counts pool marks n))) (valuesFrom pool s i) ≡ false)
 
 abbrev μ-loop : tie.MeasureT-loop
-μ-loop kinds starts counts pool marks n j s m i₀ i = m - i
+μ-loop index kinds starts counts pool marks n j disallowed s m i₀ i = m - i
+
+kind-set-requires : tie.Need-kind-set-requires Inv-loop μ-loop
+kind-set-requires c κs =
+    let st = c .before .before .before .before .before .before in
+    st .pre .1
 
 number-at-requires : tie.Need-number-at-requires Inv-loop μ-loop
 number-at-requires c κs = search needs
@@ -34,34 +36,42 @@ cast-m : tie.Need-cast-m Inv-loop μ-loop
 cast-m c = search needs
 
 loop-holds : tie.Need-loop-holds Inv-loop μ-loop
-loop-holds c = (search needs, an-none _ _ _)
+loop-holds c =
+    (search needs, an-none _ _ _)
 
-add-value-at : tie.Need-add-value-at Inv-loop μ-loop
-add-value-at c = search needs
+slice-aggregate-disallows-at : tie.Need-slice-aggregate-disallows-at Inv-loop μ-loop
+slice-aggregate-disallows-at c =
+    let kind-set = c .before .before .before .before .before .kind-set in
+    search (needs, kind-set .ensures .size)
 
-value-at-requires : tie.Need-value-at-requires Inv-loop μ-loop
-value-at-requires c κs = search needs
+add-disallows-at : tie.Need-add-disallows-at Inv-loop μ-loop
+add-disallows-at c = search needs
 
-disallows-requires : tie.Need-disallows-requires Inv-loop μ-loop
-disallows-requires c κs = search needs
+disallows-at-requires : tie.Need-disallows-at-requires Inv-loop μ-loop
+disallows-at-requires c κs =
+    let st = c .before .before .before .before .before .before .before .before .before .before .before .before
+    in
+    let kind-set = c .before .before .before .before .before .kind-set in
+    ((st .pre .0, search needs), (st .pre .1, kind-set .ensures))
 
 returns : tie.Need-returns Inv-loop μ-loop
 returns c =
-    let st = c .before .before .before .before .before .before .before .before .before .before .before .before in
-    an-found (λ (v : ℕ). not (contains payload (payload .key v)
-    (disallowedBy (st .args .kinds .now) (st .args .starts .now) (st .args .counts .now) (st .args .pool .now)
-    (st .args .marks .now) (st .args .n)))) _ _ _ _ (c .before .before .before .loop-test .taken)
-    (rw (← c .before .before .value-at .ensures, ← c .before .disallows .ensures) (c .if1 .taken)) ∙
-    ap (λ (l : List ℕ). anyOf (λ (v : ℕ). not
-    (contains payload (payload .key v)
-    (disallowedBy (st .args .kinds .now) (st .args .starts .now) (st .args .counts .now) (st .args .pool .now)
-    (st .args .marks .now) (st .args .n)))) l)
-    (list-as (st .args .starts .now) (st .args .counts .now) (st .args .pool .now) (st .args .j) _ _
-    (c .before .before .before .before .before .before .number-at .ensures)
-    (c .before .before .before .before .before .number-at2 .ensures)) ∙
-    sym (widens-any (listOf (st .args .starts .now) (st .args .counts .now) (st .args .pool .now) (st .args .j))
-    (disallowedBy (st .args .kinds .now) (st .args .starts .now) (st .args .counts .now) (st .args .pool .now)
-    (st .args .marks .now) (st .args .n)))
+    let st = c .before .before .before .before .before .before .before .before .before .before .before .before
+    .before .before in
+    let number-at = c .before .before .before .before .before .before .number-at in
+    let number-at2 = c .before .before .before .before .before .number-at2 in
+    let loop-test = c .before .before .before .loop-test in
+    let disallows-at = c .before .disallows-at in
+    let if1 = c .if1 in
+    an-found (λ (v : ℕ). not (contains payload (payload .key v) (disallowedBy (st .args .kinds .now) (st .args
+    .starts .now) (st .args .counts .now) (st .args .pool .now) (st .args .marks .now) (st .args .n)))) _ _ _ _
+    (loop-test .taken) (rw (← disallows-at .ensures) (if1 .taken)) ∙ ap (λ (l : List ℕ). anyOf (λ (v : ℕ). not
+    (contains payload (payload .key v) (disallowedBy (st .args .kinds .now) (st .args .starts .now) (st .args
+    .counts .now) (st .args .pool .now) (st .args .marks .now) (st .args .n)))) l) (list-as (st .args .starts
+    .now) (st .args .counts .now) (st .args .pool .now) (st .args .j) _ _ (number-at .ensures) (number-at2
+    .ensures)) ∙ sym (widens-any (listOf (st .args .starts .now) (st .args .counts .now) (st .args .pool .now)
+    (st .args .j)) (disallowedBy (st .args .kinds .now) (st .args .starts .now) (st .args .counts .now) (st
+    .args .pool .now) (st .args .marks .now) (st .args .n)))
 
 add-i : tie.Need-add-i Inv-loop μ-loop
 add-i c = search needs
@@ -71,27 +81,30 @@ loop-less c = search needs
 
 loop-again : tie.Need-loop-again Inv-loop μ-loop
 loop-again c =
-    let st = c .before .before .before .before .before .before .before .before .before .before .before .before in (
+    let st = c .before .before .before .before .before .before .before .before .before .before .before .before
+    .before .before in
+    let loop = c .before .before .before .before .loop in
+    let disallows-at = c .before .disallows-at in
+    let if1 = c .if1 in (
       search needs,
-      an-more (λ (v : ℕ). not
-          (contains payload (payload .key v)
-          (disallowedBy (st .args .kinds .now) (st .args .starts .now) (st .args .counts .now) (st .args .pool .now)
-          (st .args .marks .now) (st .args .n)))) _ _ _ (c .before .before .before .before .loop .inv .1)
-          (rw (← c .before .before .value-at .ensures, ← c .before .disallows .ensures) (c .if1 .left)),
+      an-more (λ (v : ℕ). not (contains payload (payload .key v) (disallowedBy (st .args .kinds
+          .now) (st .args .starts .now) (st .args .counts .now) (st .args .pool .now) (st .args .marks .now) (st .args
+          .n)))) _ _ _ (loop .inv .1) (rw (← disallows-at .ensures) (if1 .left)),
     )
 
 returns-2 : tie.Need-returns-2 Inv-loop μ-loop
 returns-2 c =
-    let st = c .before .before .before .before .before .before .before .before .before in
-    an-done (λ (v : ℕ). not (contains payload (payload .key v)
-    (disallowedBy (st .args .kinds .now) (st .args .starts .now) (st .args .counts .now) (st .args .pool .now)
-    (st .args .marks .now) (st .args .n)))) _ _ _ _ (c .before .loop .inv .0) (c .loop-test .left)
-    (c .before .loop .inv .1) ∙ ap (λ (l : List ℕ). anyOf
-    (λ (v : ℕ). not (contains payload (payload .key v)
-    (disallowedBy (st .args .kinds .now) (st .args .starts .now) (st .args .counts .now) (st .args .pool .now)
-    (st .args .marks .now) (st .args .n)))) l)
-    (list-as (st .args .starts .now) (st .args .counts .now) (st .args .pool .now) (st .args .j) _ _
-    (c .before .before .before .number-at .ensures) (c .before .before .number-at2 .ensures)) ∙
+    let st = c .before .before .before .before .before .before .before .before .before .before .before in
+    let number-at = c .before .before .before .number-at in
+    let number-at2 = c .before .before .number-at2 in
+    let loop = c .before .loop in
+    let loop-test = c .loop-test in
+    an-done (λ (v : ℕ). not (contains payload (payload .key v) (disallowedBy (st .args .kinds .now) (st .args
+    .starts .now) (st .args .counts .now) (st .args .pool .now) (st .args .marks .now) (st .args .n)))) _ _ _ _
+    (loop .inv .0) (loop-test .left) (loop .inv .1) ∙ ap (λ (l : List ℕ). anyOf (λ (v : ℕ). not (contains
+    payload (payload .key v) (disallowedBy (st .args .kinds .now) (st .args .starts .now) (st .args .counts
+    .now) (st .args .pool .now) (st .args .marks .now) (st .args .n)))) l) (list-as (st .args .starts .now) (st
+    .args .counts .now) (st .args .pool .now) (st .args .j) _ _ (number-at .ensures) (number-at2 .ensures)) ∙
     sym (widens-any (listOf (st .args .starts .now) (st .args .counts .now) (st .args .pool .now) (st .args .j))
     (disallowedBy (st .args .kinds .now) (st .args .starts .now) (st .args .counts .now) (st .args .pool .now)
     (st .args .marks .now) (st .args .n)))
@@ -102,14 +115,15 @@ disallowed-widens-spec =
     (tie.spec
     Inv-loop
     μ-loop
+    kind-set-requires
     number-at-requires
     cast-s
     number-at-requires-2
     cast-m
     loop-holds
-    add-value-at
-    value-at-requires
-    disallows-requires
+    slice-aggregate-disallows-at
+    add-disallows-at
+    disallows-at-requires
     returns
     add-i
     loop-less

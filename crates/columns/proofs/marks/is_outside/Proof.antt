@@ -3,17 +3,34 @@ use borrow.Author.Needs.{needs}
 use Rattle.columns.proofs.marks.is_outside.Statement.{statement}
 use Rattle.columns.proofs.marks.is_outside.Tie as tie
 
-listed-requires : tie.Need-listed-requires
-listed-requires c κs = search needs
+listed-at-requires : tie.Need-listed-at-requires
+listed-at-requires c κs =
+    let st = c .before .before .before .before .before .before .before in
+    st .pre .0
 
 returns : tie.Need-returns
-returns c = rw (← c .before .listed .ensures, c .if1 .taken, and-false)
+returns c =
+    let listed-at = c .before .listed-at in
+    let if1 = c .if1 in
+    rw (← listed-at .ensures, if1 .taken, and-false)
 
-allows-requires : tie.Need-allows-requires
-allows-requires c κs = search needs
+allows-at-requires : tie.Need-allows-at-requires
+allows-at-requires c κs =
+    let st = c .before .before .before .before .before .before .before .before .before in
+    (st .pre .0, st .pre .1)
 
 returns-2 : tie.Need-returns-2
-returns-2 c = rw (c .allows .ensures, ← c .before .before .listed .ensures, c .before .if1 .left, and-true)
+returns-2 c =
+    let listed-at = c .before .before .listed-at in
+    let if1 = c .before .if1 in
+    let allows-at = c .allows-at in
+    rw (allows-at .ensures, ← listed-at .ensures, if1 .left, and-true)
 
 pub is-outside-spec : {M : Type 1} → statement M
-is-outside-spec = tie.close (tie.spec listed-requires returns allows-requires returns-2)
+is-outside-spec =
+    tie.close
+    (tie.spec
+    listed-at-requires
+    returns
+    allows-at-requires
+    returns-2)

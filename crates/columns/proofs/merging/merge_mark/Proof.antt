@@ -11,74 +11,89 @@ byte-requires c κs = search needs
 
 merge-excluded-requires : tie.Need-merge-excluded-requires
 merge-excluded-requires c κs =
-    let st = c .before .before .before .before .before .before .before .before .before in
-    (st .pre .0, st .pre .1, sym (c .before .before .byte .ensures) ∙ c .before .if1 .taken)
+    let st = c .before .before .before .before .before .before .before .before .before .before in
+    let byte = c .before .before .byte in
+    let if1 = c .before .if1 in
+    (st .pre .0 .0, st .pre .0 .1, sym (byte .ensures) ∙ if1 .taken)
 
 same-length : tie.Need-same-length
 same-length c = search needs
 
 returns : tie.Need-returns
 returns c =
-    let st = c .before .before .before .before .before .before .before .before .before .before .before .before in
-    let tables = conjuncts (st .args .kinds .now) (st .args .values .now) (st .args .starts .now)
-    (st .args .counts .now) (st .args .pool .now) in (
-      c .before .before .merge-excluded .ensures .0 tables refl refl ∙
-          mark-0 tables _ (mergingOf tables (st .args .own .now) (st .args .m))
-          (sym (c .before .before .before .before .before .byte .ensures) ∙ c .before .before .before .before .if1 .taken),
-      c .before .before .merge-excluded .ensures .1,
+    let st = c .before .before .before .before .before .before .before .before .before .before .before .before
+    .before in
+    let byte = c .before .before .before .before .before .byte in
+    let if1 = c .before .before .before .before .if1 in
+    let merge-excluded = c .before .before .merge-excluded in
+    let tables = conjuncts (st .args .kinds .now) (st .args .values .now) (st .args .starts .now) (st .args
+    .counts .now) (st .args .pool .now) in (
+      merge-excluded .ensures .0 tables refl refl ∙ mark-0 tables _ (mergingOf tables (st .args .own .now) (st
+          .args .m)) (sym (byte .ensures) ∙ if1 .taken),
+      merge-excluded .ensures .1,
     )
 
 merge-allowed-requires : tie.Need-merge-allowed-requires
 merge-allowed-requires c κs =
-    let st = c .before .before .before .before .before .before .before .before .before .before in
-    (st .pre .0, st .pre .1, sym (c .before .before .before .byte .ensures) ∙ c .before .if2 .taken)
+    let st = c .before .before .before .before .before .before .before .before .before .before .before in
+    let byte = c .before .before .before .byte in
+    let if2 = c .before .if2 in
+    ((st .pre .0 .0, st .pre .0 .1, sym (byte .ensures) ∙ if2 .taken), st .pre .1)
 
 same-length-2 : tie.Need-same-length-2
 same-length-2 c = search needs
 
 returns-2 : tie.Need-returns-2
 returns-2 c =
-    let st = c .before .before .before .before .before .before .before .before .before .before .before .before .before
-    in
-    let tables = conjuncts (st .args .kinds .now) (st .args .values .now) (st .args .starts .now)
-    (st .args .counts .now) (st .args .pool .now) in (
-      c .before .before .merge-allowed .ensures .0 tables (refl, refl, refl, refl) ∙
-          mark-1 tables _ (mergingOf tables (st .args .own .now) (st .args .m))
-          (sym (c .before .before .before .before .before .before .byte .ensures) ∙
-          c .before .before .before .before .if2 .taken),
-      c .before .before .merge-allowed .ensures .1,
+    let st = c .before .before .before .before .before .before .before .before .before .before .before .before
+    .before .before in
+    let byte = c .before .before .before .before .before .before .byte in
+    let if2 = c .before .before .before .before .if2 in
+    let merge-allowed = c .before .before .merge-allowed in
+    let tables = conjuncts (st .args .kinds .now) (st .args .values .now) (st .args .starts .now) (st .args
+    .counts .now) (st .args .pool .now) in (
+      merge-allowed .ensures .0 tables (refl, refl, refl, refl) ∙ mark-1 tables _ (mergingOf tables (st .args
+          .own .now) (st .args .m)) (sym (byte .ensures) ∙ if2 .taken),
+      merge-allowed .ensures .1,
     )
 
 merge-disallowed-requires : tie.Need-merge-disallowed-requires
 merge-disallowed-requires c κs =
-    let st = c .before .before .before .before .before .before .before .before .before .before .before in
-    (st .pre .0, st .pre .1, sym (c .before .before .before .before .byte .ensures) ∙ c .before .if3 .taken)
+    let st = c .before .before .before .before .before .before .before .before .before .before .before .before
+    in
+    let byte = c .before .before .before .before .byte in
+    let if3 = c .before .if3 in
+    ((st .pre .0 .0, st .pre .0 .1, sym (byte .ensures) ∙ if3 .taken), st .pre .1)
 
 same-length-3 : tie.Need-same-length-3
 same-length-3 c = search needs
 
 returns-3 : tie.Need-returns-3
 returns-3 c =
-    let st = c .before .before .before .before .before .before .before .before .before .before .before .before .before
-    .before in
-    let tables = conjuncts (st .args .kinds .now) (st .args .values .now) (st .args .starts .now)
-    (st .args .counts .now) (st .args .pool .now) in (
-      c .before .before .merge-disallowed .ensures .0 tables (refl, refl, refl, refl) ∙
-          mark-2 tables _ (mergingOf tables (st .args .own .now) (st .args .m))
-          (sym (c .before .before .before .before .before .before .before .byte .ensures) ∙
-          c .before .before .before .before .if3 .taken),
-      c .before .before .merge-disallowed .ensures .1,
+    let st = c .before .before .before .before .before .before .before .before .before .before .before .before
+    .before .before .before in
+    let byte = c .before .before .before .before .before .before .before .byte in
+    let if3 = c .before .before .before .before .if3 in
+    let merge-disallowed = c .before .before .merge-disallowed in
+    let tables = conjuncts (st .args .kinds .now) (st .args .values .now) (st .args .starts .now) (st .args
+    .counts .now) (st .args .pool .now) in (
+      merge-disallowed .ensures .0 tables (refl, refl, refl, refl) ∙ mark-2 tables _ (mergingOf tables (st .args
+          .own .now) (st .args .m)) (sym (byte .ensures) ∙ if3 .taken),
+      merge-disallowed .ensures .1,
     )
 
 returns-4 : tie.Need-returns-4
 returns-4 c =
-    let st = c .before .before .before .before .before .before .before .before .before .before in
-    let tables = conjuncts (st .args .kinds .now) (st .args .values .now) (st .args .starts .now)
-    (st .args .counts .now) (st .args .pool .now) in (
-      mark-else tables _ (mergingOf tables (st .args .own .now) (st .args .m)) _
-          (sym (c .before .before .before .byte .ensures)) (c .before .before .if1 .left) (c .before .if2 .left)
-          (c .if3 .left),
-      st .pre .0,
+    let st = c .before .before .before .before .before .before .before .before .before .before .before in
+    let byte = c .before .before .before .byte in
+    let if1 = c .before .before .if1 in
+    let if2 = c .before .if2 in
+    let if3 = c .if3 in
+    let tables = conjuncts (st .args .kinds .now) (st .args .values .now) (st .args .starts .now) (st .args
+    .counts .now) (st .args .pool .now) in (
+      mark-else tables _ (mergingOf tables (st .args .own .now) (st .args .m)) _ (sym (byte .ensures)) (if1
+          .left) (if2 .left) (if3 .left),
+      st .pre .0 .0,
     )
 
 pub merge-mark-spec : {M : Type 1} → statement M

@@ -11,6 +11,7 @@ use Rattle.columns.specs.Steps.{stepMarks}
 use Rattle.columns.proofs.Numbers.{fine-zero, marked-same}
 use Rattle.columns.proofs.Pigeon.{few}
 use Rattle.columns.proofs.Resolutions.{walk-law}
+use Rattle.columns.proofs.Asked.{low-row}
 use borrow.Author.Needs.{needs}
 use Rattle.columns.proofs.resolve.resolve_deferred.Statement.{statement}
 use Rattle.columns.proofs.resolve.resolve_deferred.Tie as tie
@@ -31,9 +32,9 @@ null-conflict-requires c κs = search needs
 
 copied-requires : tie.Need-copied-requires
 copied-requires c κs =
-    let st = c .before .before .before .before .before .before .before .before .before in
-    let k : st .args .c .len ≤ length (st .args .own .now) = few _ _ _ (st .pre .0) in
-    (k, omega (arith, k, st .pre .1))
+    let st = c .before .before .before .before .before .before .before .before .before .before in
+    let k : st .args .c .len ≤ length (st .args .own .now) = few _ _ _ (st .pre .0 .0) in
+    (k, omega (arith, k, st .pre .0 .1))
 
 begin-walk-requires : tie.Need-begin-walk-requires
 begin-walk-requires c κs = search needs
@@ -42,34 +43,43 @@ slice-aggregate-step-marks : tie.Need-slice-aggregate-step-marks
 slice-aggregate-step-marks c = search needs
 
 step-marks-requires : tie.Need-step-marks-requires
-step-marks-requires c κs = (
-  fine-zero _ _ _ (c .before .before .begin-walk .ensures .1),
-  fine-same _ _ _ _ (c .before .before .before .copied .ensures) (c .before .before .before .before .before .before .before .before .before .before .before .before .before .pre .0),
-)
+step-marks-requires c κs =
+    let st = c .before .before .before .before .before .before .before .before .before .before .before .before
+    .before .before in
+    let copied = c .before .before .before .copied in
+    let begin-walk = c .before .before .begin-walk in
+    (fine-zero _ _ _ (begin-walk .ensures .1), fine-same _ _ _ _ (copied .ensures) (st .pre .0 .0))
 
 with-lists-requires : tie.Need-with-lists-requires
-with-lists-requires c κs = search needs
+with-lists-requires c κs =
+    let st = c .before .before .before .before .before .before .before .before .before .before .before .before
+    .before .before .before .before .before .before .before .before in
+    let step-marks = c .before .before .before .before .before .step-marks in
+    (st .pre .1, low-row _ _ _ (step-marks .ensures .1) (st .pre .0 .1))
 
 same-length : tie.Need-same-length
 same-length c = search needs
 
 returns : tie.Need-returns
 returns c =
-    let st = c .before .before .before .before .before .before .before .before .before .before .before .before .before .before .before .before .before .before .before .before in
-    let walked = c .before .before .before .before .before .before .step-marks in
-    let tables = conjuncts (st .args .kinds .now) (st .args .values .now) (st .args .starts .now)
-    (st .args .counts .now) (st .args .pool .now) in (
-      c .with-lists .ensures .0 ∙ ap (λ (x : q.ColumnConstraints ℕ). z.withLists payload x)
-          (walk-law tables (numbered (st .args .own .now) (st .args .c))
-          (columnOf tables (numbered (walked .last .1 .1 .0) (walked .result)))
-          (c .before .before .before .before .before .before .before .before .before .before .before .before .null-conflict .result)
-          (walked .ensures .0 tables refl refl ∙
-          steps-same tables (c .before .before .before .before .before .before .before .before .before .before .copied .result) (st .args .own .now) (st .args .c .len)
-          (columnOf tables (numbered (st .args .own .now) (c .before .before .before .before .before .before .before .before .before .begin-walk .result))) (c .before .before .before .before .before .before .before .before .before .before .copied .ensures) ∙
-          ap (λ (x : q.ColumnConstraints ℕ). stepMarks tables (st .args .own .now) (st .args .c .len) x)
-          (c .before .before .before .before .before .before .before .before .before .begin-walk .ensures .0 tables (st .args .own .now)))
-          (c .before .before .before .before .before .before .before .before .before .before .before .before .null-conflict .ensures tables refl)),
-      rw (c .with-lists .ensures .1) (walked .ensures .1),
+    let st = c .before .before .before .before .before .before .before .before .before .before .before .before
+    .before .before .before .before .before .before .before .before .before in
+    let null-conflict = c .before .before .before .before .before .before .before .before .before .before
+    .before .before .null-conflict in
+    let copied = c .before .before .before .before .before .before .before .before .before .before .copied in
+    let begin-walk = c .before .before .before .before .before .before .before .before .before .begin-walk in
+    let step-marks = c .before .before .before .before .before .before .step-marks in
+    let with-lists = c .with-lists in
+    let tables = conjuncts (st .args .kinds .now) (st .args .values .now) (st .args .starts .now) (st .args
+    .counts .now) (st .args .pool .now) in (
+      with-lists .ensures .0 ∙ ap (λ (x : q.ColumnConstraints ℕ). z.withLists payload x) (walk-law tables
+          (numbered (st .args .own .now) (st .args .c)) (columnOf tables (numbered (step-marks .last .1 .1 .0)
+          (step-marks .result))) (null-conflict .result) (step-marks .ensures .0 tables refl refl ∙ steps-same tables
+          (copied .result) (st .args .own .now) (st .args .c .len) (columnOf tables (numbered (st .args .own .now)
+          (begin-walk .result))) (copied .ensures) ∙ ap (λ (x : q.ColumnConstraints ℕ). stepMarks tables (st .args
+          .own .now) (st .args .c .len) x) (begin-walk .ensures .0 tables (st .args .own .now))) (null-conflict
+          .ensures tables refl)),
+      rw (with-lists .ensures .1) (step-marks .ensures .1),
     )
 
 pub resolve-deferred-spec : {M : Type 1} → statement M

@@ -26,68 +26,70 @@ use Rattle.rewrite.specs.Walk.{firstOf}
 use Rattle.filter_constraint.specs.Words.{columnsOf}
 use Rattle.filter_constraint.specs.State.{shown}
 use Rattle.filter_constraint.proofs.Encoding.{columns-empty}
-use Rattle.filter_constraint.proofs.Concluding.{outcomeTo, passesTo, answered-as, answered-with, passes-stopped, passes-is, passes-are, conclude-stopped, outcome-is, total-is, conclude-dead, conclude-same}
+use Rattle.filter_constraint.proofs.Concluding.{outcomeTo, passesTo, answered-as, answered-with, passes-stopped}
+use Rattle.filter_constraint.proofs.Concluding.{passes-is, passes-are}
+use Rattle.filter_constraint.proofs.Concluding.{conclude-stopped, outcome-is, total-is, conclude-dead, conclude-same}
 use Rattle.filter_constraint.proofs.Concluding.{conclude-rebuilt, chain-refused, chain-room, chain-answered, compared-some, room-asked, ands-asked}
 
--- src/merging.rt:85:9
+-- src/merging.rt:89:9
 slice-aggregate-collect : tie.Need-slice-aggregate-collect
 slice-aggregate-collect c = search needs
 
--- src/merging.rt:87:9
+-- src/merging.rt:91:9
 slice-aggregate-collect-2 : tie.Need-slice-aggregate-collect-2
 slice-aggregate-collect-2 c = search needs
 
--- src/merging.rt:88:9
+-- src/merging.rt:92:9
 slice-aggregate-collect-3 : tie.Need-slice-aggregate-collect-3
 slice-aggregate-collect-3 c = search needs
 
--- src/merging.rt:89:9
+-- src/merging.rt:93:9
 slice-aggregate-collect-4 : tie.Need-slice-aggregate-collect-4
 slice-aggregate-collect-4 c = search needs
 
--- src/merging.rt:90:9
+-- src/merging.rt:94:9
 slice-aggregate-collect-5 : tie.Need-slice-aggregate-collect-5
 slice-aggregate-collect-5 c = search needs
 
--- src/merging.rt:91:9
+-- src/merging.rt:95:9
 slice-aggregate-collect-6 : tie.Need-slice-aggregate-collect-6
 slice-aggregate-collect-6 c = search needs
 
--- src/merging.rt:76:9
+-- src/merging.rt:80:9
 collect-requires : tie.Need-collect-requires
 collect-requires c κs =
     let st = c .before .before .before .before .before .before .before .before .before .before .before .before
-        .before .before .before .before .before .before in
+        .before .before .before .before .before .before .before in
     ((st .pre .0 .0, st .pre .0 .1, st .pre .0 .3, length-replicate {A = ℕ} 512 0, columns-empty,
     length-replicate {A = ℕ} 260 0, length-replicate {A = ℕ} 260 0, length-replicate {A = ℕ} 130 0,
     length-replicate {A = ℕ} 130 0, length-replicate {A = ℕ} 130 0), (st .pre .1 .0, st .pre .1 .1))
 
--- src/merging.rt:94:28
+-- src/merging.rt:98:28
 nothing-passes-requires : tie.Need-nothing-passes-requires
 nothing-passes-requires c κs =
     let st = c .before .before .before .before .before .before .before .before .before .before .before .before
         .before .before .before .before .before .before .before .before .before .before .before .before .before
-        .before .before .before .before in
+        .before .before .before .before .before in
     st .pre .0 .2
 
--- src/merging.rt:94:9
+-- src/merging.rt:98:9
 with-passes-requires : tie.Need-with-passes-requires
 with-passes-requires c κs = search needs
 
--- src/merging.rt:94:9
+-- src/merging.rt:98:9
 same-length : tie.Need-same-length
 same-length c = search needs
 
--- src/merging.rt:94:9
+-- src/merging.rt:98:9
 same-length-2 : tie.Need-same-length-2
 same-length-2 c = search needs
 
--- src/merging.rt:94:9
+-- src/merging.rt:98:9
 returns : tie.Need-returns
 returns c =
     let st = c .before .before .before .before .before .before .before .before .before .before .before .before
         .before .before .before .before .before .before .before .before .before .before .before .before .before
-        .before .before .before .before .before .before .before .before in
+        .before .before .before .before .before .before .before .before .before in
     let collect = c .before .before .before .before .before .before .before .before .before .before .before
         .before .before .before .collect in
     let if1 = c .before .before .before .before .before .if1 in
@@ -102,24 +104,24 @@ returns c =
     .ensures .0 (st .args .trees .now), nothing-passes .ensures .1 (st .args .t .now))) (passes-stopped _ _ _ _
     (collect .ensures .0 .1 .stops) (if1 .taken))
 
--- src/merging.rt:102:9
+-- src/merging.rt:107:9
 slice-aggregate-propagate-equalities : tie.Need-slice-aggregate-propagate-equalities
 slice-aggregate-propagate-equalities c = search needs
 
--- src/merging.rt:104:9
+-- src/merging.rt:109:9
 slice-aggregate-propagate-equalities-2 : tie.Need-slice-aggregate-propagate-equalities-2
 slice-aggregate-propagate-equalities-2 c = search needs
 
--- src/merging.rt:105:9
+-- src/merging.rt:110:9
 slice-aggregate-propagate-equalities-3 : tie.Need-slice-aggregate-propagate-equalities-3
 slice-aggregate-propagate-equalities-3 c = search needs
 
--- src/merging.rt:96:9
+-- src/merging.rt:100:9
 propagate-equalities-requires : tie.Need-propagate-equalities-requires
 propagate-equalities-requires c κs =
     let st = c .before .before .before .before .before .before .before .before .before .before .before .before
         .before .before .before .before .before .before .before .before .before .before .before .before .before
-        .before .before .before .before .before .before .before in
+        .before .before .before .before .before .before .before .before in
     let collect = c .before .before .before .before .before .before .before .before .before .before .before
         .before .before .collect in
     let zl = collect .ensures .0 .1 .linked .left-size in
@@ -127,32 +129,32 @@ propagate-equalities-requires c κs =
     ((record { size = collect .ensures .1 .3; narrow = omega (arith, collect .ensures .1 .4, st .pre .0 .1);
     fine = collect .ensures .0 .1 .shows .fine }, omega (arith, zl, collect .ensures .1 .0, collect .ensures .1
     .1, collect .ensures .1 .2, st .pre .0 .0, st .pre .0 .1), omega (arith, zr, collect .ensures .1 .0, collect
-    .ensures .1 .1, collect .ensures .1 .2, st .pre .0 .0, st .pre .0 .1)), λ e h. (collect .ensures .0 .1
-    .linked .low-left e h, collect .ensures .0 .1 .linked .low-right e h))
+    .ensures .1 .1, collect .ensures .1 .2, st .pre .0 .0, st .pre .0 .1), st .pre .0 .4), λ e h. (collect
+    .ensures .0 .1 .linked .low-left e h, collect .ensures .0 .1 .linked .low-right e h))
 
--- src/merging.rt:109:29
+-- src/merging.rt:114:29
 slice-aggregate-keep-equalities : tie.Need-slice-aggregate-keep-equalities
 slice-aggregate-keep-equalities c = search needs
 
--- src/merging.rt:109:37
+-- src/merging.rt:114:37
 slice-aggregate-keep-equalities-2 : tie.Need-slice-aggregate-keep-equalities-2
 slice-aggregate-keep-equalities-2 c = search needs
 
--- src/merging.rt:109:45
+-- src/merging.rt:114:45
 slice-aggregate-keep-equalities-3 : tie.Need-slice-aggregate-keep-equalities-3
 slice-aggregate-keep-equalities-3 c = search needs
 
--- src/merging.rt:109:63
+-- src/merging.rt:114:63
 slice-aggregate-keep-equalities-4 : tie.Need-slice-aggregate-keep-equalities-4
 slice-aggregate-keep-equalities-4 c = search needs
 
--- src/merging.rt:109:9
+-- src/merging.rt:114:9
 keep-equalities-requires : tie.Need-keep-equalities-requires
 keep-equalities-requires c κs =
     let st = c .before .before .before .before .before .before .before .before .before .before .before .before
         .before .before .before .before .before .before .before .before .before .before .before .before .before
         .before .before .before .before .before .before .before .before .before .before .before .before .before
-        .before .before in
+        .before .before .before in
     let collect = c .before .before .before .before .before .before .before .before .before .before .before
         .before .before .before .before .before .before .before .before .before .before .collect in
     let propagate-equalities = c .before .before .before .before .before .before .before .propagate-equalities
@@ -165,21 +167,21 @@ keep-equalities-requires c κs =
     collect .ensures .1 .1, collect .ensures .1 .2, st .pre .0 .0, st .pre .0 .1), collect .ensures .0 .1
     .keeping .size), λ e h. collect .ensures .0 .1 .linked .low-left e h)
 
--- src/merging.rt:116:9
+-- src/merging.rt:122:9
 slice-aggregate-resolve-all : tie.Need-slice-aggregate-resolve-all
 slice-aggregate-resolve-all c = search needs
 
--- src/merging.rt:118:9
+-- src/merging.rt:124:9
 slice-aggregate-resolve-all-2 : tie.Need-slice-aggregate-resolve-all-2
 slice-aggregate-resolve-all-2 c = search needs
 
--- src/merging.rt:110:9
+-- src/merging.rt:115:9
 resolve-all-requires : tie.Need-resolve-all-requires
 resolve-all-requires c κs =
     let st = c .before .before .before .before .before .before .before .before .before .before .before .before
         .before .before .before .before .before .before .before .before .before .before .before .before .before
         .before .before .before .before .before .before .before .before .before .before .before .before .before
-        .before .before .before .before .before .before .before in
+        .before .before .before .before .before .before .before .before in
     let collect = c .before .before .before .before .before .before .before .before .before .before .before
         .before .before .before .before .before .before .before .before .before .before .before .before .before
         .before .before .collect in
@@ -188,28 +190,28 @@ resolve-all-requires c κs =
     let zo = collect .ensures .0 .1 .entered .order-size in
     ((propagate-equalities .ensures .1, omega (arith, zo, collect .ensures .1 .0, collect .ensures .1 .1,
     collect .ensures .1 .2, st .pre .0 .0, st .pre .0 .1), omega (arith, collect .ensures .1 .0, collect
-    .ensures .1 .1, collect .ensures .1 .2, st .pre .0 .0, st .pre .0 .1)), λ o h. (collect .ensures .0 .1
-    .entered .low o h, collect .ensures .0 .1 .entered .distinct o h))
+    .ensures .1 .1, collect .ensures .1 .2, st .pre .0 .0, st .pre .0 .1), st .pre .0 .4), λ o h. (collect
+    .ensures .0 .1 .entered .low o h, collect .ensures .0 .1 .entered .distinct o h))
 
--- src/merging.rt:122:28
+-- src/merging.rt:128:28
 nothing-passes-requires-2 : tie.Need-nothing-passes-requires-2
 nothing-passes-requires-2 c κs =
     let st = c .before .before .before .before .before .before .before .before .before .before .before .before
         .before .before .before .before .before .before .before .before .before .before .before .before .before
         .before .before .before .before .before .before .before .before .before .before .before .before .before
         .before .before .before .before .before .before .before .before .before .before .before .before .before
-        in
+        .before in
     st .pre .0 .2
 
--- src/merging.rt:122:9
+-- src/merging.rt:128:9
 with-passes-requires-2 : tie.Need-with-passes-requires-2
 with-passes-requires-2 c κs = search needs
 
--- src/merging.rt:122:9
+-- src/merging.rt:128:9
 same-length-3 : tie.Need-same-length-3
 same-length-3 c = search needs
 
--- src/merging.rt:122:9
+-- src/merging.rt:128:9
 same-length-4 : tie.Need-same-length-4
 same-length-4 c =
     let marks = c .before .before .before .before .before .before .before .before .before .before .before
@@ -220,14 +222,14 @@ same-length-4 c =
     let marks3 = c .before .before .before .before .before .before .before .marks3 in
     marks3 .given ∙ marks2 .given ∙ marks .given
 
--- src/merging.rt:122:9
+-- src/merging.rt:128:9
 returns-2 : tie.Need-returns-2
 returns-2 c =
     let st = c .before .before .before .before .before .before .before .before .before .before .before .before
         .before .before .before .before .before .before .before .before .before .before .before .before .before
         .before .before .before .before .before .before .before .before .before .before .before .before .before
         .before .before .before .before .before .before .before .before .before .before .before .before .before
-        .before .before .before .before in
+        .before .before .before .before .before in
     let collect = c .before .before .before .before .before .before .before .before .before .before .before
         .before .before .before .before .before .before .before .before .before .before .before .before .before
         .before .before .before .before .before .before .before .before .before .before .before .before .collect
@@ -256,15 +258,15 @@ returns-2 c =
     .0 .1) (if1 .left) _ _ (propagate-equalities .ensures .0) _ (keep-equalities .ensures .0) _ _ (resolve-all
     .ensures .0) ∙ passes-is _ _ _)
 
--- src/merging.rt:125:9
+-- src/merging.rt:131:9
 with-passes-requires-3 : tie.Need-with-passes-requires-3
 with-passes-requires-3 c κs = search needs
 
--- src/merging.rt:125:9
+-- src/merging.rt:131:9
 same-length-5 : tie.Need-same-length-5
 same-length-5 c = search needs
 
--- src/merging.rt:125:9
+-- src/merging.rt:131:9
 same-length-6 : tie.Need-same-length-6
 same-length-6 c =
     let marks = c .before .before .before .before .before .before .before .before .before .before .before
@@ -276,14 +278,14 @@ same-length-6 c =
     let marks3 = c .before .before .before .before .before .before .before .before .before .marks3 in
     marks3 .given ∙ marks2 .given ∙ marks .given
 
--- src/merging.rt:125:9
+-- src/merging.rt:131:9
 returns-3 : tie.Need-returns-3
 returns-3 c =
     let st = c .before .before .before .before .before .before .before .before .before .before .before .before
         .before .before .before .before .before .before .before .before .before .before .before .before .before
         .before .before .before .before .before .before .before .before .before .before .before .before .before
         .before .before .before .before .before .before .before .before .before .before .before .before .before
-        .before .before .before .before .before .before in
+        .before .before .before .before .before .before .before in
     let collect = c .before .before .before .before .before .before .before .before .before .before .before
         .before .before .before .before .before .before .before .before .before .before .before .before .before
         .before .before .before .before .before .before .before .before .before .before .before .before .before
@@ -312,18 +314,18 @@ returns-3 c =
     _ _ _ _ _ _ _ (collect .ensures .0 .1) (if1 .left) _ _ (propagate-equalities .ensures .0) _ (keep-equalities
     .ensures .0) _ _ (resolve-all .ensures .0) ∙ passes-is _ _ _)
 
--- src/merging.rt:127:50
+-- src/merging.rt:133:50
 slice-aggregate-rebuilt-answer : tie.Need-slice-aggregate-rebuilt-answer
 slice-aggregate-rebuilt-answer c = search needs
 
--- src/merging.rt:127:9
+-- src/merging.rt:133:9
 rebuilt-answer-requires : tie.Need-rebuilt-answer-requires
 rebuilt-answer-requires c κs =
     let st = c .before .before .before .before .before .before .before .before .before .before .before .before
         .before .before .before .before .before .before .before .before .before .before .before .before .before
         .before .before .before .before .before .before .before .before .before .before .before .before .before
         .before .before .before .before .before .before .before .before .before .before .before .before .before
-        .before .before .before .before .before .before in
+        .before .before .before .before .before .before .before in
     let collect = c .before .before .before .before .before .before .before .before .before .before .before
         .before .before .before .before .before .before .before .before .before .before .before .before .before
         .before .before .before .before .before .before .before .before .before .before .before .before .before
@@ -353,19 +355,19 @@ rebuilt-answer-requires c κs =
     _ _ _ _ _ _ _ (collect .ensures .0 .1) (if1 .left) _ _ (propagate-equalities .ensures .0) _ (keep-equalities
     .ensures .0) _ _ (resolve-all .ensures .0)))
 
--- src/merging.rt:128:9
+-- src/merging.rt:134:9
 is-rewritten-requires : tie.Need-is-rewritten-requires
 is-rewritten-requires c κs = search needs
 
--- src/merging.rt:129:9
+-- src/merging.rt:135:9
 with-passes-requires-4 : tie.Need-with-passes-requires-4
 with-passes-requires-4 c κs = search needs
 
--- src/merging.rt:129:9
+-- src/merging.rt:135:9
 same-length-7 : tie.Need-same-length-7
 same-length-7 c = search needs
 
--- src/merging.rt:129:9
+-- src/merging.rt:135:9
 same-length-8 : tie.Need-same-length-8
 same-length-8 c =
     let marks = c .before .before .before .before .before .before .before .before .before .before .before
@@ -379,14 +381,14 @@ same-length-8 c =
         .before .before .marks3 in
     marks3 .given ∙ marks2 .given ∙ marks .given
 
--- src/merging.rt:129:9
+-- src/merging.rt:135:9
 returns-4 : tie.Need-returns-4
 returns-4 c =
     let st = c .before .before .before .before .before .before .before .before .before .before .before .before
         .before .before .before .before .before .before .before .before .before .before .before .before .before
         .before .before .before .before .before .before .before .before .before .before .before .before .before
         .before .before .before .before .before .before .before .before .before .before .before .before .before
-        .before .before .before .before .before .before .before .before .before .before in
+        .before .before .before .before .before .before .before .before .before .before .before in
     let collect = c .before .before .before .before .before .before .before .before .before .before .before
         .before .before .before .before .before .before .before .before .before .before .before .before .before
         .before .before .before .before .before .before .before .before .before .before .before .before .before
@@ -418,18 +420,18 @@ returns-4 c =
     (st .args .trees .now) (st .args .used) _ _ _ (comparisons payload (firstOf (collect .last .1 .1 .1 .1 .1 .1
     .1 .1 .1 .1 .0) (collect .result .columns)) (shown (conjuncts (st .args .kinds .now) (st .args .values .now)
     (st .args .starts .now) (st .args .counts .now) (st .args .p .now)) (columnsOf (resolve-all .last .1 .1 .1
-    .1 .1 .0)) (resolve-all .last .1 .1 .1 .1 .1 .1 .0))) _ (rebuilt-answer .ensures) (total-is _ _ _ _ _ _ _ _
-    _ _ _ _ _ _ _ _ _ _ _ _ _ _ (collect .ensures .0 .1) (if1 .left) _ _ (propagate-equalities .ensures .0) _
-    (keep-equalities .ensures .0) _ _ (resolve-all .ensures .0)) _ (is-rewritten .ensures) (if4 .taken)))
+    .1 .1 .1 .0)) (resolve-all .last .1 .1 .1 .1 .1 .1 .1 .0))) _ (rebuilt-answer .ensures) (total-is _ _ _ _ _
+    _ _ _ _ _ _ _ _ _ _ _ _ _ _ _ _ _ (collect .ensures .0 .1) (if1 .left) _ _ (propagate-equalities .ensures
+    .0) _ (keep-equalities .ensures .0) _ _ (resolve-all .ensures .0)) _ (is-rewritten .ensures) (if4 .taken)))
     (passes-are _ _ _ _ _ _ _ _ _ _ _ _ _ _ _ _ _ _ _ _ _ _ (collect .ensures .0 .1) (if1 .left) _ _
     (propagate-equalities .ensures .0) _ (keep-equalities .ensures .0) _ _ (resolve-all .ensures .0) ∙ passes-is
     _ _ _)
 
--- src/merging.rt:131:59
+-- src/merging.rt:137:59
 slice-aggregate-write-comparisons : tie.Need-slice-aggregate-write-comparisons
 slice-aggregate-write-comparisons c = search needs
 
--- src/merging.rt:131:74
+-- src/merging.rt:137:74
 slice-aggregate-write-comparisons-2 : tie.Need-slice-aggregate-write-comparisons-2
 slice-aggregate-write-comparisons-2 c =
     let collect = c .before .before .before .before .before .before .before .before .before .before .before
@@ -438,7 +440,7 @@ slice-aggregate-write-comparisons-2 c =
         .before .before .before .before .before .before .before .before .collect in
     search (needs, collect .ensures .0 .1 .entered .order-size)
 
--- src/merging.rt:131:9
+-- src/merging.rt:137:9
 write-comparisons-requires : tie.Need-write-comparisons-requires
 write-comparisons-requires c κs =
     let st = c .before .before .before .before .before .before .before .before .before .before .before .before
@@ -446,7 +448,7 @@ write-comparisons-requires c κs =
         .before .before .before .before .before .before .before .before .before .before .before .before .before
         .before .before .before .before .before .before .before .before .before .before .before .before .before
         .before .before .before .before .before .before .before .before .before .before .before .before .before
-        in
+        .before in
     let collect = c .before .before .before .before .before .before .before .before .before .before .before
         .before .before .before .before .before .before .before .before .before .before .before .before .before
         .before .before .before .before .before .before .before .before .before .before .before .before .before
@@ -473,24 +475,24 @@ write-comparisons-requires c κs =
     .ensures .1 .2, st .pre .0 .0, st .pre .0 .1), omega (arith, collect .ensures .1 .0, collect .ensures .1 .1,
     collect .ensures .1 .2, st .pre .0 .0, st .pre .0 .1)), ((λ o h. collect .ensures .0 .1 .entered .low o h),
     λ s ek ev. room-asked (conjuncts (st .args .kinds .now) (st .args .values .now) (st .args .starts .now) (st
-    .args .counts .now) (st .args .p .now)) s (columnsOf (resolve-all .last .1 .1 .1 .1 .1 .0)) (resolve-all
-    .last .1 .1 .1 .1 .1 .1 .0) (collect .last .1 .1 .1 .1 .1 .1 .1 .1 .1 .1 .0) _ _ _ _ _ (total-is _ _ _ _ _ _
-    _ _ _ _ _ _ _ _ _ _ _ _ _ _ _ _ (collect .ensures .0 .1) (if1 .left) _ _ (propagate-equalities .ensures .0)
-    _ (keep-equalities .ensures .0) _ _ (resolve-all .ensures .0)) (chain-room (st .args .t .now) (st .args .rs
-    .now) (st .args .trees .now) (st .args .used) _ _ _ (comparisons payload (firstOf (collect .last .1 .1 .1 .1
-    .1 .1 .1 .1 .1 .1 .0) (collect .result .columns)) (shown (conjuncts (st .args .kinds .now) (st .args .values
-    .now) (st .args .starts .now) (st .args .counts .now) (st .args .p .now)) (columnsOf (resolve-all .last .1
-    .1 .1 .1 .1 .0)) (resolve-all .last .1 .1 .1 .1 .1 .1 .0))) _ (rebuilt-answer .ensures) (total-is _ _ _ _ _
-    _ _ _ _ _ _ _ _ _ _ _ _ _ _ _ _ _ (collect .ensures .0 .1) (if1 .left) _ _ (propagate-equalities .ensures
-    .0) _ (keep-equalities .ensures .0) _ _ (resolve-all .ensures .0)) _ (is-rewritten .ensures) (if4 .left)
-    (compared-some (aexprOf (st .args .rs .now) (st .args .p .now)) (st .args .nodes .now) (st .args .n) _ _ _
-    (outcome-is _ _ _ ∙ conclude-rebuilt _ _ _ _ _ _ _ _ _ _ _ _ _ _ _ _ _ _ _ _ _ _ (collect .ensures .0 .1)
-    (if1 .left) _ _ (propagate-equalities .ensures .0) _ (keep-equalities .ensures .0) _ _ (resolve-all .ensures
-    .0) (if2 .left) (if3 .left)) (total-is _ _ _ _ _ _ _ _ _ _ _ _ _ _ _ _ _ _ _ _ _ _ (collect .ensures .0 .1)
-    (if1 .left) _ _ (propagate-equalities .ensures .0) _ (keep-equalities .ensures .0) _ _ (resolve-all .ensures
-    .0)))) ek ev))
+    .args .counts .now) (st .args .p .now)) s (columnsOf (resolve-all .last .1 .1 .1 .1 .1 .1 .0)) (resolve-all
+    .last .1 .1 .1 .1 .1 .1 .1 .0) (collect .last .1 .1 .1 .1 .1 .1 .1 .1 .1 .1 .0) _ _ _ _ _ (total-is _ _ _ _
+    _ _ _ _ _ _ _ _ _ _ _ _ _ _ _ _ _ _ (collect .ensures .0 .1) (if1 .left) _ _ (propagate-equalities .ensures
+    .0) _ (keep-equalities .ensures .0) _ _ (resolve-all .ensures .0)) (chain-room (st .args .t .now) (st .args
+    .rs .now) (st .args .trees .now) (st .args .used) _ _ _ (comparisons payload (firstOf (collect .last .1 .1
+    .1 .1 .1 .1 .1 .1 .1 .1 .0) (collect .result .columns)) (shown (conjuncts (st .args .kinds .now) (st .args
+    .values .now) (st .args .starts .now) (st .args .counts .now) (st .args .p .now)) (columnsOf (resolve-all
+    .last .1 .1 .1 .1 .1 .1 .0)) (resolve-all .last .1 .1 .1 .1 .1 .1 .1 .0))) _ (rebuilt-answer .ensures)
+    (total-is _ _ _ _ _ _ _ _ _ _ _ _ _ _ _ _ _ _ _ _ _ _ (collect .ensures .0 .1) (if1 .left) _ _
+    (propagate-equalities .ensures .0) _ (keep-equalities .ensures .0) _ _ (resolve-all .ensures .0)) _
+    (is-rewritten .ensures) (if4 .left) (compared-some (aexprOf (st .args .rs .now) (st .args .p .now)) (st
+    .args .nodes .now) (st .args .n) _ _ _ (outcome-is _ _ _ ∙ conclude-rebuilt _ _ _ _ _ _ _ _ _ _ _ _ _ _ _ _
+    _ _ _ _ _ _ (collect .ensures .0 .1) (if1 .left) _ _ (propagate-equalities .ensures .0) _ (keep-equalities
+    .ensures .0) _ _ (resolve-all .ensures .0) (if2 .left) (if3 .left)) (total-is _ _ _ _ _ _ _ _ _ _ _ _ _ _ _
+    _ _ _ _ _ _ _ (collect .ensures .0 .1) (if1 .left) _ _ (propagate-equalities .ensures .0) _ (keep-equalities
+    .ensures .0) _ _ (resolve-all .ensures .0)))) ek ev))
 
--- src/merging.rt:132:20
+-- src/merging.rt:138:20
 slice-aggregate-write-ands : tie.Need-slice-aggregate-write-ands
 slice-aggregate-write-ands c =
     let collect = c .before .before .before .before .before .before .before .before .before .before .before
@@ -508,7 +510,7 @@ slice-aggregate-write-ands c =
     search (needs, keep-equalities .ensures .0 _ _ _ _ [] (propagate-equalities .ensures .0 _ [] (collect
     .ensures .0 .1 .shows) .shows) (collect .ensures .0 .1 .keeping) .keeping .size)
 
--- src/merging.rt:132:42
+-- src/merging.rt:138:42
 add-write-ands : tie.Need-add-write-ands
 add-write-ands c =
     let st = c .before .before .before .before .before .before .before .before .before .before .before .before
@@ -516,7 +518,7 @@ add-write-ands c =
         .before .before .before .before .before .before .before .before .before .before .before .before .before
         .before .before .before .before .before .before .before .before .before .before .before .before .before
         .before .before .before .before .before .before .before .before .before .before .before .before .before
-        .before .before .before .before .before .before .before in
+        .before .before .before .before .before .before .before .before in
     let collect = c .before .before .before .before .before .before .before .before .before .before .before
         .before .before .before .before .before .before .before .before .before .before .before .before .before
         .before .before .before .before .before .before .before .before .before .before .before .before .before
@@ -531,7 +533,7 @@ add-write-ands c =
     omega (arith, keep-equalities .ensures .1, resolve-all .ensures .1 .1, collect .ensures .1 .0, collect
     .ensures .1 .1, collect .ensures .1 .2, st .pre .0 .0, st .pre .0 .1)
 
--- src/merging.rt:132:5
+-- src/merging.rt:138:5
 write-ands-requires : tie.Need-write-ands-requires
 write-ands-requires c κs =
     let st = c .before .before .before .before .before .before .before .before .before .before .before .before
@@ -539,7 +541,7 @@ write-ands-requires c κs =
         .before .before .before .before .before .before .before .before .before .before .before .before .before
         .before .before .before .before .before .before .before .before .before .before .before .before .before
         .before .before .before .before .before .before .before .before .before .before .before .before .before
-        .before .before .before .before .before .before .before in
+        .before .before .before .before .before .before .before .before in
     let collect = c .before .before .before .before .before .before .before .before .before .before .before
         .before .before .before .before .before .before .before .before .before .before .before .before .before
         .before .before .before .before .before .before .before .before .before .before .before .before .before
@@ -574,36 +576,36 @@ write-ands-requires c κs =
     let r = ands-asked _ _ (comparisons payload (firstOf (collect .last .1 .1 .1 .1 .1 .1 .1 .1 .1 .1 .0)
         (collect .result .columns)) (shown (conjuncts (st .args .kinds .now) (st .args .values .now) (st .args
         .starts .now) (st .args .counts .now) (st .args .p .now)) (columnsOf (resolve-all .last .1 .1 .1 .1 .1
-        .0)) (resolve-all .last .1 .1 .1 .1 .1 .1 .0))) _ _ _ _ _ (write-comparisons .ensures (conjuncts (st
-        .args .kinds .now) (st .args .values .now) (st .args .starts .now) (st .args .counts .now) (st .args .p
-        .now)) refl refl) (total-is _ _ _ _ _ _ _ _ _ _ _ _ _ _ _ _ _ _ _ _ _ _ (collect .ensures .0 .1) (if1
+        .1 .0)) (resolve-all .last .1 .1 .1 .1 .1 .1 .1 .0))) _ _ _ _ _ (write-comparisons .ensures (conjuncts
+        (st .args .kinds .now) (st .args .values .now) (st .args .starts .now) (st .args .counts .now) (st .args
+        .p .now)) refl refl) (total-is _ _ _ _ _ _ _ _ _ _ _ _ _ _ _ _ _ _ _ _ _ _ (collect .ensures .0 .1) (if1
         .left) _ _ (propagate-equalities .ensures .0) _ (keep-equalities .ensures .0) _ _ (resolve-all .ensures
         .0)) (chain-room (st .args .t .now) (st .args .rs .now) (st .args .trees .now) (st .args .used) _ _ _
         (comparisons payload (firstOf (collect .last .1 .1 .1 .1 .1 .1 .1 .1 .1 .1 .0) (collect .result
         .columns)) (shown (conjuncts (st .args .kinds .now) (st .args .values .now) (st .args .starts .now) (st
-        .args .counts .now) (st .args .p .now)) (columnsOf (resolve-all .last .1 .1 .1 .1 .1 .0)) (resolve-all
-        .last .1 .1 .1 .1 .1 .1 .0))) _ (rebuilt-answer .ensures) (total-is _ _ _ _ _ _ _ _ _ _ _ _ _ _ _ _ _ _
-        _ _ _ _ (collect .ensures .0 .1) (if1 .left) _ _ (propagate-equalities .ensures .0) _ (keep-equalities
-        .ensures .0) _ _ (resolve-all .ensures .0)) _ (is-rewritten .ensures) (if4 .left) (compared-some
-        (aexprOf (st .args .rs .now) (st .args .p .now)) (st .args .nodes .now) (st .args .n) _ _ _ (outcome-is
-        _ _ _ ∙ conclude-rebuilt _ _ _ _ _ _ _ _ _ _ _ _ _ _ _ _ _ _ _ _ _ _ (collect .ensures .0 .1) (if1
-        .left) _ _ (propagate-equalities .ensures .0) _ (keep-equalities .ensures .0) _ _ (resolve-all .ensures
-        .0) (if2 .left) (if3 .left)) (total-is _ _ _ _ _ _ _ _ _ _ _ _ _ _ _ _ _ _ _ _ _ _ (collect .ensures .0
+        .args .counts .now) (st .args .p .now)) (columnsOf (resolve-all .last .1 .1 .1 .1 .1 .1 .0))
+        (resolve-all .last .1 .1 .1 .1 .1 .1 .1 .0))) _ (rebuilt-answer .ensures) (total-is _ _ _ _ _ _ _ _ _ _
+        _ _ _ _ _ _ _ _ _ _ _ _ (collect .ensures .0 .1) (if1 .left) _ _ (propagate-equalities .ensures .0) _
+        (keep-equalities .ensures .0) _ _ (resolve-all .ensures .0)) _ (is-rewritten .ensures) (if4 .left)
+        (compared-some (aexprOf (st .args .rs .now) (st .args .p .now)) (st .args .nodes .now) (st .args .n) _ _
+        _ (outcome-is _ _ _ ∙ conclude-rebuilt _ _ _ _ _ _ _ _ _ _ _ _ _ _ _ _ _ _ _ _ _ _ (collect .ensures .0
         .1) (if1 .left) _ _ (propagate-equalities .ensures .0) _ (keep-equalities .ensures .0) _ _ (resolve-all
-        .ensures .0)))) in
+        .ensures .0) (if2 .left) (if3 .left)) (total-is _ _ _ _ _ _ _ _ _ _ _ _ _ _ _ _ _ _ _ _ _ _ (collect
+        .ensures .0 .1) (if1 .left) _ _ (propagate-equalities .ensures .0) _ (keep-equalities .ensures .0) _ _
+        (resolve-all .ensures .0)))) in
     (omega (arith, z, keep-equalities .ensures .1, collect .ensures .1 .0, collect .ensures .1 .1, collect
     .ensures .1 .2, st .pre .0 .0, st .pre .0 .1), omega (arith, st .pre .0 .2), omega (arith, r .0), omega
     (arith, r .0), r .1)
 
--- src/merging.rt:133:5
+-- src/merging.rt:139:5
 with-passes-requires-5 : tie.Need-with-passes-requires-5
 with-passes-requires-5 c κs = search needs
 
--- src/merging.rt:44:1
+-- src/merging.rt:46:1
 same-length-9 : tie.Need-same-length-9
 same-length-9 c = search needs
 
--- src/merging.rt:44:1
+-- src/merging.rt:46:1
 same-length-10 : tie.Need-same-length-10
 same-length-10 c =
     let marks = c .before .before .before .before .before .before .before .before .before .before .before
@@ -620,7 +622,7 @@ same-length-10 c =
         .before .before .before .marks3 in
     marks3 .given ∙ marks2 .given ∙ marks .given
 
--- src/merging.rt:44:1
+-- src/merging.rt:46:1
 returns-5 : tie.Need-returns-5
 returns-5 c =
     let st = c .before .before .before .before .before .before .before .before .before .before .before .before
@@ -628,7 +630,7 @@ returns-5 c =
         .before .before .before .before .before .before .before .before .before .before .before .before .before
         .before .before .before .before .before .before .before .before .before .before .before .before .before
         .before .before .before .before .before .before .before .before .before .before .before .before .before
-        .before .before .before .before .before .before .before .before .before .before .before in
+        .before .before .before .before .before .before .before .before .before .before .before .before in
     let collect = c .before .before .before .before .before .before .before .before .before .before .before
         .before .before .before .before .before .before .before .before .before .before .before .before .before
         .before .before .before .before .before .before .before .before .before .before .before .before .before
@@ -675,18 +677,19 @@ returns-5 c =
     .now) (st .args .trees .now) (st .args .used) _ _ _ (comparisons payload (firstOf (collect .last .1 .1 .1 .1
     .1 .1 .1 .1 .1 .1 .0) (collect .result .columns)) (shown (conjuncts (st .args .kinds .now) (st .args .values
     .now) (st .args .starts .now) (st .args .counts .now) (st .args .p .now)) (columnsOf (resolve-all .last .1
-    .1 .1 .1 .1 .0)) (resolve-all .last .1 .1 .1 .1 .1 .1 .0))) _ (rebuilt-answer .ensures) (total-is _ _ _ _ _
-    _ _ _ _ _ _ _ _ _ _ _ _ _ _ _ _ _ (collect .ensures .0 .1) (if1 .left) _ _ (propagate-equalities .ensures
-    .0) _ (keep-equalities .ensures .0) _ _ (resolve-all .ensures .0)) _ (is-rewritten .ensures) (if4 .left)
-    (compared-some (aexprOf (st .args .rs .now) (st .args .p .now)) (st .args .nodes .now) (st .args .n) _ _ _
-    (outcome-is _ _ _ ∙ conclude-rebuilt _ _ _ _ _ _ _ _ _ _ _ _ _ _ _ _ _ _ _ _ _ _ (collect .ensures .0 .1)
-    (if1 .left) _ _ (propagate-equalities .ensures .0) _ (keep-equalities .ensures .0) _ _ (resolve-all .ensures
-    .0) (if2 .left) (if3 .left)) (total-is _ _ _ _ _ _ _ _ _ _ _ _ _ _ _ _ _ _ _ _ _ _ (collect .ensures .0 .1)
-    (if1 .left) _ _ (propagate-equalities .ensures .0) _ (keep-equalities .ensures .0) _ _ (resolve-all .ensures
-    .0))) _ _ _ (write-comparisons .ensures (conjuncts (st .args .kinds .now) (st .args .values .now) (st .args
-    .starts .now) (st .args .counts .now) (st .args .p .now)) refl refl) (write-ands .ensures))) (passes-are _ _
+    .1 .1 .1 .1 .1 .0)) (resolve-all .last .1 .1 .1 .1 .1 .1 .1 .0))) _ (rebuilt-answer .ensures) (total-is _ _
     _ _ _ _ _ _ _ _ _ _ _ _ _ _ _ _ _ _ _ _ (collect .ensures .0 .1) (if1 .left) _ _ (propagate-equalities
-    .ensures .0) _ (keep-equalities .ensures .0) _ _ (resolve-all .ensures .0) ∙ passes-is _ _ _)
+    .ensures .0) _ (keep-equalities .ensures .0) _ _ (resolve-all .ensures .0)) _ (is-rewritten .ensures) (if4
+    .left) (compared-some (aexprOf (st .args .rs .now) (st .args .p .now)) (st .args .nodes .now) (st .args .n)
+    _ _ _ (outcome-is _ _ _ ∙ conclude-rebuilt _ _ _ _ _ _ _ _ _ _ _ _ _ _ _ _ _ _ _ _ _ _ (collect .ensures .0
+    .1) (if1 .left) _ _ (propagate-equalities .ensures .0) _ (keep-equalities .ensures .0) _ _ (resolve-all
+    .ensures .0) (if2 .left) (if3 .left)) (total-is _ _ _ _ _ _ _ _ _ _ _ _ _ _ _ _ _ _ _ _ _ _ (collect
+    .ensures .0 .1) (if1 .left) _ _ (propagate-equalities .ensures .0) _ (keep-equalities .ensures .0) _ _
+    (resolve-all .ensures .0))) _ _ _ (write-comparisons .ensures (conjuncts (st .args .kinds .now) (st .args
+    .values .now) (st .args .starts .now) (st .args .counts .now) (st .args .p .now)) refl refl) (write-ands
+    .ensures))) (passes-are _ _ _ _ _ _ _ _ _ _ _ _ _ _ _ _ _ _ _ _ _ _ (collect .ensures .0 .1) (if1 .left) _ _
+    (propagate-equalities .ensures .0) _ (keep-equalities .ensures .0) _ _ (resolve-all .ensures .0) ∙ passes-is
+    _ _ _)
 
 pub merge-filter-constraints-spec : {M : Type 1} → statement M
 merge-filter-constraints-spec =

@@ -26,7 +26,7 @@ slot-requires-2 c κs = search needs
 -- src/propagate.rt:48:9
 returns : tie.Need-returns
 returns c =
-    let st = c .before .before .before .before .before .before .before .before .before .before in
+    let st = c .before .before .before .before .before .before .before .before .before .before .before in
     let slot = c .before .before .slot in
     let slot2 = c .before .slot2 in
     let if1 = c .if1 in (
@@ -47,12 +47,12 @@ load-requires-2 c κs = search needs
 merge-rows-requires : tie.Need-merge-rows-requires
 merge-rows-requires c κs =
     let st = c .before .before .before .before .before .before .before .before .before .before .before .before
-    .before .before .before in
+    .before .before .before .before in
     let slot = c .before .before .before .before .before .before .before .slot in
     let slot2 = c .before .before .before .before .before .before .slot2 in
     let load = c .before .before .before .load in
     let load2 = c .before .load2 in (
-      (omega (arith, slot2 .ensures), omega (arith, slot .ensures), st .pre .0 .narrow),
+      (omega (arith, slot2 .ensures), omega (arith, slot .ensures), st .pre .0 .narrow, st .pre .3),
       (
         rw (load2 .ensures) (st
             .pre .0 .fine _ (omega (arith, slot2 .ensures))),
@@ -68,7 +68,7 @@ merge-rows-requires c κs =
 store-requires : tie.Need-store-requires
 store-requires c κs =
     let st = c .before .before .before .before .before .before .before .before .before .before .before .before
-    .before .before .before .before .before .before .before .before in
+    .before .before .before .before .before .before .before .before .before in
     let slot2 = c .before .before .before .before .before .before .before .before .before .before .before .slot2
     in
     (omega (arith, slot2 .ensures), st .pre .0 .size)
@@ -77,7 +77,7 @@ store-requires c κs =
 merge-rows-requires-2 : tie.Need-merge-rows-requires-2
 merge-rows-requires-2 c κs =
     let st = c .before .before .before .before .before .before .before .before .before .before .before .before
-    .before .before .before .before .before .before .before .before .before .before .before .before in
+    .before .before .before .before .before .before .before .before .before .before .before .before .before in
     let slot = c .before .before .before .before .before .before .before .before .before .before .before .before
     .before .before .before .before .slot in
     let slot2 = c .before .before .before .before .before .before .before .before .before .before .before
@@ -89,7 +89,7 @@ merge-rows-requires-2 c κs =
     let merge-rows = c .before .before .before .before .before .before .before .before .merge-rows in
     let g = merge-rows .ensures .1 .1 in
     let z = g .size in (
-      (omega (arith, slot .ensures), omega (arith, slot2 .ensures), omega (arith, z, st .pre .0 .narrow)),
+      (omega (arith, slot .ensures), omega (arith, slot2 .ensures), omega (arith, z, st .pre .0 .narrow), st .pre .3),
       (
         rows-fine _ _ _ _ _ g (omega (arith, slot .ensures)) (λ e. if1 .left (sym e)) (rw (load .ensures) (st .pre
             .0 .fine _ (omega (arith, slot .ensures)))),
@@ -102,7 +102,7 @@ store-requires-2 : tie.Need-store-requires-2
 store-requires-2 c κs =
     let st = c .before .before .before .before .before .before .before .before .before .before .before .before
     .before .before .before .before .before .before .before .before .before .before .before .before .before
-    .before .before .before .before in
+    .before .before .before .before .before in
     let slot = c .before .before .before .before .before .before .before .before .before .before .before .before
     .before .before .before .before .before .before .before .before .before .slot in
     let store = c .before .before .before .before .before .before .before .before .store in
@@ -130,7 +130,7 @@ returns-2 : tie.Need-returns-2
 returns-2 c =
     let st = c .before .before .before .before .before .before .before .before .before .before .before .before
     .before .before .before .before .before .before .before .before .before .before .before .before .before
-    .before .before .before .before .before .before .before .before .before .before .before in
+    .before .before .before .before .before .before .before .before .before .before .before .before in
     let slot = c .before .before .before .before .before .before .before .before .before .before .before .before
     .before .before .before .before .before .before .before .before .before .before .before .before .before
     .before .before .before .slot in

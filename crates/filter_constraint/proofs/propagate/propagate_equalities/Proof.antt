@@ -19,57 +19,57 @@ use Rattle.filter_constraint.proofs.Propagating.{passed-none, passed-mo
 use borrow.Author.Needs.{needs}
 
 abbrev Inv-loop : tie.InvT-loop
-Inv-loop kinds values starts counts pool cells₀ marks₀ lefts rights edges columns emitted₀ going₀ passes₀ cells marks emitted going passes =
+Inv-loop index kinds values starts counts pool cells₀ marks₀ lefts rights edges columns emitted₀ going₀ passes₀ cells marks emitted going passes =
     (passes ≤ columns) × ((T : ColumnTable) (equals : List ℕ) → Shows (conjuncts kinds values starts counts
     pool) (columnsOf cells₀) marks₀ T → Passed (conjuncts kinds values starts counts pool) (columnsOf cells)
     marks (edgesOf lefts rights equals edges) columns passes emitted going T) × Fits cells marks × (length marks
     ≡ length marks₀) × (length cells ≡ length cells₀)
 
 abbrev μ-loop : tie.MeasureT-loop
-μ-loop kinds values starts counts pool cells₀ marks₀ lefts rights edges columns emitted₀ going₀ passes₀ cells marks emitted going passes =
+μ-loop index kinds values starts counts pool cells₀ marks₀ lefts rights edges columns emitted₀ going₀ passes₀ cells marks emitted going passes =
     columns - passes
 
--- src/propagate.rt:140:5
+-- src/propagate.rt:172:5
 loop-holds : tie.Need-loop-holds Inv-loop μ-loop
 loop-holds c =
-    let st = c .before .before .before .before .before .before .before .before .before in
+    let st = c .before .before .before .before .before .before .before .before .before .before in
     (omega arith, (λ T equals S. passed-none _ _ _ _ _ _ _ _ T S), st .pre .0 .0, refl, refl)
 
--- src/propagate.rt:141:13
+-- src/propagate.rt:173:13
 propagate-pass-requires : tie.Need-propagate-pass-requires Inv-loop μ-loop
 propagate-pass-requires c κs =
     let st = c .before .before .before .before .before .before .before .before .before .before .before .before
-        .before in
+        .before .before in
     let l1 = c .before .before .before .loop in
-    ((l1 .inv .2, st .pre .0 .1, st .pre .0 .2), st .pre .1)
+    ((l1 .inv .2, st .pre .0 .1, st .pre .0 .2, st .pre .0 .3), st .pre .1)
 
--- src/propagate.rt:155:9
+-- src/propagate.rt:188:9
 add-passes : tie.Need-add-passes Inv-loop μ-loop
 add-passes c =
     let st = c .before .before .before .before .before .before .before .before .before .before .before .before
-        .before .before .before .before .before .before .before in
+        .before .before .before .before .before .before .before .before in
     let l1 = c .before .before .before .before .before .before .before .before .before .loop in
     let t1 = c .before .before .before .before .before .before .before .before .loop-test in
     let h : l1 .passes < st .args .columns = ltb-true _ _ (and-left (ltb (l1 .passes) (st .args .columns)) (l1
         .going) (t1 .taken)) in
     search (needs, h)
 
--- src/propagate.rt:140:5
+-- src/propagate.rt:172:5
 loop-less : tie.Need-loop-less Inv-loop μ-loop
 loop-less c =
     let st = c .before .before .before .before .before .before .before .before .before .before .before .before
-        .before .before .before .before .before .before .before in
+        .before .before .before .before .before .before .before .before in
     let l1 = c .before .before .before .before .before .before .before .before .before .loop in
     let t1 = c .before .before .before .before .before .before .before .before .loop-test in
     let h : l1 .passes < st .args .columns = ltb-true _ _ (and-left (ltb (l1 .passes) (st .args .columns)) (l1
         .going) (t1 .taken)) in
     omega (arith, h)
 
--- src/propagate.rt:140:5
+-- src/propagate.rt:172:5
 loop-again : tie.Need-loop-again Inv-loop μ-loop
 loop-again c =
     let st = c .before .before .before .before .before .before .before .before .before .before .before .before
-        .before .before .before .before .before .before .before in
+        .before .before .before .before .before .before .before .before in
     let l1 = c .before .before .before .before .before .before .before .before .before .loop in
     let t1 = c .before .before .before .before .before .before .before .before .loop-test in
     let propagate-pass = c .before .before .before .before .before .propagate-pass in
@@ -79,15 +79,15 @@ loop-again c =
     .args .columns)) (l1 .going) (t1 .taken)) (l1 .inv .1 T equals S) (λ U R. propagate-pass .ensures .0 U
     equals R)), propagate-pass .ensures .1, search needs, search needs)
 
--- src/propagate.rt:115:1
+-- src/propagate.rt:145:1
 same-length : tie.Need-same-length Inv-loop μ-loop
 same-length c = search needs
 
--- src/propagate.rt:115:1
+-- src/propagate.rt:145:1
 same-length-2 : tie.Need-same-length-2 Inv-loop μ-loop
 same-length-2 c = search needs
 
--- src/propagate.rt:115:1
+-- src/propagate.rt:145:1
 returns : tie.Need-returns Inv-loop μ-loop
 returns c =
     let l1 = c .before .loop in

@@ -15,46 +15,46 @@ use Rattle.filter_constraint.proofs.Propagating.{merged-none, merged-mo
 use borrow.Author.Needs.{needs}
 
 abbrev Inv-loop : tie.InvT-loop
-Inv-loop kinds values starts counts pool cells₀ marks₀ lefts rights edges emitted₀ any₀ e₀ cells marks emitted any e =
+Inv-loop index kinds values starts counts pool cells₀ marks₀ lefts rights edges emitted₀ any₀ e₀ cells marks emitted any e =
     (e ≤ edges) × ((T : ColumnTable) (equals : List ℕ) → Shows (conjuncts kinds values starts counts pool) (columnsOf
     cells₀) marks₀ T → EdgesMerged (conjuncts kinds values starts counts pool) (columnsOf cells) marks (edgesOf lefts
     rights equals e) emitted any T) × Fits cells marks × (length marks ≡ length marks₀) × (length cells ≡ length
     cells₀)
 
 abbrev μ-loop : tie.MeasureT-loop
-μ-loop kinds values starts counts pool cells₀ marks₀ lefts rights edges emitted₀ any₀ e₀ cells marks emitted any e =
+μ-loop index kinds values starts counts pool cells₀ marks₀ lefts rights edges emitted₀ any₀ e₀ cells marks emitted any e =
     edges - e
 
 -- src/propagate.rt:86:5
 loop-holds : tie.Need-loop-holds Inv-loop μ-loop
 loop-holds c =
-    let st = c .before .before .before .before .before .before .before .before .before in
+    let st = c .before .before .before .before .before .before .before .before .before .before in
     (omega arith, (λ T equals S. merged-none _ _ _ _ _ equals T S), st .pre .0 .0, refl, refl)
 
 -- src/propagate.rt:95:20
-mul-t20 : tie.Need-mul-t20 Inv-loop μ-loop
-mul-t20 c = search needs
+mul-t21 : tie.Need-mul-t21 Inv-loop μ-loop
+mul-t21 c = search needs
 
 -- src/propagate.rt:95:20
-shared-slice-read-t22 : tie.Need-shared-slice-read-t22 Inv-loop μ-loop
-shared-slice-read-t22 c = search needs
+shared-slice-read-t23 : tie.Need-shared-slice-read-t23 Inv-loop μ-loop
+shared-slice-read-t23 c = search needs
 
 -- src/propagate.rt:96:20
-mul-t24 : tie.Need-mul-t24 Inv-loop μ-loop
-mul-t24 c = search needs
+mul-t25 : tie.Need-mul-t25 Inv-loop μ-loop
+mul-t25 c = search needs
 
 -- src/propagate.rt:96:20
-shared-slice-read-t26 : tie.Need-shared-slice-read-t26 Inv-loop μ-loop
-shared-slice-read-t26 c = search needs
+shared-slice-read-t27 : tie.Need-shared-slice-read-t27 Inv-loop μ-loop
+shared-slice-read-t27 c = search needs
 
 -- src/propagate.rt:87:13
 merge-edge-requires : tie.Need-merge-edge-requires Inv-loop μ-loop
 merge-edge-requires c κs =
     let st = c .before .before .before .before .before .before .before .before .before .before .before .before
-    .before .before .before in
+    .before .before .before .before in
     let l1 = c .before .before .before .before .before .loop in
     let t1 = c .before .before .before .before .loop-test in
-    (l1 .inv .2, st .pre .1 _ (t1 .taken) .0, st .pre .1 _ (t1 .taken) .1)
+    (l1 .inv .2, st .pre .1 _ (t1 .taken) .0, st .pre .1 _ (t1 .taken) .1, st .pre .0 .3)
 
 -- src/propagate.rt:100:9
 add-e : tie.Need-add-e Inv-loop μ-loop
@@ -91,7 +91,7 @@ same-length-2 c = search needs
 -- src/propagate.rt:62:1
 returns : tie.Need-returns Inv-loop μ-loop
 returns c =
-    let st = c .before .before .before .before .before .before .before .before .before .before .before in
+    let st = c .before .before .before .before .before .before .before .before .before .before .before .before in
     let l1 = c .before .loop in
     let t1 = c .loop-test in
     let e : l1 .e ≡ st .args .edges = omega (arith, l1 .inv .0, t1 .left) in
@@ -104,10 +104,10 @@ propagate-pass-spec =
     Inv-loop
     μ-loop
     loop-holds
-    mul-t20
-    shared-slice-read-t22
-    mul-t24
-    shared-slice-read-t26
+    mul-t21
+    shared-slice-read-t23
+    mul-t25
+    shared-slice-read-t27
     merge-edge-requires
     add-e
     loop-less

@@ -1,0 +1,3 @@
+// Sets of numbers: as a rising list, with binary search in it, and as bits.
+pub mod bits;
+pub mod rising;
