@@ -1,5 +1,5 @@
 /*
- * screen.h: the lines of an option screen, checked, merged, run on the rows of a chain, saved and loaded.
+ * screen.h: the lines of an option screen, checked, merged, run on the rows of a chain, counted, saved and loaded.
  *
  * A screen is a tree of lines ("c0 > 5", "c1 is null", "c2 in [1, 2]") that a row of an option chain passes or not.
  * The caller lends it as plain bytes; nothing is allocated and nothing is kept after a call. Calls may run at the same
@@ -60,11 +60,13 @@
  * Each call checks every used record first, whether the root reaches it or not, so its time grows with `used`: a screen
  * that is kept for many calls should hold no record that its root does not reach. Checking a short screen takes some 50
  * ns, a full one 15 to 30 us, whatever its lists. The slowest screen known to rewrite, 65 lists of 100 values carried from
- * column to column by 63 equalities, takes about a second.
+ * column to column by 63 equalities, takes about a second. A hedge list checks the screen once for all rows and takes them
+ * one by one: 1,024 rows of 10 lines take some 0.4 ms, of a full screen of comparisons some 30 ms; the slowest known, 1,024
+ * lists over 8,192 values, takes some 4 seconds.
  *
  * PLATFORM
  *
- * x86-64 Linux, two's complement. The archive needs nothing but memcpy and memset, has some 42 KB of code, keeps no
+ * x86-64 Linux, two's complement. The archive needs nothing but memcpy and memset, has some 54 KB of code, keeps no
  * state and opens no file. MIT licence: LICENSE, and NOTICE for the Rust sources that it follows.
  *
  * "Document 01" in this file and in the sources is docs/01-scope.md, the paper that the library is made from.
@@ -77,8 +79,8 @@
 
 /* Of this interface: the major number rises if a host must be changed to compile, the minor one if something is new. */
 #define SCREEN_VERSION_MAJOR 3
-#define SCREEN_VERSION_MINOR 0
-#define SCREEN_VERSION "3.0"
+#define SCREEN_VERSION_MINOR 1
+#define SCREEN_VERSION "3.1"
 
 /* A host that leaves an answer unread is warned, by compilers that can. */
 #if defined(__GNUC__)
@@ -100,6 +102,8 @@ enum screen_limit {
     SCREEN_MAX_CONJUNCTS = 128, /* conjuncts of a root, a shared one counted each time it is reached */
     SCREEN_RECORD_BYTES = 16,
     SCREEN_VALUE_BYTES = 8,
+    SCREEN_MAX_ROWS = 1024,         /* of a chain */
+    SCREEN_PLACE_BYTES = 2,         /* of a hedge list: a row's number */
     SCREEN_BLOCK_BYTES = 512,       /* a saved screen is whole blocks */
     SCREEN_MAX_FILE_BYTES = 137216  /* 268 blocks: 64 columns, 4,096 records and 8,192 values */
 };
@@ -158,8 +162,9 @@ enum screen_closed {
 /*
  * Why a call refused. The numbers are looked for in this order and the first that applies is given: 1, 2, 3; then the
  * used records from record 0 up, reached by the root or not, and for each of them 4, 5, 6, 7; then 7 for the root.
- * After these come the numbers of the single calls, in rising order. Loading alone looks first at the file: 15, then
- * 14, then 1 to 7 of the screen that it holds. Building the slowest screen looks for 19, then 11.
+ * After these come the numbers of the single calls, in rising order but for three: the hedge list looks for 20 before 12,
+ * loading looks first at the file: 15, then 14, then 1 to 7 of the screen that it holds; building the slowest screen looks
+ * for 19, then 11.
  */
 enum screen_refusal {
     /* Over 64 columns, or a byte of the table that is no type. */
@@ -197,7 +202,7 @@ enum screen_refusal {
      * lent table, or lent records, that cannot hold it.
      */
     SCREEN_REFUSED_ROOM = 11,
-    /* The row has not exactly eight bytes for each column. */
+    /* The row has not exactly eight bytes for each column; a chain's values, not for each row and column. */
     SCREEN_REFUSED_ROW_LENGTH = 12,
     /*
      * A null mark at or above the number of columns, a value outside its column's type, or a column marked null whose
@@ -211,8 +216,13 @@ enum screen_refusal {
      * that is not the number of records held, a missing end or a trailing byte.
      */
     SCREEN_REFUSED_FILE = 15,
+    /* 16 to 18 are not used: no refusal has these numbers. */
     /* Building the slowest screen: not 2 to 64 columns. */
-    SCREEN_REFUSED_COLUMNS = 19
+    SCREEN_REFUSED_COLUMNS = 19,
+    /* A chain of over 1,024 rows, or a list buffer with fewer places than the chain has rows. */
+    SCREEN_REFUSED_CHAIN = 20,
+    /* A sum of the tally, or its false and unknown rows together, would pass 64 bits unsigned. */
+    SCREEN_REFUSED_TALLY = 21
 };
 
 /* Is the answer of a call a refusal? */
@@ -260,6 +270,10 @@ static inline const char *screen_refusal_text(uint32_t answer)
         return "This is not a saved screen, or it was damaged.";
     case SCREEN_REFUSED_COLUMNS:
         return "The slowest screen is built for 2 to 64 columns.";
+    case SCREEN_REFUSED_CHAIN:
+        return "The chain has more than 1,024 rows, or the list buffer has fewer places than the chain has rows.";
+    case SCREEN_REFUSED_TALLY:
+        return "A sum of the tally, or its false and unknown rows together, would pass 64 bits.";
     default:
         return screen_refused(answer) ? "No refusal has this number." : "Not refused.";
     }
@@ -413,6 +427,70 @@ SCREEN_MUST_USE
 uint32_t screen_test_row(const uint8_t *table, size_t table_len, const uint8_t *records, size_t records_len,
                          const uint8_t *pool, size_t pool_len, uint64_t used, uint64_t root,
                          const uint8_t *row, size_t row_len, uint64_t nulls);
+
+/* --------------------------------------------------------------------------------------------------- the hedge list */
+
+/*
+ * The running tally of a desk: how many rows passed, were false, were unknown. The desk keeps it, begins it with zeros
+ * and lends it; only screen_hedge_list writes it.
+ */
+struct screen_tally {
+    uint64_t passed;
+    uint64_t is_false;
+    uint64_t unknown;
+};
+
+/* The answer of screen_hedge_list. */
+enum screen_hedge_list_answer {
+    SCREEN_HEDGED = 256 /* the list, *tally and *count are written */
+};
+
+/*
+ * Which rows of a chain pass? Answers SCREEN_HEDGED, or a refusal: 1 to 7, 8, 20, 12, 13, 21, in this order. A refused
+ * chain writes nothing and adds nothing, even if its last row alone is refused.
+ *
+ *   table .. root       as in screen_check
+ *   values, values_len  the rows' values, row after row, each row as in screen_test_row: 8 bytes for each row and
+ *                       column, or it is 12
+ *   nulls, rows         a word of null marks for each row, as in screen_test_row. `rows` is the number of WORDS, so
+ *                       that of the chain's rows: at most 1,024; none at all is fine
+ *   list, list_len      the buffer for the list; list_len is in bytes, two a place, and there are at least as many
+ *                       places as rows. Written with SCREEN_HEDGED are the first 2 * *count bytes: the numbers of the
+ *                       rows that pass, ascending, from 0, two bytes each, little-endian. Bytes behind them keep their
+ *                       values
+ *   tally               not NULL. Written with SCREEN_HEDGED: each sum grows by the rows of the chain in its class
+ *   count               not NULL. Written with SCREEN_HEDGED: how many rows passed
+ *
+ * The class of a row is what screen_test_row answers of it: a row passes on SCREEN_TRUE only. The screen is checked
+ * once for the whole chain. 13 is given of the chain if screen_test_row gives it of a row. 21 looks at the sums after
+ * adding, also of a chain without rows.
+ *
+ * `nulls` needs the alignment of uint64_t, `tally` that of its numbers.
+ *
+ * The call needs the stack of screen_test_row and some 34 KB more: less than 1.5 MB for the deepest screen.
+ */
+SCREEN_MUST_USE
+uint32_t screen_hedge_list(const uint8_t *table, size_t table_len, const uint8_t *records, size_t records_len,
+                           const uint8_t *pool, size_t pool_len, uint64_t used, uint64_t root,
+                           const uint8_t *values, size_t values_len, const uint64_t *nulls, size_t rows,
+                           uint8_t *list, size_t list_len, struct screen_tally *tally, uint64_t *count);
+
+/* The answer of both views. */
+enum screen_view_answer {
+    SCREEN_VIEWED = 256 /* the numbers are written */
+};
+
+/*
+ * The trader's view: how many rows passed, and how many did not. Answers SCREEN_VIEWED; or 21, and writes nothing, if
+ * false and unknown together pass 64 bits, which no tally does that began with zeros and that only screen_hedge_list
+ * has written. The two numbers are different ones, and neither is a part of the tally.
+ */
+SCREEN_MUST_USE
+uint32_t screen_trader_view(const struct screen_tally *tally, uint64_t *passed, uint64_t *not_passed);
+
+/* The risk view: those that did not pass are split into false and unknown. Answers SCREEN_VIEWED always. */
+SCREEN_MUST_USE
+uint32_t screen_risk_view(const struct screen_tally *tally, uint64_t *passed, uint64_t *is_false, uint64_t *unknown);
 
 /* ----------------------------------------------------------------------------------------------------- columns read */
 

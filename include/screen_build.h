@@ -386,6 +386,22 @@ static inline uint32_t screen_lent_test_row(const struct screen_lent *s, const u
                            row, row_len, nulls);
 }
 
+/* As screen_hedge_list; `rows` is how many words of null marks there are, and list_len is in bytes. */
+SCREEN_MUST_USE
+static inline uint32_t screen_lent_hedge_list(const struct screen_lent *s, const uint8_t *values, size_t values_len,
+                                              const uint64_t *nulls, size_t rows, uint8_t *list, size_t list_len,
+                                              struct screen_tally *tally, uint64_t *count)
+{
+    return screen_hedge_list(s->table, s->table_len, s->records, s->records_len, s->pool, s->pool_len, s->used, s->root,
+                             values, values_len, nulls, rows, list, list_len, tally, count);
+}
+
+/* The row number at a place of a hedge list; places are counted from 0. */
+static inline uint32_t screen_listed(const uint8_t *list, uint64_t place)
+{
+    return SCREEN_CAST(uint32_t, screen_fetch(list + SCREEN_PLACE_BYTES * place, SCREEN_PLACE_BYTES));
+}
+
 /* As screen_columns_read. */
 SCREEN_MUST_USE
 static inline uint32_t screen_lent_columns_read(const struct screen_lent *s, uint64_t *columns, uint64_t *count)

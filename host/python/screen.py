@@ -5,6 +5,8 @@
     s.add(s.strike > 3, s.strike >= 5, s.expiry <= datetime.date(2026, 12, 18), ~s.halted)
     s.rewrite()                                     # 'rewritten'
     s.test_row({"strike": 7, "expiry": None, "halted": False})   # True, False, or None for unknown
+    tally = screen.Tally()                          # the desk's running tally, added to where it is kept
+    s.hedge_list([{"strike": 7}, {"strike": 4}], tally)   # the numbers of the rows that pass
 
 Columns are attributes of the screen (or s["strike"]); comparisons of them, joined by & and |, are lines, and // and % of
 Ints are values: s.size // 100 >= 3. A value is an int, a datetime.date, a bool, or None for null. A refusal raises
@@ -15,7 +17,7 @@ import ctypes
 import datetime
 import os
 
-VERSION = (3, 0)  # of include/screen.h
+VERSION = (3, 1)  # of include/screen.h
 
 INT, DAY, TRUTH = 1, 2, 3
 TYPES = {"Int": INT, "Day": DAY, "Truth": TRUTH}
@@ -26,6 +28,7 @@ AND, OR, XOR = 15, 16, 17
 CLOSED = {"both": 0, "left": 1, "right": 2, "none": 3}
 INPUTS = {BINARY: 2, NOT: 1, IS_NULL: 1, IS_NOT_NULL: 1, IS_BETWEEN: 3, IS_IN: 2}
 MAX_RECORDS, MAX_POOL_VALUES, RECORD_BYTES, VALUE_BYTES, MAX_FILE_BYTES = 4096, 8192, 16, 8, 137216
+MAX_ROWS, PLACE_BYTES = 1024, 2
 
 REFUSALS = {
     1: "The table has more than 64 columns, or a column of an unknown type.",
@@ -47,6 +50,8 @@ REFUSALS = {
     14: "A lent buffer is too short for the file, or for what the file holds.",
     15: "This is not a saved screen, or it was damaged.",
     19: "The slowest screen is built for 2 to 64 columns.",
+    20: "The chain has more than 1,024 rows, or the list buffer has fewer places than the chain has rows.",
+    21: "A sum of the tally, or its false and unknown rows together, would pass 64 bits.",
 }
 
 
@@ -104,6 +109,35 @@ def _kind_of(value):
     if isinstance(value, bool):
         return TRUTH
     return DAY if isinstance(value, datetime.date) else INT
+
+
+class Tally(ctypes.Structure):
+    """A desk's running tally: rows that passed, were false, were unknown. It begins with zeros; hedge_list adds."""
+
+    _fields_ = [("passed", ctypes.c_uint64), ("is_false", ctypes.c_uint64), ("unknown", ctypes.c_uint64)]
+
+    def _view(self, name, count):
+        numbers = [ctypes.c_uint64() for _ in range(count)]
+        _call(name, ctypes.byref(self), *map(ctypes.byref, numbers))
+        return tuple(number.value for number in numbers)
+
+    def trader_view(self):
+        """screen_trader_view: (passed, not passed). Refused with 21 if the latter passes 64 bits."""
+        return self._view("screen_trader_view", 2)
+
+    def risk_view(self):
+        """screen_risk_view: (passed, false, unknown). Never refused."""
+        return self._view("screen_risk_view", 3)
+
+
+class Chain:
+    """Rows as the library takes them: the values row after row as bytes, and a word of null marks a row.
+
+    Screen.pack makes one of rows by name; a host that has its rows as bytes makes its own.
+    """
+
+    def __init__(self, values, nulls):
+        self.values, self.nulls = bytes(values), (ctypes.c_uint64 * len(nulls))(*nulls)
 
 
 class Part:
@@ -202,8 +236,8 @@ class Part:
 class Screen:
     """A screen over columns given by name and type: Screen(strike="Int", expiry="Day", halted="Truth").
 
-    Lines are added with add(); the calls of the library are check, rewrite, test_row, columns_read, save and
-    load.
+    Lines are added with add(); the calls of the library are check, rewrite, test_row, hedge_list, columns_read, save,
+    load and slowest.
     """
 
     def __init__(self, **columns):
@@ -293,12 +327,8 @@ class Screen:
         self.root, self.used, self.passes = root.value, used.value, passes.value
         return ("unchanged", "nothing passes", "rewritten")[answer - 256]
 
-    def test_row(self, row):
-        """screen_test_row: does this row pass? True, False, or None if a null stands in the way of an answer.
-
-        `row` has a value for each column by its name; a column that is not there is null. Refused with 1 to 7, 8, 12,
-        13: a value that is outside its column's type.
-        """
+    def _cells(self, row):
+        """A row's values as bytes, and its null marks."""
         unknown = set(row) - set(self.names)
         if unknown:
             raise KeyError(f"no column named {sorted(unknown)[0]}")
@@ -307,8 +337,37 @@ class Screen:
             value = row.get(name)
             nulls |= (value is None) << number
             cells += (0 if value is None else _number(value, kind)).to_bytes(8, "little", signed=True)
+        return cells, nulls
+
+    def test_row(self, row):
+        """screen_test_row: does this row pass? True, False, or None if a null stands in the way of an answer.
+
+        `row` has a value for each column by its name; a column that is not there is null. Refused with 1 to 7, 8, 12,
+        13: a value that is outside its column's type.
+        """
+        cells, nulls = self._cells(row)
         answer = _call("screen_test_row", *self._lent(), *_slice(cells, len(cells)), ctypes.c_uint64(nulls))
         return (False, None, True)[answer - 256]
+
+    def pack(self, rows):
+        """Rows by name as a Chain; a chain that runs on many screens or ticks need be packed once."""
+        packed = [self._cells(row) for row in rows]
+        return Chain(b"".join(cells for cells, _ in packed), [nulls for _, nulls in packed])
+
+    def hedge_list(self, rows, tally):
+        """screen_hedge_list: the numbers, from 0, of the rows that pass; `tally` grows by the rows of each class.
+
+        `rows` are rows as test_row takes them, at most 1,024, or a Chain. Refused with 1 to 7, 8, 20, 12, 13, 21;
+        then nothing is added.
+        """
+        chain = rows if isinstance(rows, Chain) else self.pack(rows)
+        if not isinstance(tally, Tally):
+            raise TypeError("the tally is a screen.Tally")
+        places, count = ctypes.create_string_buffer(PLACE_BYTES * len(chain.nulls)), ctypes.c_uint64()
+        _call("screen_hedge_list", *self._lent(), *_slice(chain.values, len(chain.values)), chain.nulls,
+              ctypes.c_size_t(len(chain.nulls)), *_slice(places, len(places)), ctypes.byref(tally),
+              ctypes.byref(count))
+        return [int.from_bytes(places[PLACE_BYTES * n:PLACE_BYTES * (n + 1)], "little") for n in range(count.value)]
 
     def columns_read(self):
         """screen_columns_read: the names of the columns that the screen reads. Refused with 1 to 7."""

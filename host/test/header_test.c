@@ -13,6 +13,7 @@ static int calls_refuse(void)
     uint64_t count = 0;
     uint64_t root = 0;
     uint64_t used = 0;
+    struct screen_tally tally = {0, 0, 0};
     uint32_t answer = screen_check(NONE, 0, NONE, 0, NONE, 0, 0, 0);
     return answer == SCREEN_REFUSED_ROOT && screen_refused(answer) && screen_refusal_text(answer)[0] == 'T' &&
            screen_test_row(NONE, 0, NONE, 0, NONE, 0, 0, 0, NONE, 0, 0) == SCREEN_REFUSED_ROOT &&
@@ -20,7 +21,11 @@ static int calls_refuse(void)
            screen_slowest(1, NONE, 0, NONE, 0, &root, &used) == SCREEN_REFUSED_COLUMNS &&
            screen_save(NONE, 0, NONE, 0, NONE, 0, 0, 0, NONE, 0, &count) == SCREEN_REFUSED_ROOT &&
            screen_load(NONE, 0, NONE, 0, NONE, 0, NONE, 0, &root, &columns, &used, &count) == SCREEN_REFUSED_FILE &&
-           screen_columns_read(NONE, 0, NONE, 0, NONE, 0, 0, 0, &columns, &count) == SCREEN_REFUSED_ROOT;
+           screen_columns_read(NONE, 0, NONE, 0, NONE, 0, 0, 0, &columns, &count) == SCREEN_REFUSED_ROOT &&
+           screen_hedge_list(NONE, 0, NONE, 0, NONE, 0, 0, 0, NONE, 0, NONE, 0, NONE, 0, &tally, &count) ==
+               SCREEN_REFUSED_ROOT &&
+           screen_trader_view(&tally, &columns, &count) == SCREEN_VIEWED && columns == 0 && count == 0 &&
+           screen_risk_view(&tally, &columns, &count, &used) == SCREEN_VIEWED && used == 0;
 }
 
 /* c0 > -100, c0 is_in [1, 2] or null, an expiry: a little of everything. */
@@ -43,8 +48,9 @@ static uint32_t put_screen(struct screen_lent *s)
 static int wrappers_answer(void)
 {
     uint8_t table[2], records[16 * 40], reached[16 * 40], pool[16], file[5 * SCREEN_BLOCK_BYTES];
-    uint8_t row[16] = {0};
-    uint64_t columns = 0, count = 0, length = 0;
+    uint8_t row[16] = {0}, list[2] = {1, 1};
+    uint64_t columns = 0, count = 0, length = 0, marks = 0;
+    struct screen_tally tally = {7, 0, 0};
     struct screen_lent s;
     screen_begin(&s, table, sizeof table, records, sizeof records, pool, sizeof pool);
     if (put_screen(&s) != s.root || screen_is_full(&s) || screen_lent_check(&s) != SCREEN_ACCEPTED)
@@ -55,7 +61,9 @@ static int wrappers_answer(void)
            screen_copy_reached(&s, reached, sizeof reached, &s) == SCREEN_ACCEPTED &&
            screen_lent_save(&s, file, sizeof file, &length) == SCREEN_SAVED &&
            screen_lent_load(&s, file, length) == SCREEN_LOADED &&
-           screen_lent_test_row(&s, row, sizeof row, 0) == SCREEN_TRUE;
+           screen_lent_test_row(&s, row, sizeof row, 0) == SCREEN_TRUE &&
+           screen_lent_hedge_list(&s, row, sizeof row, &marks, 1, list, sizeof list, &tally, &count) == SCREEN_HEDGED &&
+           count == 1 && tally.passed == 8 && screen_listed(list, 0) == 0;
 }
 
 int main(void)

@@ -153,6 +153,47 @@ def test_refusals():
     refused(5, "a record of no column", lambda: s.add(s.put(screen.COLUMN, a=7)) or s.check())
 
 
+def test_hedge_list():
+    """Rows by name and already packed, blocks of a longer chain, every class, the tally and its two views."""
+    s = screen.Screen(strike="Int", expiry="Day", halted="Truth")
+    s.add(s.strike // 10 >= 3, s.expiry <= DAY(2026, 12, 18), ~s.halted)
+    rows = [{"strike": n, "expiry": DAY(2026, 12, 10 + n % 12), "halted": None if n % 7 == 6 else n % 5 == 4}
+            for n in range(1024)]
+    want, tally = [s.test_row(row) for row in rows], screen.Tally()
+    numbers = [n for n, truth in enumerate(want) if truth is True]
+    counts = tuple(sum(truth is kind for truth in want) for kind in (True, False, None))
+    report(s.hedge_list(rows, tally) == numbers and min(counts) > 0, "the list")
+    report(tally.risk_view() == counts, "the risk view")
+    report(tally.trader_view() == (counts[0], counts[1] + counts[2]), "the trader's view")
+    report(s.hedge_list(s.pack(rows), tally) == numbers and tally.passed == 2 * counts[0], "a packed chain")
+    chain, blocks = s.pack(rows), screen.Tally()
+    parts = [s.hedge_list(screen.Chain(chain.values[24 * n:24 * (n + 100)], chain.nulls[n:n + 100]), blocks)
+             for n in range(0, 1024, 100)]
+    report([100 * k + n for k, part in enumerate(parts) for n in part] == numbers and blocks.risk_view() == counts,
+           "a chain in blocks")
+    s.rewrite()
+    s.copy_reached()
+    tidied = screen.Tally()
+    report(s.hedge_list(rows, tidied) == numbers and tidied.trader_view() == blocks.trader_view(), "the list as tidied")
+    report(s.hedge_list([], tidied) == [] and tidied.passed == counts[0], "no rows")
+    before = tidied.risk_view()
+    refused(20, "1,025 rows", lambda: s.hedge_list(rows + rows[:1], tidied))
+    refused(12, "values of a row less", lambda: s.hedge_list(screen.Chain(bytes(24), [7, 7]), tidied))
+    refused(13, "a truth of 2 in the last row", lambda: s.hedge_list([*rows[:1023], {"halted": 2}], tidied))
+    refused(13, "a mark beyond the columns", lambda: s.hedge_list(screen.Chain(bytes(24), [8]), tidied))
+    report(tidied.risk_view() == before, "a refused chain adds nothing")
+    full = screen.Tally(2**64 - counts[0], 0, 0)
+    refused(21, "passed beyond 64 bits", lambda: s.hedge_list(rows, full))
+    full = screen.Tally(0, 2**63, 2**63)
+    refused(21, "not passed beyond 64 bits", full.trader_view)
+    report(full.risk_view() == (0, 2**63, 2**63), "the risk view of it")
+    raises(KeyError, "an unknown cell in a chain", lambda: s.hedge_list([{"c9": 1}], tidied))
+    raises(TypeError, "a tally of another kind", lambda: s.hedge_list(rows, [0, 0, 0]))
+    none = screen.Screen()
+    none.add(True)
+    report(none.hedge_list([{}] * 3, tidied) == [0, 1, 2], "no columns")
+
+
 def test_files():
     """What is saved is loaded, with the same rows; lines can be added to it; a damaged file is refused."""
     s = screen.Screen(strike="Int", expiry="Day", halted="Truth")
@@ -249,16 +290,18 @@ def test_told():
     for name in ("EQ", "EQ_VALIDITY", "NOT_EQ", "NOT_EQ_VALIDITY", "LT", "LT_EQ", "GT", "GT_EQ", "FLOOR_DIVIDE",
                  "MODULUS", "AND", "OR", "XOR"):
         report(getattr(screen, name) == numbers[f"OP_{name}"], f"the operator {name}")
-    for name in ("MAX_RECORDS", "MAX_POOL_VALUES", "RECORD_BYTES", "VALUE_BYTES", "MAX_FILE_BYTES"):
+    for name in ("MAX_RECORDS", "MAX_POOL_VALUES", "RECORD_BYTES", "VALUE_BYTES", "MAX_FILE_BYTES", "MAX_ROWS",
+                 "PLACE_BYTES"):
         report(getattr(screen, name) == numbers[name], name)
     version = tuple(int(re.search(rf"SCREEN_VERSION_{part} (\d+)", header)[1]) for part in ("MAJOR", "MINOR"))
     report(screen.VERSION == version, "the version")
     calls = set(re.findall(r"^uint32_t (screen_\w+)\(", header, re.M))
-    used = set(re.findall(r'_call\("(\w+)"', open(screen.__file__).read()))
+    used = set(re.findall(r'_(?:call|view)\("(\w+)"', open(screen.__file__).read()))
     report(calls == used, f"the calls of the header: {calls ^ used}")
 
 
-for test in (test_cases, test_types, test_slowest, test_refusals, test_files, test_python, test_divisions, test_random, test_told):
+for test in (test_cases, test_types, test_slowest, test_refusals, test_hedge_list, test_files, test_python,
+             test_divisions, test_random, test_told):
     test()
 print(f"{counts[True]} passed, {counts[False]} failed")
 sys.exit(counts[False] != 0)

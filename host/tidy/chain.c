@@ -241,6 +241,15 @@ static bool same_rows(const struct chain *chain, const struct run *a, const stru
     return true;
 }
 
+/* Does the hedge list name the rows that pass, and no others? */
+static bool same_list(const struct chain *chain, const struct run *run, const struct hedged *hedged)
+{
+    for (size_t i = 0; i < chain->rows; i++)
+        if ((run->truths[i] == 2) != (hedged->passes[i] == 1))
+            return false;
+    return true;
+}
+
 /* The columns that a line reads; 0 if it cannot be told. */
 static uint64_t line_columns(const struct tidied *tidied, size_t line)
 {
@@ -286,16 +295,36 @@ static void measure(struct outcome *outcome, const struct chain *chain, const st
         }
 }
 
+static void measure_hedge(struct outcome *outcome, const struct chain *chain, const struct tidied *tidied)
+{
+    double began = platform_ns();
+    for (unsigned round = 0; chain->rows > 0 && (round < 2 || (round < 50 && platform_ns() - began < 3e6)); round++) {
+        struct hedged again;
+        double from = platform_ns();
+        hedged_run(&again, chain, &tidied->copied);
+        double taken = (platform_ns() - from) / (double)chain->rows;
+        hedged_free(&again);
+        if (round == 0 || taken < outcome->hedge_ns)
+            outcome->hedge_ns = taken;
+    }
+}
+
 void chain_run(struct outcome *outcome, const struct chain *chain, const struct tidied *tidied)
 {
     memset(outcome, 0, sizeof *outcome);
     run_screen(&outcome->typed, chain, &tidied->typed);
     run_screen(&outcome->returned, chain, &tidied->returned);
     run_screen(&outcome->copied, chain, &tidied->copied);
+    hedged_run(&outcome->typed_hedge, chain, &tidied->typed);
+    hedged_run(&outcome->copied_hedge, chain, &tidied->copied);
     outcome->same = same_rows(chain, &outcome->typed, &outcome->returned) &&
-                    same_rows(chain, &outcome->typed, &outcome->copied);
+                    same_rows(chain, &outcome->typed, &outcome->copied) &&
+                    same_list(chain, &outcome->typed, &outcome->typed_hedge) &&
+                    same_list(chain, &outcome->copied, &outcome->copied_hedge) &&
+                    same_trader_view(&outcome->typed_hedge, &outcome->copied_hedge);
     find_unknown(outcome, chain, tidied);
     measure(outcome, chain, tidied);
+    measure_hedge(outcome, chain, tidied);
 }
 
 void outcome_free(struct outcome *outcome)
@@ -303,4 +332,6 @@ void outcome_free(struct outcome *outcome)
     free(outcome->typed.truths);
     free(outcome->returned.truths);
     free(outcome->copied.truths);
+    hedged_free(&outcome->typed_hedge);
+    hedged_free(&outcome->copied_hedge);
 }

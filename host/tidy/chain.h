@@ -5,6 +5,7 @@
 #ifndef CHAIN_H
 #define CHAIN_H
 
+#include "hedged.h"
 #include "tidy.h"
 
 struct chain {
@@ -37,9 +38,11 @@ struct run {
 /* What a chain says of a screen as typed, as returned and as copied out. */
 struct outcome {
     struct run typed, returned, copied;
-    bool same;                              /* rows pass as typed, as returned and as copied */
+    struct hedged typed_hedge, copied_hedge; /* the same rows by the hedge list */
+    bool same; /* rows pass as typed, as returned and as copied, row by row and by the hedge list */
     size_t unknown_by[SCREEN_MAX_COLUMNS];  /* rows that are unknown as typed for a null in this column */
     double typed_ns, returned_ns, copied_ns; /* a row */
+    double hedge_ns;                         /* a row of the screen copied out, by the hedge list */
 };
 
 void chain_run(struct outcome *outcome, const struct chain *chain, const struct tidied *tidied);

@@ -104,6 +104,26 @@ static void add_counts(struct text *out, const char *name, const struct run *run
              run->counts[2], run->counts[0], run->counts[1], ns);
 }
 
+static void add_hedge(struct text *out, const char *name, const struct hedged *hedged)
+{
+    text_add(out, "      \"%s\": {\"trader\": {\"passed\": %llu, \"not_passed\": %llu}, \"risk\": {\"passed\": %llu, "
+                  "\"false\": %llu, \"unknown\": %llu}},\n",
+             name, (unsigned long long)hedged->trader.passed, (unsigned long long)hedged->trader.not_passed,
+             (unsigned long long)hedged->risk.passed, (unsigned long long)hedged->risk.is_false,
+             (unsigned long long)hedged->risk.unknown);
+}
+
+static void add_hedges(struct text *out, const struct outcome *outcome)
+{
+    const struct hedged *typed = &outcome->typed_hedge, *copied = &outcome->copied_hedge;
+    text_add(out, "    \"hedge\": {\n");
+    add_hedge(out, "typed", typed);
+    add_hedge(out, "tidied", copied);
+    text_add(out, "      \"same_trader_view\": %s,\n      \"same_risk_view\": %s,\n      \"ns\": %.0f\n    },\n",
+             same_trader_view(typed, copied) ? "true" : "false", same_risk_view(typed, copied) ? "true" : "false",
+             outcome->hedge_ns);
+}
+
 static void add_chain(struct text *out, const struct build *build, const struct run_files *files)
 {
     const struct outcome *outcome = files->outcome;
@@ -114,6 +134,7 @@ static void add_chain(struct text *out, const struct build *build, const struct 
     add_counts(out, "typed", &outcome->typed, outcome->typed_ns);
     add_counts(out, "returned", &outcome->returned, outcome->returned_ns);
     add_counts(out, "copied", &outcome->copied, outcome->copied_ns);
+    add_hedges(out, outcome);
     text_add(out, "    \"unknown_for_null\": {");
     for (size_t i = 0; i < build->lent.table_len; i++)
         if (outcome->unknown_by[i] > 0) {

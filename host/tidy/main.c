@@ -256,7 +256,11 @@ static bool write_saved(const struct session *session)
 /* Promised never to happen, so it is told whatever was asked to be printed. */
 static enum status differs(const struct session *session)
 {
-    uint32_t refusal = session->outcome.typed.refusal | session->outcome.copied.refusal;
+    const struct outcome *outcome = &session->outcome;
+    uint32_t refusal = outcome->typed.refusal != 0          ? outcome->typed.refusal
+                       : outcome->copied.refusal != 0       ? outcome->copied.refusal
+                       : outcome->typed_hedge.refusal != 0  ? outcome->typed_hedge.refusal
+                                                            : outcome->copied_hedge.refusal;
     if (refusal != 0)
         fprintf(stderr, "tidy: a row was refused, number %u: %s\n", (unsigned)refusal, screen_refusal_text(refusal));
     else

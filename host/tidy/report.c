@@ -155,10 +155,29 @@ static void add_rows(struct text *out, struct page page, const char *title, cons
     text_free(&rows);
 }
 
-static void add_counts(struct text *out, const char *title, const struct run *run)
+/* Both views of the hedge list's tally. */
+static void add_views(struct text *out, struct page page, const struct outcome *outcome)
 {
-    text_add(out, "    %-9s  %6zu passed  %6zu false  %6zu unknown\n", title, run->counts[2], run->counts[0],
-             run->counts[1]);
+    const struct hedged *hedges[2] = {&outcome->typed_hedge, &outcome->copied_hedge};
+    static const char *const TITLES[2] = {"as typed", "as tidied"};
+    bool trader = same_trader_view(hedges[0], hedges[1]), risk = same_risk_view(hedges[0], hedges[1]);
+    struct text line = {NULL, 0, 0};
+    for (unsigned i = 0; i < 2; i++)
+        text_add(out, "    %-13s  %-9s  %6llu passed  %6llu not passed\n", i == 0 ? "trader's view" : "", TITLES[i],
+                 (unsigned long long)hedges[i]->trader.passed, (unsigned long long)hedges[i]->trader.not_passed);
+    for (unsigned i = 0; i < 2; i++)
+        text_add(out, "    %-13s  %-9s  %6llu passed  %6llu false  %6llu unknown\n", i == 0 ? "risk view" : "",
+                 TITLES[i], (unsigned long long)hedges[i]->risk.passed, (unsigned long long)hedges[i]->risk.is_false,
+                 (unsigned long long)hedges[i]->risk.unknown);
+    if (!trader)
+        text_add(&line, "THE TRADER'S VIEW IS NOT THE SAME.");
+    else if (!risk)
+        text_add(&line, "The trader's view is the same as typed and as tidied. The risk view is not: a row that does not "
+                        "pass may be unknown on one side and false on the other.");
+    else
+        text_add(&line, "Both views are the same as typed and as tidied.");
+    add_wrapped(out, page, trader ? STYLE_PLAIN : STYLE_BAD, &line);
+    text_free(&line);
 }
 
 /* A row that is unknown may be so for several columns. */
@@ -183,6 +202,7 @@ static void add_speed(struct text *out, struct page page, const struct outcome *
     text_add(&line, "A row takes %.0f ns as typed, %.0f ns as returned, %.0f ns as copied out, which is what to run.",
              outcome->typed_ns, outcome->returned_ns, outcome->copied_ns);
     add_wrapped(out, page, STYLE_PLAIN, &line);
+    text_add(out, "A row of a hedge list takes %.0f ns as copied out.\n", outcome->hedge_ns);
     text_free(&line);
 }
 
@@ -190,8 +210,7 @@ void report_chain(struct text *out, struct page page, const struct tidied *tidie
                   const struct outcome *outcome, const char *name)
 {
     text_add(out, "\n%s: %zu row%s\n", name, chain->rows, chain->rows == 1 ? "" : "s");
-    add_counts(out, "as typed", &outcome->typed);
-    add_counts(out, "as tidied", &outcome->copied);
+    add_views(out, page, outcome);
     add_unknown(out, page, tidied->build, outcome);
     if (chain->rows > 0)
         add_speed(out, page, outcome);

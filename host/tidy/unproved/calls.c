@@ -7,6 +7,9 @@
 void screen_check(void);
 void screen_rewrite(void);
 void screen_test_row(void);
+void screen_hedge_list(void);
+void screen_trader_view(void);
+void screen_risk_view(void);
 void screen_columns_read(void);
 void screen_save(void);
 void screen_load(void);
@@ -23,6 +26,21 @@ void screen_rewrite(void)
 }
 
 void screen_test_row(void)
+{
+    _Exit(77);
+}
+
+void screen_hedge_list(void)
+{
+    _Exit(77);
+}
+
+void screen_trader_view(void)
+{
+    _Exit(77);
+}
+
+void screen_risk_view(void)
 {
     _Exit(77);
 }

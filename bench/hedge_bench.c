@@ -1,0 +1,261 @@
+/*
+ * The hedge list over a chain of 1,024 rows. First a screen of 10 lines beside C written by hand for that very screen, which
+ * makes the same checks of the rows, knows the screen and so checks none: goal 2 times. Then the slowest families of screens
+ * known for rows: a full tree, the deepest ones, long lists; goal 15 ms each.
+ *
+ * A refused answer, or another list than screen_test_row or the C by hand gives, fails the run; a time never does.
+ */
+#define _POSIX_C_SOURCE 199309L
+#include "make.h"
+#include "measure.h"
+
+enum { COLUMNS = 8, ROWS = SCREEN_MAX_ROWS, ROW_BYTES = 8 * COLUMNS, GOAL_MS = 15 };
+
+static struct made now;
+static uint8_t values[ROWS * ROW_BYTES];
+static uint64_t nulls[ROWS];
+static uint8_t list[2 * ROWS];
+static unsigned met, goals;
+
+/* A chain's answer: the list, and the rows in each class. */
+static uint64_t call_ours(void)
+{
+    struct screen_tally tally = {0, 0, 0};
+    uint64_t count = 0;
+    uint32_t answer = screen_lent_hedge_list(&now.s, values, sizeof values, nulls, ROWS, list, sizeof list, &tally, &count);
+    return screen_refused(answer) ? 0 : answer + count + (tally.is_false << 20) + (tally.unknown << 40);
+}
+
+/* The same by a call a row, which checks the screen each time. */
+static uint64_t call_rows(void)
+{
+    uint64_t counts[3] = {0, 0, 0};
+    for (size_t r = 0; r < ROWS; r++) {
+        uint32_t answer = screen_lent_test_row(&now.s, values + ROW_BYTES * r, ROW_BYTES, nulls[r]);
+        if (screen_refused(answer))
+            return 0;
+        counts[answer - SCREEN_FALSE]++;
+    }
+    return SCREEN_HEDGED + counts[2] + (counts[0] << 20) + (counts[1] << 40);
+}
+
+/* ------------------------------------------------------------------------------------------------------- 10 lines */
+
+static uint32_t ten_line(unsigned n)
+{
+    switch (n) {
+    case 0: return line(&now, SCREEN_OP_GT, 0, 2);
+    case 1: return range(&now, 1, 0, 50);
+    case 2: return line(&now, SCREEN_OP_GT_EQ, 2, 2);
+    case 3: return member(&now, 3, 9, 5);
+    case 4: return line(&now, SCREEN_OP_GT, 4, 2);
+    case 5: return screen_put_is_not_null(&now.s, screen_put_column(&now.s, 5));
+    case 6: return line(&now, SCREEN_OP_GT_EQ, 6, 2);
+    case 7: return line(&now, SCREEN_OP_NOT_EQ, 7, 3);
+    case 8: return line(&now, SCREEN_OP_LT, 0, 500);
+    default: return line(&now, SCREEN_OP_EQ, 1, 11);
+    }
+}
+
+static void make_ten(void)
+{
+    uint32_t top;
+    make(&now, COLUMNS, SCREEN_TYPE_DAY);
+    top = ten_line(0);
+    for (unsigned n = 1; n < 10; n++)
+        top = screen_put_and(&now.s, top, ten_line(n));
+}
+
+/* Unknown if the cell is null. */
+static inline unsigned told(uint64_t marks, unsigned column, int truth)
+{
+    return marks >> column & 1 ? 1 : truth ? 2 : 0;
+}
+
+static inline unsigned least(unsigned a, unsigned b)
+{
+    return a < b ? a : b;
+}
+
+/* 0 false, 1 unknown, 2 true; 3 refused. */
+static unsigned by_hand_row(const uint8_t *row, uint64_t marks)
+{
+    int64_t v[COLUMNS];
+    unsigned refused = marks >> COLUMNS != 0, truth;
+    memcpy(v, row, sizeof v); /* the machine is little-endian */
+    for (unsigned i = 0; i < COLUMNS; i++)
+        refused |= v[i] < INT32_MIN || v[i] > INT32_MAX || ((marks >> i & 1) && v[i] != 0);
+    if (refused)
+        return 3;
+    truth = told(marks, 0, v[0] > 2 && v[0] < 500);
+    truth = least(truth, told(marks, 1, v[1] == 11)); /* which is between 0 and 50 */
+    truth = least(truth, told(marks, 2, v[2] >= 2));
+    truth = least(truth, told(marks, 3, v[3] >= 9 && v[3] <= 13));
+    truth = least(truth, told(marks, 4, v[4] > 2));
+    truth = least(truth, marks >> 5 & 1 ? 0 : 2);
+    truth = least(truth, told(marks, 6, v[6] >= 2));
+    return least(truth, told(marks, 7, v[7] != 3));
+}
+
+static uint8_t hand_list[2 * ROWS];
+
+static uint64_t call_hand(void)
+{
+    static uint8_t classes[ROWS];
+    uint64_t counts[4] = {0, 0, 0, 0}, count = 0;
+    for (size_t r = 0; r < ROWS; r++) {
+        classes[r] = (uint8_t)by_hand_row(values + ROW_BYTES * r, nulls[r]);
+        counts[classes[r]]++;
+    }
+    if (counts[3] != 0)
+        return 0;
+    for (size_t r = 0; r < ROWS; r++)
+        if (classes[r] == 2) {
+            hand_list[2 * count] = (uint8_t)(r % 256);
+            hand_list[2 * count + 1] = (uint8_t)(r / 256);
+            count++;
+        }
+    return SCREEN_HEDGED + count + (counts[0] << 20) + (counts[1] << 40);
+}
+
+static void put_cell(size_t row, unsigned column, int64_t value)
+{
+    screen_store_value(values + ROW_BYTES * row + 8 * column, value);
+}
+
+/* Column i holds 10 + i; in three rows of four one cell is null, or has another value. */
+static void make_chain(void)
+{
+    uint64_t state = 88172645463325252u;
+    memset(nulls, 0, sizeof nulls);
+    for (size_t r = 0; r < ROWS; r++) {
+        unsigned column;
+        for (unsigned i = 0; i < COLUMNS; i++)
+            put_cell(r, i, 10 + i);
+        state = state * 6364136223846793005u + 1442695040888963407u;
+        column = (unsigned)(state >> 33) % COLUMNS;
+        if (r % 4 == 1 || r % 4 == 2)
+            put_cell(r, column, (int64_t)(state >> 40) % 20);
+        if (r % 4 == 3) {
+            put_cell(r, column, 0);
+            nulls[r] = UINT64_C(1) << column;
+        }
+    }
+}
+
+static int ten_lines(void)
+{
+    static struct taken taken;
+    const work works[3] = {call_ours, call_hand, call_rows};
+    uint64_t answer;
+    make_ten();
+    make_chain();
+    answer = call_ours();
+    if (answer == 0 || answer != call_hand() || answer != call_rows() ||
+        memcmp(list, hand_list, 2 * ((answer & 0xfffff) - SCREEN_HEDGED)) != 0) {
+        printf("hedge list, 10 lines: other answers than expected\n");
+        return 1;
+    }
+    measure(&taken, works, 3, ROUNDS, 3);
+    goals++;
+    met += print_goal("hedge list, 10 lines over 1,024 rows", taken.by[0], taken.by[1], ROUNDS, "by hand", 2.0);
+    print_ratio("the same beside a call a row", taken.by[0], taken.by[2], ROUNDS, "by rows");
+    printf("hedge list, 10 lines over 1,024 rows: %.3f ms\n", measure_median(taken.by[0], ROUNDS) / 1e6);
+    return 0;
+}
+
+/* ------------------------------------------------------------------------------------------------- slowest families */
+
+/* The least of some runs, one of a slow screen. */
+static int family(const char *name)
+{
+    double least_ms = 0;
+    for (unsigned i = 0; i < 5 && (i == 0 || least_ms < 100); i++) {
+        double ms;
+        uint64_t answer = 0;
+        struct timespec from, to;
+        clock_gettime(CLOCK_PROCESS_CPUTIME_ID, &from);
+        answer = call_ours();
+        clock_gettime(CLOCK_PROCESS_CPUTIME_ID, &to);
+        ms = (double)(to.tv_sec - from.tv_sec) * 1e3 + (double)(to.tv_nsec - from.tv_nsec) / 1e6;
+        if (answer == 0) {
+            printf("hedge list, %s: refused\n", name);
+            return 1;
+        }
+        least_ms = i == 0 || ms < least_ms ? ms : least_ms;
+    }
+    goals++;
+    met += least_ms <= GOAL_MS;
+    printf("hedge list, %-52s %10.3f ms   goal %d ms %s\n", name, least_ms, GOAL_MS, least_ms <= GOAL_MS ? "met" : "missed");
+    return 0;
+}
+
+/* All rows alike but for column 0: column i holds 10 + i, column 0 an odd number of its own. */
+static void make_plain_chain(void)
+{
+    memset(nulls, 0, sizeof nulls);
+    for (size_t r = 0; r < ROWS; r++)
+        for (unsigned i = 0; i < COLUMNS; i++)
+            put_cell(r, i, i == 0 ? 2 * (int64_t)r + 11 : 10 + i);
+}
+
+static int full_tree(void)
+{
+    uint32_t top;
+    make(&now, COLUMNS, SCREEN_TYPE_INT);
+    top = line(&now, SCREEN_OP_GT, 0, 2);
+    for (unsigned n = 1; now.s.used + 4 <= SCREEN_MAX_RECORDS; n++)
+        top = screen_put_and(&now.s, top, line(&now, SCREEN_OP_GT, n % COLUMNS, 2));
+    return family("a full tree of 1,024 lines");
+}
+
+static int nots(void)
+{
+    uint32_t top;
+    make(&now, COLUMNS, SCREEN_TYPE_INT);
+    top = screen_put_is_null(&now.s, screen_put_column(&now.s, 0));
+    while (now.s.used < SCREEN_MAX_RECORDS)
+        top = screen_put_not(&now.s, top);
+    return family("4,094 Nots");
+}
+
+static int divisions(void)
+{
+    uint32_t top, divisor;
+    make(&now, COLUMNS, SCREEN_TYPE_INT);
+    divisor = screen_put_int(&now.s, -1);
+    top = screen_put_column(&now.s, 0);
+    while (now.s.used < 2046)
+        top = screen_put_floor_divide(&now.s, top, divisor);
+    screen_put_is_not_null(&now.s, top);
+    return family("2,044 divisions, one of the other");
+}
+
+/* `count` is_in of column 0, each over the pool from its own place on; no row is in a list, so each is searched whole. */
+static int lists(const char *name, unsigned count)
+{
+    uint32_t top = 0;
+    make(&now, COLUMNS, SCREEN_TYPE_INT);
+    for (unsigned i = 0; i < SCREEN_MAX_POOL_VALUES; i++)
+        screen_put_pool(&now.s, 2 * (int64_t)(i * 2654435761u % 8192));
+    for (unsigned n = 0; n < count; n++) {
+        uint32_t x = screen_put_column(&now.s, 0);
+        uint32_t part = screen_put(&now.s, SCREEN_KIND_LIST, 0, SCREEN_TYPE_INT, n, SCREEN_MAX_POOL_VALUES - n, 0);
+        uint32_t next = screen_put_is_in(&now.s, x, part, 0);
+        top = n == 0 ? next : screen_put_or(&now.s, top, next);
+    }
+    return family(name);
+}
+
+int main(void)
+{
+    int differ = ten_lines();
+    make_plain_chain();
+    differ |= full_tree();
+    differ |= nots();
+    differ |= divisions();
+    differ |= lists("one list of 8,192 values", 1);
+    differ |= lists("1,024 lists over parts of 8,192 values", 1024);
+    printf("goals met: %u of %u\n", met, goals);
+    return differ;
+}

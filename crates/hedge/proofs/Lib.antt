@@ -1,0 +1,4 @@
+pub mod Rows
+pub mod Lists
+pub mod Answers
+pub mod Promised

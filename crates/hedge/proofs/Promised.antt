@@ -1,0 +1,128 @@
+-- From what the code inside hands on to what the call promises.
+-- Assumes nothing.
+use mathlib.Core.Path.{_≡_, refl, sym, _∙_, subst}
+use mathlib.Core.Bool.{Bool, true, false, cond}
+use mathlib.Core.List.{List}
+use Prim.Native.Nat.{ℕ, zero, suc, _*_, _≤_}
+use native.Mathlib.Omega.{arith}
+use lib.Dec.{ltb, eqb}
+use lib.ListN.{length}
+use Rattle.records.specs.Bytes.{all}
+use Rattle.checking.specs.Tree.{treeCount}
+use Rattle.truth.specs.declared.test.RowAnswer.{RowAnswer}
+use Rattle.hedge.specs.Chain.{answerAt, passes, isFalse, isUnknown, isTested, count}
+use Rattle.checking.specs.Check.{checkAnswer}
+use Rattle.checking.specs.declared.check.CheckAnswer.{CheckAnswer}
+use Rattle.checking.specs.declared.check.CheckAnswer.the-variants as check
+use Rattle.checking.proofs.Answers.{refused-numbered}
+use Rattle.tally.specs.declared.Tally.{Tally}
+use Rattle.tally.specs.Sums.{grown, sumsFit, added}
+use Rattle.tally.proofs.Sums.{added-grown, added-none}
+use Rattle.hedge.specs.declared.Hedged.{Hedged}
+use Rattle.hedge.specs.declared.list.HedgeAnswer.{HedgeAnswer}
+use Rattle.hedge.specs.declared.list.HedgeAnswer.the-variants.{Refused, Listed}
+use Rattle.hedge.specs.Hedge.{sumsAnswer, countsAnswer, rowsAnswer, roomOk, checkedAnswer, answerIf, hedgeAnswer, hedgeBytes}
+use Rattle.hedge.specs.Hedge.{hedgeNumber, tallyOut}
+use Rattle.hedge.specs.Calls.{hedgeListed, passedOf, falseOf, unknownOf, Numbered, HedgePromise}
+
+-- the tally may grow by what the answer says
+abbrev fitsOf : Tally → HedgeAnswer → Bool
+fitsOf old (Refused k) = true
+fitsOf old (Listed p f u) = sumsFit old p f u
+
+-- so what `add` leaves is the tally afterwards
+tally-is : (old : Tally) (a : HedgeAnswer) → fitsOf old a ≡ true
+    → added old (passedOf a) (falseOf a) (unknownOf a) ≡ tallyOut a old
+tally-is old (Refused k) e = added-none old
+tally-is old (Listed p f u) e = sym (added-grown old p f u e)
+
+-- a test picks one of two answers
+pick : (P : HedgeAnswer → Type 0) (b : Bool) (x y : HedgeAnswer) → P x → P y → P (cond b x y)
+pick P true x y h k = h
+pick P false x y h k = k
+
+sums-fit : (tally : Tally) (p f u : ℕ) → fitsOf tally (sumsAnswer tally p f u) ≡ true
+unfolding sumsAnswer
+sums-fit tally p f u = go (sumsFit tally p f u) refl
+  where
+    go : (b : Bool) → sumsFit tally p f u ≡ b → fitsOf tally (cond b (Listed p f u) (Refused 21)) ≡ true
+    go true e = e
+    go false e = refl
+
+-- 1 to 7 stand first in the list
+first-seven : (k : ℕ) → 1 ≤ k → k ≤ 7 → hedgeListed k ≡ true
+first-seven zero h g = absurd (omega (arith, h))
+first-seven (suc zero) h g = refl
+first-seven (suc (suc zero)) h g = refl
+first-seven (suc (suc (suc zero))) h g = refl
+first-seven (suc (suc (suc (suc zero)))) h g = refl
+first-seven (suc (suc (suc (suc (suc zero))))) h g = refl
+first-seven (suc (suc (suc (suc (suc (suc zero)))))) h g = refl
+first-seven (suc (suc (suc (suc (suc (suc (suc zero))))))) h g = refl
+first-seven (suc (suc (suc (suc (suc (suc (suc (suc k)))))))) h g = absurd (omega (arith, g))
+
+module _ (t rs p : List ℕ) (used root : ℕ) (values nulls : List ℕ) (bytes : ℕ) (tally : Tally) where
+  abbrev A : ℕ → RowAnswer
+  A = answerAt t rs p used root values nulls
+
+  abbrev n : ℕ
+  n = length nulls
+
+  -- what holds of the refusals and of the sums' answer holds of the answer
+  module _ (P : HedgeAnswer → Type 0) (seven : (k : ℕ) → 1 ≤ k → k ≤ 7 → P (Refused k)) (p8 : P (Refused 8))
+      (p20 : P (Refused 20)) (p12 : P (Refused 12)) (p13 : P (Refused 13)) (sums : (a b c : ℕ) → P (sumsAnswer tally a b c)) where
+    of-counts : P (countsAnswer A n tally)
+    unfolding countsAnswer
+    of-counts =
+        sums (count (λ r. passes (A r)) n) (count (λ r. isFalse (A r)) n) (count (λ r. isUnknown (A r)) n)
+
+    of-rows : P (rowsAnswer A n tally)
+    unfolding rowsAnswer
+    of-rows = pick P (all (λ r. isTested (A r)) n) (countsAnswer A n tally) (Refused 13) of-counts p13
+
+    abbrev long : Bool
+    long = eqb (length values) (8 * length t * n)
+
+    of-checked : P (checkedAnswer t rs p used root values nulls bytes tally)
+    unfolding checkedAnswer
+    of-checked =
+        pick P (ltb 4096 (treeCount rs root)) (Refused 8)
+        (cond (roomOk n bytes) (cond long (rowsAnswer A n tally) (Refused 12)) (Refused 20)) p8
+        (pick P (roomOk n bytes) (cond long (rowsAnswer A n tally) (Refused 12)) (Refused 20)
+        (pick P long (rowsAnswer A n tally) (Refused 12) of-rows p12) p20)
+
+    of-answer : P (hedgeAnswer t rs p used root values nulls bytes tally)
+    unfolding hedgeAnswer
+    of-answer = go (checkAnswer t rs p used root) refl
+      where
+        go : (a : CheckAnswer) → checkAnswer t rs p used root ≡ a
+            → P (answerIf a (checkedAnswer t rs p used root values nulls bytes tally))
+        go (check.Refused k) e = let m = refused-numbered t rs p used root k e in seven k (m .0) (m .1)
+        go check.Accepted e = of-checked
+
+  answer-fits : fitsOf tally (hedgeAnswer t rs p used root values nulls bytes tally) ≡ true
+  answer-fits =
+      of-answer (λ a. fitsOf tally a ≡ true) (λ k h g. refl) refl refl refl refl (λ a b c. sums-fit tally a b c)
+
+  sums-listed : (a b c : ℕ) → hedgeListed (hedgeNumber (sumsAnswer tally a b c)) ≡ true
+  unfolding sumsAnswer
+  sums-listed a b c = pick (λ x. hedgeListed (hedgeNumber x) ≡ true) (sumsFit tally a b c) (Listed a b c) (Refused 21) refl refl
+
+  answer-listed : hedgeListed (hedgeNumber (hedgeAnswer t rs p used root values nulls bytes tally)) ≡ true
+  answer-listed =
+      of-answer (λ a. hedgeListed (hedgeNumber a) ≡ true) first-seven refl refl refl refl sums-listed
+
+pub promised : (t rs p : List ℕ) (used root : ℕ) (values nulls : List ℕ) (h : Hedged) (oldList list : List ℕ)
+    (oldTally tally : Tally) (oldCount count : ℕ)
+    → Numbered (hedgeAnswer t rs p used root values nulls (length oldList) oldTally)
+    (hedgeBytes t rs p used root values nulls oldList oldTally) h list oldCount count
+    → tally ≡ added oldTally (h .passed) (h .«is_false») (h .unknown)
+    → HedgePromise t rs p used root values nulls (h .number) oldList list oldTally tally oldCount count
+promised t rs p used root values nulls h oldList list oldTally tally oldCount count n g = (
+  subst (λ k. hedgeListed k ≡ true) (sym (n .0)) (answer-listed t rs p used root values nulls (length oldList) oldTally),
+  n .0,
+  n .4,
+  g ∙ rw (n .1, n .2, n .3) (tally-is oldTally (hedgeAnswer t rs p used root values nulls (length oldList) oldTally)
+      (answer-fits t rs p used root values nulls (length oldList) oldTally)),
+  n .5,
+)

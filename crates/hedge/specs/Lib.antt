@@ -1,0 +1,4 @@
+pub mod Chain
+pub mod Hedge
+pub mod Classes
+pub mod Calls

@@ -1,0 +1,228 @@
+// The hedge list of a chain: the refusals in their order, the rows' classes, and then the list.
+ghost use mathlib.Core.Path.{_≡_};
+ghost use mathlib.Core.Bool.{cond};
+ghost use Prim.Native.Nat.{ℕ, _+_, _*_, _/_, _%_, _≤_, _<_, min};
+ghost use mathlib.Core.List.{List, [], _∷_};
+ghost use lib.Dec.{eqb};
+ghost use lib.ListN.{length, getD};
+ghost use Rattle.checking.specs.Checked.{Checked};
+ghost use Rattle.checking.specs.Tree.{treeCount};
+ghost use Rattle.files.specs.Format.{overwrite};
+ghost use Rattle.truth.specs.declared.test.RowAnswer.{RowAnswer};
+ghost use Rattle.hedge.specs.Chain.{answerAt, count, numbers, bytesOf};
+ghost use Rattle.hedge.specs.Hedge.{countsAnswer, checkedAnswer, listIf, hedgeAnswer, hedgeBytes};
+ghost use Rattle.hedge.specs.Classes.{Judged};
+use crate::judge::judge_rows;
+use checking::check::CheckAnswer;
+use checking::check::check_counted;
+use records::record::Node;
+use tally::Tally;
+use tally::sums_fit;
+
+// A refusal with its number, or how many rows passed, were false, were unknown.
+pub enum HedgeAnswer {
+    Refused(u32),
+    Listed(u64, u64, u64),
+}
+
+fn one_if(a: u8, b: u8) -> u64
+    ensures { λ r. ⌜ r ≡ cond (eqb a b) 1 0 ⌝ }
+{
+    if a == b {
+        return 1;
+    }
+    0
+}
+
+// How many of the first `rows` classes are `class`.
+fn count_class(classes: &[u8], rows: usize, class: u8) -> u64
+    requires { ⌜ rows ≤ length (now classes) ⌝ }
+    ensures { λ r. ⌜ r ≡ count (λ (i : ℕ). eqb (getD (now (classes .entry)) i 0) class) rows ⌝ }
+{
+    let mut n: u64 = 0;
+    let mut i: usize = 0;
+    while i < rows {
+        n += one_if(classes[i], class);
+        i += 1;
+    }
+    n
+}
+
+// The number of a row that passes, two bytes, at `at`; where the next one goes.
+fn put_number(list: &mut [u8], at: usize, number: usize, class: u8) -> usize
+    requires { ⌜ at + 2 ≤ length (now list) ⌝ }
+    requires { ⌜ number < 1024 ⌝ }
+    ensures { λ r. ⌜ r ≡ at + cond (eqb class 2) 2 0 ⌝ }
+    ensures { λ _. ⌜ now (list .exit) ≡ cond (eqb class 2)
+        (overwrite (now (list .entry)) at (number % 256 ∷ number / 256 ∷ [])) (now (list .entry)) ⌝ }
+{
+    if class != 2 {
+        return at;
+    }
+    list[at] = (number % 256) as u8;
+    list[at + 1] = (number / 256) as u8;
+    at + 2
+}
+
+// The numbers of the rows whose class is 2, into the list's first places.
+fn write_list(classes: &[u8], rows: usize, list: &mut [u8])
+    requires { ⌜ rows ≤ length (now classes) ⌝ }
+    requires { ⌜ rows ≤ 1024 ⌝ }
+    requires { ⌜ 2 * rows ≤ length (now list) ⌝ }
+    ensures { λ _. ⌜ now (list .exit) ≡ overwrite (now (list .entry)) 0
+        (bytesOf (numbers (λ (i : ℕ). eqb (getD (now (classes .entry)) i 0) 2) rows)) ⌝ }
+{
+    let mut at: usize = 0;
+    let mut i: usize = 0;
+    while i < rows {
+        at = put_number(list, at, i, classes[i]);
+        i += 1;
+    }
+}
+
+// The rows are judged. 21, or the list is written.
+fn list_rows(classes: &[u8], rows: usize, list: &mut [u8], tally: Tally) -> HedgeAnswer
+    requires { ⌜ rows ≤ length (now classes) ⌝ }
+    requires { ⌜ rows ≤ 1024 ⌝ }
+    requires { ⌜ 2 * rows ≤ length (now list) ⌝ }
+    ensures { λ r. ⌜ ((answers : ℕ → RowAnswer) → Judged answers (now (classes .entry)) rows
+        → r ≡ countsAnswer answers rows tally) ⌝ }
+    ensures { λ r. ⌜ ((answers : ℕ → RowAnswer) → Judged answers (now (classes .entry)) rows
+        → now (list .exit) ≡ listIf r (now (list .entry)) answers rows) ⌝ }
+{
+    let passed = count_class(classes, rows, 2);
+    let is_false = count_class(classes, rows, 0);
+    let unknown = count_class(classes, rows, 1);
+    if !sums_fit(tally, passed, is_false, unknown) {
+        return HedgeAnswer::Refused(21);
+    }
+    write_list(classes, rows, list);
+    HedgeAnswer::Listed(passed, is_false, unknown)
+}
+
+// The screen was accepted, and its root has the tree count: 8, 20, 12, 13, then the list.
+fn list_checked(
+    table: &[u8],
+    records: &[u8],
+    pool: &[u8],
+    used: u64,
+    root: Node,
+    tree: u16,
+    values: &[u8],
+    nulls: &[u64],
+    list: &mut [u8],
+    tally: Tally,
+    classes: &mut [u8],
+) -> HedgeAnswer
+    requires { ⌜ Checked (now table) (now records) (now pool) used (root .0) ⌝ }
+    requires { ⌜ tree ≡ min (treeCount (now records) (root .0)) 4097 ⌝ }
+    requires { ⌜ 1024 ≤ length (now classes) ⌝ }
+    ensures { λ r. ⌜ r ≡ checkedAnswer (now (table .entry)) (now (records .entry)) (now (pool .entry)) used (root .0)
+        (now (values .entry)) (now (nulls .entry)) (length (now (list .entry))) tally ⌝ }
+    ensures { λ r. ⌜ now (list .exit) ≡ listIf r (now (list .entry)) (answerAt (now (table .entry)) (now (records .entry))
+        (now (pool .entry)) used (root .0) (now (values .entry)) (now (nulls .entry))) (length (now (nulls .entry))) ⌝ }
+{
+    if 4096 < tree {
+        return HedgeAnswer::Refused(8);
+    }
+    if 1024 < nulls.len() {
+        return HedgeAnswer::Refused(20);
+    }
+    if list.len() / 2 < nulls.len() {
+        return HedgeAnswer::Refused(20);
+    }
+    if values.len() != 8 * table.len() * nulls.len() {
+        return HedgeAnswer::Refused(12);
+    }
+    if !judge_rows(
+        table,
+        records,
+        pool,
+        used,
+        root,
+        tree,
+        values,
+        nulls,
+        classes,
+    ) {
+        return HedgeAnswer::Refused(13);
+    }
+    list_rows(classes, nulls.len(), list, tally)
+}
+
+fn list_within(
+    table: &[u8],
+    records: &[u8],
+    pool: &[u8],
+    used: u64,
+    root: u64,
+    values: &[u8],
+    nulls: &[u64],
+    list: &mut [u8],
+    tally: Tally,
+    types: &mut [u8],
+    trees: &mut [u16],
+    classes: &mut [u8],
+) -> HedgeAnswer
+    requires { ⌜ (used ≤ 4096 → used ≤ length (now types)) ⌝ }
+    requires { ⌜ (used ≤ 4096 → used ≤ length (now trees)) ⌝ }
+    requires { ⌜ 1024 ≤ length (now classes) ⌝ }
+    ensures { λ r. ⌜ r ≡ hedgeAnswer (now (table .entry)) (now (records .entry)) (now (pool .entry)) used root
+        (now (values .entry)) (now (nulls .entry)) (length (now (list .entry))) tally ⌝ }
+    ensures { λ _. ⌜ now (list .exit) ≡ hedgeBytes (now (table .entry)) (now (records .entry)) (now (pool .entry)) used root
+        (now (values .entry)) (now (nulls .entry)) (now (list .entry)) tally ⌝ }
+{
+    let answer = check_counted(table, records, pool, used, root, types, trees);
+    match answer {
+        CheckAnswer::Refused(number) => HedgeAnswer::Refused(number),
+        CheckAnswer::Accepted => list_checked(
+            table,
+            records,
+            pool,
+            used,
+            Node(root as u32),
+            trees[root as usize],
+            values,
+            nulls,
+            list,
+            tally,
+            classes,
+        ),
+    }
+}
+
+// The screen is checked once; then all rows, and only then is the list written.
+pub fn hedge_list(
+    table: &[u8],
+    records: &[u8],
+    pool: &[u8],
+    used: u64,
+    root: u64,
+    values: &[u8],
+    nulls: &[u64],
+    list: &mut [u8],
+    tally: Tally,
+) -> HedgeAnswer
+    ensures { λ r. ⌜ r ≡ hedgeAnswer (now (table .entry)) (now (records .entry)) (now (pool .entry)) used root
+        (now (values .entry)) (now (nulls .entry)) (length (now (list .entry))) tally ⌝ }
+    ensures { λ _. ⌜ now (list .exit) ≡ hedgeBytes (now (table .entry)) (now (records .entry)) (now (pool .entry)) used root
+        (now (values .entry)) (now (nulls .entry)) (now (list .entry)) tally ⌝ }
+{
+    let mut types = [0u8; 4096];
+    let mut trees = [0u16; 4096];
+    let mut classes = [0u8; 1024];
+    list_within(
+        table,
+        records,
+        pool,
+        used,
+        root,
+        values,
+        nulls,
+        list,
+        tally,
+        &mut types,
+        &mut trees,
+        &mut classes,
+    )
+}
