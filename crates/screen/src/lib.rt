@@ -269,8 +269,8 @@ pub extern "C" fn screen_slowest(
 {
     match build_slowest(columns, table, records) {
         SlowestAnswer::Refused(k) => k,
-        SlowestAnswer::Built(node, count) => {
-            *root = node;
+        SlowestAnswer::Built(last, count) => {
+            *root = last;
             *used = count;
             256
         }

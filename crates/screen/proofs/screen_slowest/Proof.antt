@@ -16,8 +16,8 @@ enum-known-k : tie.Need-enum-known-k
 enum-known-k c = search needs
 
 -- src/lib.rt:272:30
-enum-known-node : tie.Need-enum-known-node
-enum-known-node c = search needs
+enum-known-last : tie.Need-enum-known-last
+enum-known-last c = search needs
 
 -- src/lib.rt:248:1
 same-length : tie.Need-same-length
@@ -53,10 +53,10 @@ returns-2 c =
     let st = c .before .before .before .before .before .before .before .before .before .before .before .before
         in
     let build-slowest = c .before .before .before .before .before .before .before .build-slowest in
-    let node = c .before .node in
+    let last = c .before .last in
     slowest-ensures (st .args .columns) (st .args .table .now) (st .args .records .now) _ (sym (build-slowest
-    .ensures .0) ∙ node .given .1) _ _ (written-table _ _ _ _ _ (node .given .1) (build-slowest .ensures .1 .0))
-    (written-records _ _ _ _ _ (node .given .1) (build-slowest .ensures .1 .1)) (st .args .root .now) (st .args
+    .ensures .0) ∙ last .given .1) _ _ (written-table _ _ _ _ _ (last .given .1) (build-slowest .ensures .1 .0))
+    (written-records _ _ _ _ _ (last .given .1) (build-slowest .ensures .1 .1)) (st .args .root .now) (st .args
     .used .now)
 
 pub screen-slowest-spec : {M : Type 1} → statement M
@@ -65,7 +65,7 @@ screen-slowest-spec =
     (tie.spec
     build-slowest-requires
     enum-known-k
-    enum-known-node
+    enum-known-last
     same-length
     same-length-2
     returns
