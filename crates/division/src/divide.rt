@@ -49,7 +49,10 @@ pub fn divide(a: u64, b: u64) -> Division
     }
     if a < 9223372036854775808 {
         let n = a - 1;
-        return Division::Exact(18446744073709551615 - n / size, negated(size - 1 - n % size));
+        return Division::Exact(
+            18446744073709551615 - n / size,
+            negated(size - 1 - n % size),
+        );
     }
     let n = magnitude(a);
     if n / size == 9223372036854775808 {

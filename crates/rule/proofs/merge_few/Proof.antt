@@ -33,7 +33,7 @@ slice-aggregate-travels-far-2 c = search needs
 travels-far-requires : tie.Need-travels-far-requires
 travels-far-requires c κs =
     let st = c .before .before .before .before .before .before .before .before .before .before .before .before
-        .before .before .before .before .before .before in
+    .before .before .before .before .before .before in
     (st .pre .1 .1 .1 .1 .1, omega (arith, st .pre .1 .1 .1 .1 .0))
 
 slice-aggregate-merge-indexed : tie.Need-slice-aggregate-merge-indexed
@@ -54,20 +54,31 @@ slice-aggregate-merge-indexed-5 c = search needs
 merge-indexed-requires : tie.Need-merge-indexed-requires
 merge-indexed-requires c κs =
     let st = c .before .before .before .before .before .before .before .before .before .before .before .before
-        .before .before .before .before .before .before .before .before .before .before .before .before .before
-        .before in
+    .before .before .before .before .before .before .before .before .before .before .before .before .before
+    .before in
     let read-literals = c .before .before .before .before .before .before .before .before .before .before
-        .before .before .before .before .before .read-literals in
+    .before .before .before .before .before .read-literals in
     let travels-far = c .before .before .before .before .before .before .before .travels-far in
     let if1 = c .before .before .before .before .before .before .if1 in
     let ok = checked (st .args .t .now) (st .args .rs .now) (st .args .p .now) (st .args .used) (st .args .root
-        .0) (st .pre .0) in
-    let z = length-replicate {A = ℕ} 1024 0 in
-    ((omega (arith, z, st .pre .1 .1 .1 .1 .0), omega (arith, z), checked-used (st .args .t .now) (st .args .rs
-    .now) (st .args .p .now) (st .args .used) (st .args .root .0) ok, st .pre .1 .1 .1 .1 .1, travels-far
-    .ensures (if1 .taken)), ((λ i h. read-literals .ensures (st .args .p .now) i h), node-columns (st .args .t
-    .now) (st .args .rs .now) (st .args .p .now) (st .args .used) (st .args .root .0) ok (st .args .nodes .now)
-    (st .args .n) (st .pre .1 .1 .1 .0)))
+    .0) (st .pre .0) in
+    let z = length-replicate {A = ℕ} 1024 0 in (
+      (
+        omega (arith, z, st .pre .1 .1 .1 .1 .0),
+        omega (arith, z),
+        checked-used (st .args .t .now) (st .args .rs
+            .now) (st .args .p .now) (st .args .used) (st .args .root .0) ok,
+        st .pre .1 .1 .1 .1 .1,
+        travels-far
+            .ensures (if1 .taken),
+      ),
+      (
+        (λ i h. read-literals .ensures (st .args .p .now) i h),
+        node-columns (st .args .t
+            .now) (st .args .rs .now) (st .args .p .now) (st .args .used) (st .args .root .0) ok (st .args .nodes .now)
+            (st .args .n) (st .pre .1 .1 .1 .0),
+      ),
+    )
 
 same-length : tie.Need-same-length
 same-length c = search needs
@@ -75,8 +86,8 @@ same-length c = search needs
 returns : tie.Need-returns
 returns c =
     let st = c .before .before .before .before .before .before .before .before .before .before .before .before
-        .before .before .before .before .before .before .before .before .before .before .before .before .before
-        .before .before .before .before .before in
+    .before .before .before .before .before .before .before .before .before .before .before .before .before
+    .before .before .before .before .before in
     let merge-indexed = c .before .before .before .merge-indexed in
     rewrite-merged (st .args .t .now) (st .args .rs .now) (st .args .p .now) (st .args .used) (st .args .root
     .0) (st .pre .0) (st .args .trees .now) (st .pre .1 .0) (st .pre .1 .1 .0) (st .args .nodes .now) (st .args
@@ -104,18 +115,28 @@ slice-aggregate-merge-filter-constraints-6 c = search needs
 merge-filter-constraints-requires : tie.Need-merge-filter-constraints-requires
 merge-filter-constraints-requires c κs =
     let st = c .before .before .before .before .before .before .before .before .before .before .before .before
-        .before .before .before .before .before .before .before .before .before .before .before .before .before
-        .before .before in
+    .before .before .before .before .before .before .before .before .before .before .before .before .before
+    .before .before in
     let read-literals = c .before .before .before .before .before .before .before .before .before .before
-        .before .before .before .before .before .before .read-literals in
+    .before .before .before .before .before .before .read-literals in
     let ok = checked (st .args .t .now) (st .args .rs .now) (st .args .p .now) (st .args .used) (st .args .root
-        .0) (st .pre .0) in
-    let z = length-replicate {A = ℕ} 1024 0 in
-    ((omega (arith, z, st .pre .1 .1 .1 .1 .0), omega (arith, z), checked-used (st .args .t .now) (st .args .rs
-    .now) (st .args .p .now) (st .args .used) (st .args .root .0) ok, st .pre .1 .1 .1 .1 .1, no-index _ _ _ _
-    (omega (arith, length-replicate {A = ℕ} 1 0))), ((λ i h. read-literals .ensures (st .args .p .now) i h),
-    node-columns (st .args .t .now) (st .args .rs .now) (st .args .p .now) (st .args .used) (st .args .root .0)
-    ok (st .args .nodes .now) (st .args .n) (st .pre .1 .1 .1 .0)))
+    .0) (st .pre .0) in
+    let z = length-replicate {A = ℕ} 1024 0 in (
+      (
+        omega (arith, z, st .pre .1 .1 .1 .1 .0),
+        omega (arith, z),
+        checked-used (st .args .t .now) (st .args .rs
+            .now) (st .args .p .now) (st .args .used) (st .args .root .0) ok,
+        st .pre .1 .1 .1 .1 .1,
+        no-index _ _ _ _
+            (omega (arith, length-replicate {A = ℕ} 1 0)),
+      ),
+      (
+        (λ i h. read-literals .ensures (st .args .p .now) i h),
+        node-columns (st .args .t .now) (st .args .rs .now) (st .args .p .now) (st .args .used) (st .args .root .0)
+            ok (st .args .nodes .now) (st .args .n) (st .pre .1 .1 .1 .0),
+      ),
+    )
 
 same-length-2 : tie.Need-same-length-2
 same-length-2 c = search needs
@@ -123,8 +144,8 @@ same-length-2 c = search needs
 returns-2 : tie.Need-returns-2
 returns-2 c =
     let st = c .before .before .before .before .before .before .before .before .before .before .before .before
-        .before .before .before .before .before .before .before .before .before .before .before .before .before
-        .before .before .before .before .before .before in
+    .before .before .before .before .before .before .before .before .before .before .before .before .before
+    .before .before .before .before .before .before in
     let merge-filter-constraints = c .before .before .before .merge-filter-constraints in
     rewrite-merged (st .args .t .now) (st .args .rs .now) (st .args .p .now) (st .args .used) (st .args .root
     .0) (st .pre .0) (st .args .trees .now) (st .pre .1 .0) (st .pre .1 .1 .0) (st .args .nodes .now) (st .args

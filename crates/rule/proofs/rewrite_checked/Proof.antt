@@ -37,7 +37,7 @@ returns c =
     let e = st .pre .1 .0 (st .args .root .0) (omega arith) in
     let k : 4096 < treeCount (st .args .rs .now) (st .args .root .0) = omega (arith, e, if1 .taken) in
     let h = rewrite-8 (st .args .t .now) (st .args .rs .now) (st .args .p .now) (st .args .used) (st .args .root
-        .0) (st .pre .0) k in
+    .0) (st .pre .0) k in
     (refused .ensures ∙ sym (h .0), (sym (h .1), none-said _ 8 _ _ (refused .ensures)))
 
 -- src/lib.rt:190:5

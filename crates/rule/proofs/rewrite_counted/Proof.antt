@@ -27,9 +27,11 @@ minterms-requires : tie.Need-minterms-requires
 minterms-requires c κs =
     let st = c .before .before .before .before .before .before in
     let ok = checked (st .args .t .now) (st .args .rs .now) (st .args .p .now) (st .args .used) (st .args .root
-        .0) (st .pre .0) in
-    (walked-inputs (st .args .t .now) (st .args .rs .now) (st .args .p .now) (st .args .used) (st .args .root
-    .0) ok, search needs)
+    .0) (st .pre .0) in (
+      walked-inputs (st .args .t .now) (st .args .rs .now) (st .args .p .now) (st .args .used) (st .args .root
+          .0) ok,
+      search needs,
+    )
 
 -- src/lib.rt:159:9
 refused-requires : tie.Need-refused-requires
@@ -46,10 +48,14 @@ returns c =
     let minterms = c .before .before .before .minterms in
     let if1 = c .before .if1 in
     let refused = c .refused in
-    let k : 128 < length (mt.minterms (walked (st .args .rs .now)) (st .args .root .0)) = omega (arith, minterms
-        .ensures .0, if1 .taken) in
+    let k : 128 < length (mt.minterms (walked (st .args .rs .now)) (st .args .root .0)) = omega (
+      arith,
+      minterms
+          .ensures .0,
+      if1 .taken,
+    ) in
     let h = rewrite-9 (st .args .t .now) (st .args .rs .now) (st .args .p .now) (st .args .used) (st .args .root
-        .0) (st .pre .0) (st .pre .1 .1) k in
+    .0) (st .pre .0) (st .pre .1 .1) k in
     (refused .ensures ∙ sym (h .0), (sym (h .1), none-said _ 9 _ _ (refused .ensures)))
 
 -- src/lib.rt:162:55
@@ -60,12 +66,15 @@ slice-aggregate-merge-few c = search needs
 merge-few-requires : tie.Need-merge-few-requires
 merge-few-requires c κs =
     let st = c .before .before .before .before .before .before .before .before .before .before .before .before
-        in
+    in
     let minterms = c .before .before .before .before .before .minterms in
     let if1 = c .before .before .before .if1 in
     let if2 = c .before .before .if2 in
-    let few : length (mt.minterms (walked (st .args .rs .now)) (st .args .root .0)) ≤ 128 = omega (arith,
-        minterms .ensures .0, if1 .left) in
+    let few : length (mt.minterms (walked (st .args .rs .now)) (st .args .root .0)) ≤ 128 = omega (
+      arith,
+      minterms .ensures .0,
+      if1 .left,
+    ) in
     (st .pre .0, (st .pre .1 .0, (st .pre .1 .1, (minterms .ensures .1 few, (if2 .taken, search needs)))))
 
 -- src/lib.rt:162:9
@@ -84,13 +93,30 @@ slice-aggregate-merge-many c = search needs
 merge-many-requires : tie.Need-merge-many-requires
 merge-many-requires c κs =
     let st = c .before .before .before .before .before .before .before .before .before .before .before .before
-        in
+    in
     let minterms = c .before .before .before .before .before .minterms in
     let if1 = c .before .before .before .if1 in
-    let few : length (mt.minterms (walked (st .args .rs .now)) (st .args .root .0)) ≤ 128 = omega (arith,
-        minterms .ensures .0, if1 .left) in
-    (st .pre .0, (st .pre .1 .0, (st .pre .1 .1, (minterms .ensures .1 few, (omega (arith, if1 .left), search
-    needs)))))
+    let few : length (mt.minterms (walked (st .args .rs .now)) (st .args .root .0)) ≤ 128 = omega (
+      arith,
+      minterms .ensures .0,
+      if1 .left,
+    ) in (
+      st .pre .0,
+      (
+        st .pre .1 .0,
+        (
+          st .pre .1 .1,
+          (
+            minterms .ensures .1 few,
+            (
+              omega (arith, if1 .left),
+              search
+                  needs,
+            ),
+          ),
+        ),
+      ),
+    )
 
 -- src/lib.rt:139:1
 same-length-3 : tie.Need-same-length-3

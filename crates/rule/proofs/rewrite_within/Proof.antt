@@ -33,40 +33,48 @@ enum-told c = search needs
 cast-rewrite-checked : tie.Need-cast-rewrite-checked
 cast-rewrite-checked c =
     let st = c .before .before .before .before .before .before .before .before .before .before .before .before
-        .before .before .before .before in
+    .before .before .before .before in
     let check-counted = c .before .before .before .before .before .before .before .check-counted in
     let enum-told = c .before .enum-told in
     let h : st .args .used ≤ 4096 = checked-used (st .args .t .now) (st .args .rs .now) (st .args .p .now) (st
-        .args .used) (st .args .root) (checked (st .args .t .now) (st .args .rs .now) (st .args .p .now) (st
-        .args .used) (st .args .root) (sym (check-counted .ensures .0) ∙ enum-told .given .1)) in
+    .args .used) (st .args .root) (checked (st .args .t .now) (st .args .rs .now) (st .args .p .now) (st
+    .args .used) (st .args .root) (sym (check-counted .ensures .0) ∙ enum-told .given .1)) in
     omega (arith, h)
 
 -- src/lib.rt:213:78
 cast-t20 : tie.Need-cast-t20
 cast-t20 c =
     let st = c .before .before .before .before .before .before .before .before .before .before .before .before
-        .before .before .before .before in
+    .before .before .before .before in
     let check-counted = c .before .before .before .before .before .before .before .check-counted in
     let enum-told = c .before .enum-told in
     let h : st .args .root < 4096 = accepted-root (st .args .t .now) (st .args .rs .now) (st .args .p .now) (st
-        .args .used) (st .args .root) (sym (check-counted .ensures .0) ∙ enum-told .given .1) in
+    .args .used) (st .args .root) (sym (check-counted .ensures .0) ∙ enum-told .given .1) in
     omega (arith, h)
 
 -- src/lib.rt:213:34
 rewrite-checked-requires : tie.Need-rewrite-checked-requires
 rewrite-checked-requires c κs =
     let st = c .before .before .before .before .before .before .before .before .before .before .before .before
-        .before .before .before .before .before in
+    .before .before .before .before .before in
     let check-counted = c .before .before .before .before .before .before .before .before .check-counted in
     let enum-told = c .before .before .enum-told in
     let accepted = sym (check-counted .ensures .0) ∙ enum-told .given .1 in
     let ok = checked (st .args .t .now) (st .args .rs .now) (st .args .p .now) (st .args .used) (st .args .root)
-        accepted in
+    accepted in
     let h : st .args .root < st .args .used = ok .root-used in
     let small : st .args .used ≤ 4096 = checked-used (st .args .t .now) (st .args .rs .now) (st .args .p .now)
-        (st .args .used) (st .args .root) ok in
-    (accepted, (λ a k. check-counted .ensures .1 (enum-told .given .1) a (omega (arith, k, h)), omega (arith, h,
-    st .pre .1 small)))
+    (st .args .used) (st .args .root) ok in (
+      accepted,
+      (
+        λ a k. check-counted .ensures .1 (enum-told .given .1) a (omega (arith, k, h)),
+        omega (
+          arith,
+          h,
+          st .pre .1 small,
+        ),
+      ),
+    )
 
 -- src/lib.rt:193:1
 same-length : tie.Need-same-length
@@ -84,12 +92,12 @@ same-length-3 c = search needs
 returns : tie.Need-returns
 returns c =
     let st = c .before .before .before .before .before .before .before .before .before .before .before .before
-        .before .before .before .before .before in
+    .before .before .before .before .before in
     let check-counted = c .before .before .before .before .before .before .before .before .check-counted in
     let answer = c .before .before .answer in
     let refused = c .refused in
     let h = rewrite-refused (st .args .t .now) (st .args .rs .now) (st .args .p .now) (st .args .used) (st .args
-        .root) _ (sym (check-counted .ensures .0) ∙ answer .given .1) in
+    .root) _ (sym (check-counted .ensures .0) ∙ answer .given .1) in
     (refused .ensures ∙ sym (h .0), (sym (h .1), none-said _ _ _ _ (refused .ensures)))
 
 -- src/lib.rt:193:1

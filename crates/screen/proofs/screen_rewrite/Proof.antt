@@ -42,8 +42,11 @@ returns c =
     call-ensures (st .args .table .now) (st .args .records .now) (st .args .pool .now) (st .args .used) (st
     .args .root) _ (sym (rewrite-screen .ensures .0) ∙ answer .given .1) _ (rewrite-screen .ensures .1 .0)
     (rewrite-screen .result .passes) (counted-as _ _ _ (answer .given .1) (rewrite-screen .ensures .1 .1)) (st
-    .args .new-root .now) (st .args .new-used .now) (st .args .passes .now) (λ i. omega (arith, slice-known
-    .given i))
+    .args .new-root .now) (st .args .new-used .now) (st .args .passes .now) (λ i. omega (
+      arith,
+      slice-known
+          .given i,
+    ))
 
 -- src/lib.rt:118:1
 same-length-2 : tie.Need-same-length-2
@@ -59,8 +62,11 @@ returns-2 c =
     call-ensures (st .args .table .now) (st .args .records .now) (st .args .pool .now) (st .args .used) (st
     .args .root) _ (sym (rewrite-screen .ensures .0) ∙ enum-told .given .1) _ (rewrite-screen .ensures .1 .0)
     (rewrite-screen .result .passes) (counted-as _ _ _ (enum-told .given .1) (rewrite-screen .ensures .1 .1))
-    (st .args .new-root .now) (st .args .new-used .now) (st .args .passes .now) (λ i. omega (arith, slice-known
-    .given i))
+    (st .args .new-root .now) (st .args .new-used .now) (st .args .passes .now) (λ i. omega (
+      arith,
+      slice-known
+          .given i,
+    ))
 
 -- src/lib.rt:118:1
 same-length-3 : tie.Need-same-length-3
@@ -76,8 +82,11 @@ returns-3 c =
     call-ensures (st .args .table .now) (st .args .records .now) (st .args .pool .now) (st .args .used) (st
     .args .root) _ (sym (rewrite-screen .ensures .0) ∙ answer2 .given .1) _ (rewrite-screen .ensures .1 .0)
     (rewrite-screen .result .passes) (counted-as _ _ _ (answer2 .given .1) (rewrite-screen .ensures .1 .1)) (st
-    .args .new-root .now) (st .args .new-used .now) (st .args .passes .now) (λ i. omega (arith, slice-known
-    .given i))
+    .args .new-root .now) (st .args .new-used .now) (st .args .passes .now) (λ i. omega (
+      arith,
+      slice-known
+          .given i,
+    ))
 
 -- src/lib.rt:118:1
 same-length-4 : tie.Need-same-length-4
@@ -93,8 +102,11 @@ returns-4 c =
     call-ensures (st .args .table .now) (st .args .records .now) (st .args .pool .now) (st .args .used) (st
     .args .root) _ (sym (rewrite-screen .ensures .0) ∙ answer3 .given .1) _ (rewrite-screen .ensures .1 .0)
     (rewrite-screen .result .passes) (counted-as _ _ _ (answer3 .given .1) (rewrite-screen .ensures .1 .1)) (st
-    .args .new-root .now) (st .args .new-used .now) (st .args .passes .now) (λ i. omega (arith, slice-known
-    .given i))
+    .args .new-root .now) (st .args .new-used .now) (st .args .passes .now) (λ i. omega (
+      arith,
+      slice-known
+          .given i,
+    ))
 
 pub screen-rewrite-spec : {M : Type 1} → statement M
 screen-rewrite-spec =

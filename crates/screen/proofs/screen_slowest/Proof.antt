@@ -31,7 +31,7 @@ same-length-2 c = search needs
 returns : tie.Need-returns
 returns c =
     let st = c .before .before .before .before .before .before .before .before .before .before .before .before
-        in
+    in
     let build-slowest = c .before .before .before .before .before .before .before .build-slowest in
     let k = c .before .k in
     slowest-ensures (st .args .columns) (st .args .table .now) (st .args .records .now) _ (sym (build-slowest
@@ -51,7 +51,7 @@ same-length-4 c = search needs
 returns-2 : tie.Need-returns-2
 returns-2 c =
     let st = c .before .before .before .before .before .before .before .before .before .before .before .before
-        in
+    in
     let build-slowest = c .before .before .before .before .before .before .before .build-slowest in
     let last = c .before .last in
     slowest-ensures (st .args .columns) (st .args .table .now) (st .args .records .now) _ (sym (build-slowest

@@ -39,7 +39,7 @@ loop-holds c =
 propagate-pass-requires : tie.Need-propagate-pass-requires Inv-loop μ-loop
 propagate-pass-requires c κs =
     let st = c .before .before .before .before .before .before .before .before .before .before .before .before
-        .before .before in
+    .before .before in
     let l1 = c .before .before .before .loop in
     ((l1 .inv .2, st .pre .0 .1, st .pre .0 .2, st .pre .0 .3), st .pre .1)
 
@@ -47,37 +47,42 @@ propagate-pass-requires c κs =
 add-passes : tie.Need-add-passes Inv-loop μ-loop
 add-passes c =
     let st = c .before .before .before .before .before .before .before .before .before .before .before .before
-        .before .before .before .before .before .before .before .before in
+    .before .before .before .before .before .before .before .before in
     let l1 = c .before .before .before .before .before .before .before .before .before .loop in
     let t1 = c .before .before .before .before .before .before .before .before .loop-test in
     let h : l1 .passes < st .args .columns = ltb-true _ _ (and-left (ltb (l1 .passes) (st .args .columns)) (l1
-        .going) (t1 .taken)) in
+    .going) (t1 .taken)) in
     search (needs, h)
 
 -- src/propagate.rt:172:5
 loop-less : tie.Need-loop-less Inv-loop μ-loop
 loop-less c =
     let st = c .before .before .before .before .before .before .before .before .before .before .before .before
-        .before .before .before .before .before .before .before .before in
+    .before .before .before .before .before .before .before .before in
     let l1 = c .before .before .before .before .before .before .before .before .before .loop in
     let t1 = c .before .before .before .before .before .before .before .before .loop-test in
     let h : l1 .passes < st .args .columns = ltb-true _ _ (and-left (ltb (l1 .passes) (st .args .columns)) (l1
-        .going) (t1 .taken)) in
+    .going) (t1 .taken)) in
     omega (arith, h)
 
 -- src/propagate.rt:172:5
 loop-again : tie.Need-loop-again Inv-loop μ-loop
 loop-again c =
     let st = c .before .before .before .before .before .before .before .before .before .before .before .before
-        .before .before .before .before .before .before .before .before in
+    .before .before .before .before .before .before .before .before in
     let l1 = c .before .before .before .before .before .before .before .before .before .loop in
     let t1 = c .before .before .before .before .before .before .before .before .loop-test in
     let propagate-pass = c .before .before .before .before .before .propagate-pass in
     let h : l1 .passes < st .args .columns = ltb-true _ _ (and-left (ltb (l1 .passes) (st .args .columns)) (l1
-        .going) (t1 .taken)) in
-    (omega (arith, h), (λ T equals S. passed-more _ _ _ _ _ _ _ _ _ _ _ _ T h (and-right (ltb (l1 .passes) (st
-    .args .columns)) (l1 .going) (t1 .taken)) (l1 .inv .1 T equals S) (λ U R. propagate-pass .ensures .0 U
-    equals R)), propagate-pass .ensures .1, search needs, search needs)
+    .going) (t1 .taken)) in (
+      omega (arith, h),
+      (λ T equals S. passed-more _ _ _ _ _ _ _ _ _ _ _ _ T h (and-right (ltb (l1 .passes) (st
+          .args .columns)) (l1 .going) (t1 .taken)) (l1 .inv .1 T equals S) (λ U R. propagate-pass .ensures .0 U
+          equals R)),
+      propagate-pass .ensures .1,
+      search needs,
+      search needs,
+    )
 
 -- src/propagate.rt:145:1
 same-length : tie.Need-same-length Inv-loop μ-loop

@@ -60,25 +60,37 @@ loop-again c =
     let number-at = c .before .before .before .number-at in
     let number-at2 = c .before .before .number-at2 in
     let if1 = c .before .if1 in
-    let bump = c .bump in
-    (search needs, omega (arith, bump .ensures .1, loop .inv .1), omega (arith, loop .inv .2, if1 .left),
-    ends-more (st .args .starts .now) (st .args .counts .now) (loop .j) _ _ (number-at .ensures) (number-at2
-    .ensures) (if1 .left) (loop .inv .3))
+    let bump = c .bump in (
+      search needs,
+      omega (arith, bump .ensures .1, loop .inv .1),
+      omega (arith, loop .inv .2, if1 .left),
+      ends-more (st .args .starts .now) (st .args .counts .now) (loop .j) _ _ (number-at .ensures) (number-at2
+          .ensures) (if1 .left) (loop .inv .3),
+    )
 
 mul-result : tie.Need-mul-result Inv-loop μ-loop
 mul-result c =
     let loop = c .before .loop in
-    let b = work-bound (loop .lists) (loop .total) (omega (arith, loop .inv .1, loop .inv .0)) (omega (arith,
-        loop .inv .2, loop .inv .0)) .1 in
+    let b = work-bound (loop .lists) (loop .total) (omega (arith, loop .inv .1, loop .inv .0)) (omega (
+      arith,
+      loop .inv .2,
+      loop .inv .0,
+    )) .1 in
     omega (arith, b)
 
 returns-2 : tie.Need-returns-2 Inv-loop μ-loop
 returns-2 c =
     let loop = c .before .loop in
     let loop-test = c .loop-test in
-    let e : loop .j ≡ 128 = omega (arith, loop .inv .0, loop-test .left) in
-    ((λ h. rw e at (loop .inv .3)), work-bound (loop .lists) (loop .total) (omega (arith, loop .inv .1, loop
-    .inv .0)) (omega (arith, loop .inv .2, loop .inv .0)) .0)
+    let e : loop .j ≡ 128 = omega (arith, loop .inv .0, loop-test .left) in (
+      (λ h. rw e at (loop .inv .3)),
+      work-bound (loop .lists) (loop .total) (omega (
+        arith,
+        loop .inv .1,
+        loop
+            .inv .0,
+      )) (omega (arith, loop .inv .2, loop .inv .0)) .0,
+    )
 
 pub list-work-spec : {M : Type 1} → statement M
 list-work-spec =

@@ -33,8 +33,11 @@ mul-result c =
     let st = c .before .before .before .before .before .before .before .before .before in
     let list-work = c .before .before .list-work in
     let equality-count = c .equality-count in
-    let b = product-fits (list-work .result) (equality-count .result) (list-work .ensures .1) (omega (arith,
-        equality-count .ensures, st .pre .1)) in
+    let b = product-fits (list-work .result) (equality-count .result) (list-work .ensures .1) (omega (
+      arith,
+      equality-count .ensures,
+      st .pre .1,
+    )) in
     omega (arith, b)
 
 returns-3 : tie.Need-returns-3

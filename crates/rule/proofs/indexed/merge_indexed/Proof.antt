@@ -19,10 +19,15 @@ slice-aggregate-merge-filter-constraints c = search needs
 merge-filter-constraints-requires : tie.Need-merge-filter-constraints-requires
 merge-filter-constraints-requires c κs =
     let st = c .before .before .before .before .before .before .before .before .before .before .before .before
-        .before .before .before .before in
-    let make-index = c .before .before .before .before .make-index in
-    ((st .pre .0 .0, st .pre .0 .1, st .pre .0 .2, st .pre .0 .3, make-index .ensures), (st .pre .1 .0, st .pre
-    .1 .1))
+    .before .before .before .before in
+    let make-index = c .before .before .before .before .make-index in (
+      (st .pre .0 .0, st .pre .0 .1, st .pre .0 .2, st .pre .0 .3, make-index .ensures),
+      (
+        st .pre .1 .0,
+        st .pre
+            .1 .1,
+      ),
+    )
 
 same-length : tie.Need-same-length
 same-length c = search needs

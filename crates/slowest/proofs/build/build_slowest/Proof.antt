@@ -50,8 +50,11 @@ cast-write-records c =
     let st = c .before .before .before .before .before .before .before .before .before .before .before in
     let known-count = c .before .before .before .before .before .before .before .before .known-count in
     let if1 = c .before .before .before .before .before .before .before .if1 in
-    omega (arith, count-known (st .args .columns) (sym (known-count .ensures) ∙ not-false (known-count .result)
-    (if1 .left)) .1)
+    omega (
+      arith,
+      count-known (st .args .columns) (sym (known-count .ensures) ∙ not-false (known-count .result)
+          (if1 .left)) .1,
+    )
 
 -- src/build.rt:87:5
 write-records-requires : tie.Need-write-records-requires
@@ -62,7 +65,7 @@ write-records-requires c κs =
     let has-room = c .before .before .before .before .before .before .has-room in
     let if2 = c .before .before .before .before .before .if2 in
     let k = count-known (st .args .columns) (sym (known-count .ensures) ∙ not-false (known-count .result) (if1
-        .left)) in
+    .left)) in
     let r = room-known _ _ _ (sym (has-room .ensures) ∙ not-false (has-room .result) (if2 .left)) in
     (k .1, r .1)
 
@@ -70,34 +73,43 @@ write-records-requires c κs =
 mul-t14 : tie.Need-mul-t14
 mul-t14 c =
     let st = c .before .before .before .before .before .before .before .before .before .before .before .before
-        .before .before in
+    .before .before in
     let known-count = c .before .before .before .before .before .before .before .before .before .before .before
-        .known-count in
+    .known-count in
     let if1 = c .before .before .before .before .before .before .before .before .before .before .if1 in
-    omega (arith, count-known (st .args .columns) (sym (known-count .ensures) ∙ not-false (known-count .result)
-    (if1 .left)) .1)
+    omega (
+      arith,
+      count-known (st .args .columns) (sym (known-count .ensures) ∙ not-false (known-count .result)
+          (if1 .left)) .1,
+    )
 
 -- src/build.rt:88:26
 sub-t15 : tie.Need-sub-t15
 sub-t15 c =
     let st = c .before .before .before .before .before .before .before .before .before .before .before .before
-        .before .before in
+    .before .before in
     let known-count = c .before .before .before .before .before .before .before .before .before .before .before
-        .known-count in
+    .known-count in
     let if1 = c .before .before .before .before .before .before .before .before .before .before .if1 in
-    omega (arith, count-known (st .args .columns) (sym (known-count .ensures) ∙ not-false (known-count .result)
-    (if1 .left)) .0)
+    omega (
+      arith,
+      count-known (st .args .columns) (sym (known-count .ensures) ∙ not-false (known-count .result)
+          (if1 .left)) .0,
+    )
 
 -- src/build.rt:88:43
 mul-t16 : tie.Need-mul-t16
 mul-t16 c =
     let st = c .before .before .before .before .before .before .before .before .before .before .before .before
-        .before .before in
+    .before .before in
     let known-count = c .before .before .before .before .before .before .before .before .before .before .before
-        .known-count in
+    .known-count in
     let if1 = c .before .before .before .before .before .before .before .before .before .before .if1 in
-    omega (arith, count-known (st .args .columns) (sym (known-count .ensures) ∙ not-false (known-count .result)
-    (if1 .left)) .1)
+    omega (
+      arith,
+      count-known (st .args .columns) (sym (known-count .ensures) ∙ not-false (known-count .result)
+          (if1 .left)) .1,
+    )
 
 -- src/build.rt:75:1
 same-length : tie.Need-same-length
@@ -112,12 +124,17 @@ returns-3 : tie.Need-returns-3
 unfolding slowestAnswer tableWritten recordsWritten
 returns-3 c =
     let known-count = c .before .before .before .before .before .before .before .before .before .before .before
-        .known-count in
+    .known-count in
     let has-room = c .before .before .before .before .before .before .before .before .before .has-room in
     let write-table = c .before .before .before .before .before .before .write-table in
-    let write-records = c .before .before .write-records in
-    (search (flags, ← has-room .ensures, ← known-count .ensures), (write-table .ensures, write-records
-    .ensures))
+    let write-records = c .before .before .write-records in (
+      search (flags, ← has-room .ensures, ← known-count .ensures),
+      (
+        write-table .ensures,
+        write-records
+            .ensures,
+      ),
+    )
 
 pub build-slowest-spec : {M : Type 1} → statement M
 build-slowest-spec =

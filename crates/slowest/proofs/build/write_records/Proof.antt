@@ -59,9 +59,16 @@ loop-again c =
     let l1 = c .before .before .before .before .before .before .loop in
     let t1 = c .before .before .before .before .before .loop-test in
     let slowest-record = c .before .before .before .slowest-record in
-    let put-record = c .before .before .put-record in
-    (omega (arith, l1 .inv .0, t1 .taken), search needs, records-turn _ _ _ _ _ _ (omega (arith, t1 .taken, st
-    .pre .1)) (l1 .inv .2) (slowest-record .ensures) (put-record .ensures))
+    let put-record = c .before .before .put-record in (
+      omega (arith, l1 .inv .0, t1 .taken),
+      search needs,
+      records-turn _ _ _ _ _ _ (omega (
+        arith,
+        t1 .taken,
+        st
+            .pre .1,
+      )) (l1 .inv .2) (slowest-record .ensures) (put-record .ensures),
+    )
 
 -- src/build.rt:63:1
 same-length : tie.Need-same-length Inv-loop μ-loop

@@ -40,9 +40,16 @@ loop-again : tie.Need-loop-again Inv-loop μ-loop
 loop-again c =
     let st = c .before .before in
     let l1 = c .before .loop in
-    let t1 = c .loop-test in
-    (omega (arith, l1 .inv .0, t1 .taken), length-set (l1 .table) (l1 .i) 1 ∙ l1 .inv .1, table-turn _ _ _ (omega (arith, st
-    .pre, t1 .taken)) (l1 .inv .2))
+    let t1 = c .loop-test in (
+      omega (arith, l1 .inv .0, t1 .taken),
+      length-set (l1 .table) (l1 .i) 1 ∙ l1 .inv .1,
+      table-turn _ _ _ (omega (
+        arith,
+        st
+            .pre,
+        t1 .taken,
+      )) (l1 .inv .2),
+    )
 
 -- src/build.rt:52:1
 same-length : tie.Need-same-length Inv-loop μ-loop
