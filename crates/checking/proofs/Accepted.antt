@@ -10,7 +10,7 @@ use borrow.Author.Tests.{ltb-true, lt-ltb, eqb-true, eqb-false}
 use Rattle.records.specs.Bytes.{first}
 use Rattle.records.specs.Record.{node, fieldsAt, decode, recordAt, inputs}
 use Rattle.records.specs.Shape.{shapeOk}
-use Rattle.checking.specs.Fit.{allBelow, reachOk, servedOk, typesOk, typeAt}
+use Rattle.record_check.specs.Fit.{allBelow, reachOk, servedOk, typesOk, typeAt}
 use Rattle.checking.specs.Check.{tableOk, sizesOk, meaningFault, recordFault, firstFault, recordsAnswer, checkAnswer}
 use Rattle.checking.specs.Checked.{CheckedRecord, Checked}
 use Rattle.records.specs.declared.record.Record.{Record}

@@ -10,7 +10,7 @@ use borrow.Author.Tests.{eqb-false}
 use Rattle.records.specs.Bytes.{first}
 use Rattle.records.specs.Record.{node, fieldsAt, decode}
 use Rattle.records.specs.Shape.{shapeOk}
-use Rattle.checking.specs.Fit.{reachOk, servedOk, typesOk, typeAt}
+use Rattle.record_check.specs.Fit.{reachOk, servedOk, typesOk, typeAt}
 use Rattle.checking.specs.Check.{tableOk, sizesOk, meaningFault, recordFault, firstFault, recordsAnswer, checkAnswer}
 use Rattle.checking.specs.Columns.{columnsWord, columnsIf, columnsAnswer}
 use Rattle.records.specs.declared.record.Node.{Node}

@@ -9,7 +9,7 @@ use Rattle.records.specs.Course.{upTo, course}
 use Rattle.records.specs.Operator.{operatorAt}
 use Rattle.records.specs.Record.{fieldsAt, closedAt, decode, recordAt}
 use Rattle.records.specs.Shape.{knownType, inType, maxCode, uses, knownOk, zeroOr, unusedOk, literalOk, shapeOk}
-use Rattle.checking.specs.Fit.{allFit, listOk, reachOk, servedOk, typeOf, typeAt, sameType, binaryFits, betweenFits, memberFits, typesOk}
+use Rattle.record_check.specs.Fit.{allFit, listOk, reachOk, servedOk, typeOf, typeAt, sameType, binaryFits, betweenFits, memberFits, typesOk}
 use Rattle.checking.specs.Check.{typesKnown, tableOk, sizesOk, meaningFault, recordFault, firstFault, recordsAnswer, checkAnswer}
 use Rattle.checking.specs.Tree.{treeCount}
 use Rattle.checking.specs.Columns.{columnsWord}

@@ -17,12 +17,12 @@ use Rattle.records.specs.declared.record.Record.the-variants as kind
 use Rattle.records.proofs.Laws.{by-test, and-left, and-right, no-key}
 use Rattle.records.proofs.Loops.{all-holds}
 use Rattle.records.proofs.RoundTrips.{code-back}
-use Rattle.checking.specs.Fit.{listOk, reachOk, servedOk, typeOf, typeAt, sameType, binaryFits, betweenFits, memberFits, typesOk}
+use Rattle.record_check.specs.Fit.{listOk, reachOk, servedOk, typeOf, typeAt, sameType, binaryFits, betweenFits, memberFits, typesOk}
 use Rattle.checking.specs.Check.{typesKnown, meaningFault, recordFault}
 use Rattle.checking.specs.Table.{below}
 use Rattle.checking.specs.Tree.{treeStep, treeCount, Counted}
-use Rattle.checking.specs.Step.{Entry, Entered, bad, good, judged, onlyA, literalShape, nullShape, binaryShape, betweenShape, listShape, memberShape, bothBelow, columnStep, literalStep, nullStep, pairFits, binaryEntry, binaryStep, notStep, nullTestStep, betweenStep, listStep, memberStep, recordStep}
-use Rattle.checking.specs.declared.step.Step.{Step}
+use Rattle.record_check.specs.Step.{Entry, Entered, bad, good, judged, onlyA, literalShape, nullShape, binaryShape, betweenShape, listShape, memberShape, bothBelow, columnStep, literalStep, nullStep, pairFits, binaryEntry, binaryStep, notStep, nullTestStep, betweenStep, listStep, memberStep, recordStep}
+use Rattle.record_check.specs.declared.step.Step.{Step}
 use Rattle.checking.proofs.Tables.{tree-turn}
 
 -- what a step says of record n

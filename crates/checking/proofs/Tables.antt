@@ -1,15 +1,13 @@
--- A table with one entry a record, filled from record 0 up: what a turn of the loop adds. Then the two tables, of tree counts
--- and of columns reached.
-use mathlib.Core.Path.{_≡_, refl, sym, _∙_, ap, subst}
+-- Tables with one entry a record, filled from record 0 up: of tree counts, and of columns reached.
+use mathlib.Core.Path.{_≡_, refl, sym, _∙_, ap}
 use mathlib.Core.Bool.{Bool, true, false, cond}
 use mathlib.Core.List.{List, [], _∷_}
 use Prim.Native.Nat.{ℕ, zero, suc, _+_, _≤_, _<_, min}
 use native.Mathlib.Omega.{arith}
-use lib.ListN.{length, getD, set}
-use lib.Seq.{getD-set-same, getD-set-other}
-use lib.Dec.{ltb, eqb}
+use lib.ListN.{length, getD}
+use lib.Dec.{ltb}
 use lib.Bits.{bitOr}
-use borrow.Author.Tests.{ltb-true, ltb-false, eqb-true, eqb-false}
+use borrow.Author.Tests.{ltb-true, ltb-false}
 use Rattle.records.specs.Course.{upTo, course}
 use Rattle.records.specs.Record.{node, recordAt, inputs}
 use Rattle.checking.specs.Table.{below}
@@ -18,25 +16,7 @@ use Rattle.checking.specs.Columns.{orAt, ownColumn, columnsStep, columns
 use Rattle.records.specs.declared.record.Record.{Record}
 use Rattle.records.proofs.Courses.{course-top, upTo-below, upTo-off}
 use Rattle.records.proofs.Laws.{by-test}
-
--- the entries below n are g's
-abbrev pub Filled : (ℕ → ℕ) → List ℕ → ℕ → Type 0
-Filled g l n = (a : ℕ) → a < n → getD l a 0 ≡ g a
-
-pub filled-none : (g : ℕ → ℕ) (l : List ℕ) → Filled g l 0
-filled-none g l a h = absurd (omega arith)
-
-pub filled-more : (g : ℕ → ℕ) (l : List ℕ) (n v : ℕ) → n < length l → Filled g l n → v ≡ g n
-    → Filled g (set l n v) (n + 1)
-filled-more g l n v h f e a k = by-test (eqb a n) same other
-  where
-    same : eqb a n ≡ true → getD (set l n v) a 0 ≡ g a
-    same p =
-        subst (λ b. getD (set l n v) b 0 ≡ g b) (sym (eqb-true a n p)) (getD-set-same l n v 0 h ∙ e)
-
-    other : eqb a n ≡ false → getD (set l n v) a 0 ≡ g a
-    other p =
-        let d : (a ≡ n → ⊥) = eqb-false a n p in getD-set-other l n a v 0 d ∙ f a (omega (arith, d))
+use Rattle.record_check.proofs.Filling.{Filled}
 
 -- what the table holds below n, where its entries are h of the answers by course of values
 module _ (h : ℕ → ℕ) (zero-stays : h 0 ≡ 0) (f : (ℕ → ℕ) → ℕ → ℕ) where

@@ -8,7 +8,7 @@ use lib.Dec.{ltb, leb, eqb}
 use Rattle.records.specs.Bytes.{all, first}
 use Rattle.records.specs.Record.{node, fieldsAt, decode}
 use Rattle.records.specs.Shape.{knownType, shapeOk}
-use Rattle.checking.specs.Fit.{reachOk, servedOk, typesOk, typeAt}
+use Rattle.record_check.specs.Fit.{reachOk, servedOk, typesOk, typeAt}
 use Rattle.records.specs.declared.record.Node.{Node}
 use Rattle.records.specs.declared.record.Record.{Record}
 use Rattle.checking.specs.declared.check.CheckAnswer.{CheckAnswer}

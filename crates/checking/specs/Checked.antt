@@ -6,7 +6,7 @@ use mathlib.Core.Path.{_≡_}
 use lib.ListN.{length}
 use Rattle.records.specs.Record.{node, fieldsAt, recordAt}
 use Rattle.records.specs.Shape.{shapeOk}
-use Rattle.checking.specs.Fit.{reachOk, servedOk, typesOk, typeAt}
+use Rattle.record_check.specs.Fit.{reachOk, servedOk, typesOk, typeAt}
 use Rattle.checking.specs.Check.{tableOk, sizesOk}
 
 -- record n has none of the faults 4, 5, 6, 7

@@ -1,6 +1,3 @@
-pub mod Fit
-pub mod Outside
-pub mod Step
 pub mod Check
 pub mod Table
 pub mod Tree

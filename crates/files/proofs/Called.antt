@@ -18,14 +18,14 @@ use Rattle.files.specs.declared.save.SaveAnswer.{SaveAnswer}
 use Rattle.files.specs.declared.save.SaveAnswer.the-variants as save
 use Rattle.files.specs.declared.load.LoadAnswer.{LoadAnswer}
 use Rattle.files.specs.declared.load.LoadAnswer.the-variants as load
-use Rattle.files.specs.Format.{blocksFor, wordBytes, fileBlocks, fileOf, fileLength, overwrite}
-use Rattle.files.specs.Read.{structureOk, held, total, rootOf}
+use Rattle.file_blocks.specs.Format.{blocksFor, wordBytes, fileBlocks, fileOf, fileLength, overwrite}
+use Rattle.file_blocks.specs.Read.{structureOk, held, total, rootOf}
 use Rattle.files.specs.Answers.{saveIf, saveAnswer, savedBytes, saveBytes, roomOk, heldAnswer, loadIf, loadAnswer}
 use Rattle.files.specs.Answers.{loadedBytes}
 use Rattle.files.specs.RoundTrip.{Survives}
 use Rattle.files.specs.Calls.{saveNumber, savedLength, loadNumber, loadedRoot, loadedColumns, loadedUsed, loadedValues}
 use Rattle.files.specs.Calls.{SavePromise, LoadPromise}
-use Rattle.files.proofs.Lists.{overwrite-front}
+use Rattle.file_blocks.proofs.Lists.{overwrite-front}
 use Rattle.files.proofs.Saving.{limits, file-length}
 use Rattle.files.proofs.Loading.{columns-held, records-held, values-held}
 use Rattle.files.proofs.Survival.{screens-survive}

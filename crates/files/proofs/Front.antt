@@ -16,7 +16,7 @@ use Rattle.records.specs.declared.record.Node.{Node}
 use Rattle.records.specs.declared.record.Record.{Record}
 use Rattle.records.specs.declared.record.Record.the-variants as kind
 use Rattle.records.proofs.Laws.{and-right}
-use Rattle.checking.specs.Fit.{typeOf, typeAt, typesOk}
+use Rattle.record_check.specs.Fit.{typeOf, typeAt, typesOk}
 use Rattle.checking.specs.Check.{sizesOk, checkAnswer}
 use Rattle.checking.specs.Checked.{CheckedRecord, Checked}
 use Rattle.checking.specs.declared.check.CheckAnswer.the-variants as check

@@ -1,7 +1,3 @@
-pub mod Lists
-pub mod Parts
-pub mod Sizes
-pub mod Making
 pub mod Contents
 pub mod Saving
 pub mod Loading

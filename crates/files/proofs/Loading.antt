@@ -16,12 +16,12 @@ use Rattle.checking.specs.Check.{typesKnown, tableOk, sizesOk, recordsAnswer, c
 use Rattle.checking.specs.declared.check.CheckAnswer.{CheckAnswer}
 use Rattle.checking.specs.declared.check.CheckAnswer.the-variants as check
 use Rattle.files.specs.declared.load.LoadAnswer.the-variants as load
-use Rattle.files.specs.Format.{itemSize, overwrite}
-use Rattle.files.specs.Read.{blockAt, blocksIn, kindOf, countOf, contentSize, contentOf, taken, heldTo, held, rootOf}
-use Rattle.files.specs.Read.{countIf, totalTo, total, blockOk, blocksOk, orderOk, endsOk, usedOk, wholeOk, structureOk}
+use Rattle.file_blocks.specs.Format.{itemSize, overwrite}
+use Rattle.file_blocks.specs.Read.{blockAt, blocksIn, kindOf, countOf, contentSize, contentOf, taken, heldTo, held, rootOf}
+use Rattle.file_blocks.specs.Read.{countIf, totalTo, total, blockOk, blocksOk, orderOk, endsOk, usedOk, wholeOk, structureOk}
 use Rattle.files.specs.Answers.{roomOk, heldAnswer, loadIf, loadAnswer}
-use Rattle.files.proofs.Lists.{overwrite-front}
-use Rattle.files.proofs.Parts.{length-block}
+use Rattle.file_blocks.proofs.Lists.{overwrite-front}
+use Rattle.file_blocks.proofs.Parts.{length-block}
 use Rattle.files.proofs.Contents.{taken-none, taken-some, length-content, block-is-ok, block-fits}
 
 -- ---- the parts of number 15

@@ -15,10 +15,10 @@ use Rattle.checking.specs.declared.check.CheckAnswer.the-variants as check
 use Rattle.checking.proofs.Accepted.{checked}
 use Rattle.checking.proofs.Sizes.{used-small, used-lent}
 use Rattle.files.specs.declared.save.SaveAnswer.the-variants as save
-use Rattle.files.specs.Format.{block, blocksTo, blocksFor, fileBlocks, fileOf, fileLength, wordBytes, overwrite}
+use Rattle.file_blocks.specs.Format.{block, blocksTo, blocksFor, fileBlocks, fileOf, fileLength, wordBytes, overwrite}
 use Rattle.files.specs.Answers.{saveAnswer, saveBytes}
-use Rattle.files.proofs.Lists.{overwrite-more}
-use Rattle.files.proofs.Making.{length-block, length-blocks}
+use Rattle.file_blocks.proofs.Lists.{overwrite-more}
+use Rattle.file_blocks.proofs.Making.{length-block, length-blocks}
 
 -- what saving needs to know of a checked screen
 pub record Limits (t rs p : List ℕ) (used root : ℕ) : Type 0 where

@@ -6,8 +6,8 @@ use mathlib.Core.List.{List, [], _∷_, _++_, append-assoc, append-nil}
 use native.Mathlib.Omega.{arith}
 use lib.ListN.{length, take, drop, length-append, length-drop}
 use lib.Seq.{take-append-le, drop-append-le, take-all, take-at, drop-at, drop-drop, take-add, length-take-le}
-use Rattle.files.specs.Format.{block, piece, blocksFor, blocksTo}
-use Rattle.files.specs.Read.{blockAt}
+use Rattle.file_blocks.specs.Format.{block, piece, blocksFor, blocksTo}
+use Rattle.file_blocks.specs.Read.{blockAt}
 
 -- ---- blocks of a file
 

@@ -16,13 +16,13 @@ use Rattle.records.proofs.Laws.{and-left, and-right, by-test}
 use Rattle.checking.specs.Check.{checkAnswer}
 use Rattle.checking.specs.declared.check.CheckAnswer.the-variants as check
 use Rattle.files.specs.declared.load.LoadAnswer.the-variants as load
-use Rattle.files.specs.Format.{itemSize, capacity, repeats, block, piece, blocksFor, blocksTo, wordBytes}
-use Rattle.files.specs.Format.{sealed, unsealed, fileBlocks, fileOf}
-use Rattle.files.specs.Read.{blockAt, blocksIn, kindOf, countOf, taken, heldTo, held, totalTo, total, blockOk}
-use Rattle.files.specs.Read.{followsOk, endOf, rootOf, wholeOk, blocksOk, orderOk, endsOk, usedOk, structureOk}
+use Rattle.file_blocks.specs.Format.{itemSize, capacity, repeats, block, piece, blocksFor, blocksTo, wordBytes}
+use Rattle.file_blocks.specs.Format.{sealed, unsealed, fileBlocks, fileOf}
+use Rattle.file_blocks.specs.Read.{blockAt, blocksIn, kindOf, countOf, taken, heldTo, held, totalTo, total, blockOk}
+use Rattle.file_blocks.specs.Read.{followsOk, endOf, rootOf, wholeOk, blocksOk, orderOk, endsOk, usedOk, structureOk}
 use Rattle.files.specs.Answers.{roomOk, heldAnswer, loadAnswer}
 use Rattle.files.specs.RoundTrip.{Survives, ScreensSurvive}
-use Rattle.files.proofs.Making.{length-block, length-piece}
+use Rattle.file_blocks.proofs.Making.{length-block, length-piece}
 use Rattle.files.proofs.Saving.{Limits, limits}
 use Rattle.files.proofs.Loading.{length-held, loaded-all}
 use Rattle.files.proofs.OneBlock.{block-kind, block-count, block-ok, block-taken}

@@ -10,7 +10,7 @@ use Rattle.files.specs.declared.save.SaveAnswer.{SaveAnswer}
 use Rattle.files.specs.declared.save.SaveAnswer.the-variants as save
 use Rattle.files.specs.declared.load.LoadAnswer.{LoadAnswer}
 use Rattle.files.specs.declared.load.LoadAnswer.the-variants as load
-use Rattle.files.specs.Format.{fileOf}
+use Rattle.file_blocks.specs.Format.{fileOf}
 use Rattle.files.specs.Answers.{saveAnswer}
 use Rattle.files.specs.RoundTrip.{Survives}
 

@@ -1,5 +1,3 @@
-pub mod Format
-pub mod Read
 pub mod Answers
 pub mod RoundTrip
 pub mod Calls

@@ -3,10 +3,10 @@ ghost use mathlib.Core.Path.{_≡_};
 ghost use mathlib.Core.Bool.{true};
 ghost use Prim.Native.Nat.{_+_, _*_, _≤_};
 ghost use lib.ListN.{length};
-ghost use Rattle.files.specs.Format.{overwrite};
-ghost use Rattle.files.specs.Read.{contentSize, taken, held, blocksOk};
-use crate::copy::put;
-use crate::structure::content_size;
+ghost use Rattle.file_blocks.specs.Format.{overwrite};
+ghost use Rattle.file_blocks.specs.Read.{contentSize, taken, held, blocksOk};
+use file_blocks::copy::put;
+use file_blocks::structure::content_size;
 
 // The content of a block of this kind to byte `at` of `dst`; the byte behind it.
 fn take_block(kind: u8, b: &[u8], dst: &mut [u8], at: usize) -> usize

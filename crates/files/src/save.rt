@@ -3,12 +3,12 @@ ghost use mathlib.Core.Path.{_≡_};
 ghost use Prim.Native.Nat.{_+_, _*_, _/_, _%_, _≤_, _<_};
 ghost use mathlib.Core.List.{_++_};
 ghost use lib.ListN.{length};
-ghost use Rattle.files.specs.Format.{fileOf, fileLength, wordBytes, overwrite};
+ghost use Rattle.file_blocks.specs.Format.{fileOf, fileLength, wordBytes, overwrite};
 ghost use Rattle.files.specs.Answers.{saveAnswer, saveBytes};
-use crate::block::write_block;
-use crate::block::write_blocks;
 use checking::check::CheckAnswer;
 use checking::check::check_screen;
+use file_blocks::block::write_block;
+use file_blocks::block::write_blocks;
 
 // What saving answers: a refusal with its number, or the file's length.
 pub enum SaveAnswer {

@@ -14,8 +14,8 @@ use Rattle.constraints.specs.Column as q
 use Rattle.columns.specs.Abstraction.{Conjuncts, numbered, columnOf, Fine}
 use Rattle.columns.specs.declared.column.ColumnConstraints.{ColumnConstraints}
 use Rattle.merge.specs.Collect.{isIn, enter, update}
-use Rattle.rewrite.specs.Walk.{firstOf}
-use Rattle.rewrite.proofs.Walks.{first-kept, first-more}
+use Rattle.reading.specs.Walk.{firstOf}
+use Rattle.reading.proofs.Walks.{first-kept, first-more}
 use Rattle.stages.specs.Rows.{stride, rowOf, RowsKept}
 use Rattle.filter_constraint.specs.Words.{pastColumn, columnsOf}
 use Rattle.filter_constraint.proofs.Encoding.{columns-size}

@@ -18,9 +18,9 @@ use Rattle.columns.specs.declared.column.ColumnConstraints.{ColumnConstraints}
 use Rattle.merge.specs.Classify.{Conjunct, Bounds, Normalized, Equality, Recorded, NonNullPair, Opaque, classify}
 use Rattle.merge.specs.Collect.{Collected, begin, collect, collectOne, enter, addTo, requireNonNull}
 use Rattle.truth.specs.FromBytes.{aexprOf}
-use Rattle.rewrite.specs.Read.{conjunctIn}
-use Rattle.rewrite.specs.declared.classify.Conjunct as code
-use Rattle.rewrite.specs.Walk.{firstOf}
+use Rattle.reading.specs.Read.{conjunctIn}
+use Rattle.reading.specs.declared.classify.Conjunct as code
+use Rattle.reading.specs.Walk.{firstOf}
 use Rattle.filter_constraint.specs.Words.{pastColumn}
 use Rattle.filter_constraint.specs.State.{ColumnTable, Shows, Added, Entered, Keeps, Edges, Collects, collectTo, edgesOf}
 use Rattle.rewrite.proofs.Telling.{fine-same}

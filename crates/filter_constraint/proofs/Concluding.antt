@@ -27,7 +27,7 @@ use Rattle.merge.specs.Rewrite.{writtenIf}
 use Rattle.merge.specs.declared.answer.RewriteAnswer.{RewriteAnswer}
 use Rattle.merge.specs.declared.answer.RewriteAnswer.the-variants as answer
 use Rattle.merge.specs.declared.answer.Rewriting.{Rewriting}
-use Rattle.rewrite.specs.Walk.{firstOf}
+use Rattle.reading.specs.Walk.{firstOf}
 use Rattle.rewrite.specs.Written.{chainAt, andsTo}
 use Rattle.stages.specs.Reckon.{reckoned, reckonedAnswer}
 use Rattle.stages.specs.Rewritten.{isRewritten}
@@ -37,7 +37,7 @@ use Rattle.filter_constraint.specs.Words.{pastColumn}
 use Rattle.filter_constraint.specs.State.{Spread, Kept, resolveAll, resolvedIn, Resolved, shown, Written}
 use Rattle.stages.proofs.Answers.{chain-written, chain-unwritten}
 use Rattle.merge.proofs.Compared.{rebuilt-compares}
-use Rattle.rewrite.proofs.Walks.{first-length}
+use Rattle.reading.proofs.Walks.{first-length}
 use Rattle.filter_constraint.proofs.Arrays.{low-slot}
 use Rattle.stages.proofs.Chains.{chain-bytes, chain-not-empty}
 use Rattle.stages.proofs.Reckons.{ChainRoom, rewritten-room}

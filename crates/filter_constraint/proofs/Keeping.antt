@@ -18,8 +18,8 @@ use Rattle.columns.specs.Abstraction.{Conjuncts, numbered, columnOf, Fine}
 use Rattle.columns.specs.declared.column.ColumnConstraints.{ColumnConstraints}
 use Rattle.merge.specs.Collect.{update}
 use Rattle.merge.specs.Emit.{isFixed, keptEqualities, droppedEquality}
-use Rattle.rewrite.specs.Walk.{firstOf}
-use Rattle.rewrite.proofs.Walks.{first-kept}
+use Rattle.reading.specs.Walk.{firstOf}
+use Rattle.reading.proofs.Walks.{first-kept}
 use Rattle.stages.specs.Rows.{stride, rowOf, RowsKept}
 use Rattle.filter_constraint.specs.Words.{pastColumn}
 use Rattle.filter_constraint.specs.State.{columnAt, ColumnTable, Shows, Keeps, edgesOf, Kept}

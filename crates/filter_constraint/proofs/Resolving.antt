@@ -23,7 +23,7 @@ use Rattle.columns.proofs.Pigeon.{few}
 use Rattle.merge.specs.Collect.{isIn, update}
 use Rattle.merge.specs.Emit.{ofColumn, anyUnsat, comparisons}
 use Rattle.merge.specs.Write.{writeComparison, writeComparisons}
-use Rattle.rewrite.specs.Walk.{firstOf}
+use Rattle.reading.specs.Walk.{firstOf}
 use Rattle.stages.specs.Rows.{stride, rowOf, RowsKept}
 use Rattle.filter_constraint.specs.Words.{pastColumn}
 use Rattle.filter_constraint.specs.State.{columnAt, ColumnTable, Shows, resolveAll, resolvedIn, Resolved, shown, Written}

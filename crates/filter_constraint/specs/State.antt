@@ -17,7 +17,7 @@ use Rattle.merge.specs.Emit.{keptEqualities, droppedEquality, anyUnsat, compari
 use Rattle.merge.specs.Passes.{passTimes, passCount, passesMade}
 use Rattle.merge.specs.Propagate.{mergeEdge, edgeAny, edgeEmitted, pass, passAny, passEmitted, propagate, propagateEmitted}
 use Rattle.merge.specs.Write.{writeComparisons}
-use Rattle.rewrite.specs.Walk.{firstOf}
+use Rattle.reading.specs.Walk.{firstOf}
 use Rattle.stages.specs.Rows.{stride, rowOf}
 use Rattle.filter_constraint.specs.Words.{pastColumn, columnsOf}
 

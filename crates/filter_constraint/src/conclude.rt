@@ -9,7 +9,7 @@ ghost use Rattle.columns.specs.Abstraction.{Conjuncts, conjuncts};
 ghost use Rattle.columns.specs.Index.{Indexed};
 ghost use Rattle.merge.specs.Collect.{isIn};
 ghost use Rattle.merge.specs.Emit.{comparisons};
-ghost use Rattle.rewrite.specs.Walk.{firstOf};
+ghost use Rattle.reading.specs.Walk.{firstOf};
 ghost use Rattle.filter_constraint.specs.Words.{columnsOf};
 ghost use Rattle.filter_constraint.specs.State.{ColumnTable, Shows, Fits, Keeps, edgesOf, Kept, Resolved, shown, Written};
 use crate::cells::load;

@@ -14,7 +14,7 @@ use Rattle.checking.specs.Check.{checkAnswer}
 use Rattle.checking.specs.Tree.{treeCount}
 use Rattle.checking.specs.declared.check.CheckAnswer.{CheckAnswer}
 use Rattle.checking.specs.declared.check.CheckAnswer.the-variants as check
-use Rattle.truth.specs.declared.test.RowAnswer.{RowAnswer}
+use Rattle.row_test.specs.declared.test.RowAnswer.{RowAnswer}
 use Rattle.tally.specs.declared.Tally.{Tally}
 use Rattle.tally.specs.Sums.{grown, sumsFit, added}
 use Rattle.tally.proofs.Sums.{added-grown, added-none}

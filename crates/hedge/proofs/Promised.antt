@@ -9,7 +9,7 @@ use lib.Dec.{ltb, eqb}
 use lib.ListN.{length}
 use Rattle.records.specs.Bytes.{all}
 use Rattle.checking.specs.Tree.{treeCount}
-use Rattle.truth.specs.declared.test.RowAnswer.{RowAnswer}
+use Rattle.row_test.specs.declared.test.RowAnswer.{RowAnswer}
 use Rattle.hedge.specs.Chain.{answerAt, passes, isFalse, isUnknown, isTested, count}
 use Rattle.checking.specs.Check.{checkAnswer}
 use Rattle.checking.specs.declared.check.CheckAnswer.{CheckAnswer}

@@ -8,13 +8,13 @@ use native.Mathlib.Omega.{arith}
 use native.Mathlib.Nat.{mul-le-mul}
 use lib.ListN.{length, getD, take, drop, set}
 use Rattle.checking.specs.Checked.{Checked}
-use Rattle.checking.proofs.Tables.{filled-none, filled-more}
+use Rattle.record_check.proofs.Filling.{filled-none, filled-more}
 use Rattle.checking.proofs.Accepted.{checked-accepted}
-use Rattle.truth.specs.RowTest.{checkedAnswer, testRowAnswer}
+use Rattle.row_test.specs.RowTest.{checkedAnswer, testRowAnswer}
 use Rattle.truth.specs.declared.logic.Truth.{Truth}
 use Rattle.truth.specs.declared.logic.Truth.the-variants.{False, Unknown, True}
-use Rattle.truth.specs.declared.test.RowAnswer.{RowAnswer}
-use Rattle.truth.specs.declared.test.RowAnswer.the-variants.{Refused, Tested}
+use Rattle.row_test.specs.declared.test.RowAnswer.{RowAnswer}
+use Rattle.row_test.specs.declared.test.RowAnswer.the-variants.{Refused, Tested}
 use Rattle.hedge.specs.Chain.{rowAt, answerAt, isTested}
 use Rattle.hedge.specs.Classes.{truthClass, classOf, Judged}
 

@@ -4,11 +4,11 @@ use mathlib.Core.Bool.{Bool, true, false, cond}
 use mathlib.Core.List.{List, [], _∷_, _++_}
 use Prim.Native.Nat.{ℕ, zero, suc, _+_, _*_, _/_, _%_}
 use lib.ListN.{length, getD, take, drop}
-use Rattle.truth.specs.RowTest.{testRowAnswer}
+use Rattle.row_test.specs.RowTest.{testRowAnswer}
 use Rattle.truth.specs.declared.logic.Truth.{Truth}
 use Rattle.truth.specs.declared.logic.Truth.the-variants.{False, Unknown, True}
-use Rattle.truth.specs.declared.test.RowAnswer.{RowAnswer}
-use Rattle.truth.specs.declared.test.RowAnswer.the-variants.{Refused, Tested}
+use Rattle.row_test.specs.declared.test.RowAnswer.{RowAnswer}
+use Rattle.row_test.specs.declared.test.RowAnswer.the-variants.{Refused, Tested}
 
 -- Row r: eight bytes a column.
 unfoldable pub rowAt : List ℕ → List ℕ → ℕ → List ℕ

@@ -9,8 +9,8 @@ use Rattle.checking.specs.Check.{checkAnswer}
 use Rattle.checking.specs.Tree.{treeCount}
 use Rattle.checking.specs.declared.check.CheckAnswer.{CheckAnswer}
 use Rattle.checking.specs.declared.check.CheckAnswer.the-variants as check
-use Rattle.truth.specs.declared.test.RowAnswer.{RowAnswer}
-use Rattle.files.specs.Format.{overwrite}
+use Rattle.row_test.specs.declared.test.RowAnswer.{RowAnswer}
+use Rattle.file_blocks.specs.Format.{overwrite}
 use Rattle.tally.specs.declared.Tally.{Tally}
 use Rattle.tally.specs.Sums.{grown, sumsFit}
 use Rattle.hedge.specs.declared.list.HedgeAnswer.{HedgeAnswer}

@@ -9,9 +9,9 @@ ghost use Rattle.checking.specs.Tree.{treeCount};
 ghost use Rattle.hedge.specs.Chain.{answerAt, isTested};
 ghost use Rattle.hedge.specs.Classes.{truthClass, classOf, Judged};
 use records::record::Node;
+use row_test::test::RowAnswer;
+use row_test::test::test_checked;
 use truth::logic::Truth;
-use truth::test::RowAnswer;
-use truth::test::test_checked;
 
 fn truth_class(t: Truth) -> u8
     ensures { λ r. ⌜ r ≡ truthClass t ⌝ }

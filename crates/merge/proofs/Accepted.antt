@@ -6,7 +6,7 @@ use Prim.Native.Nat.{ℕ, _<_}
 use lib.Dec.{ltb}
 use borrow.Author.Tests.{ltb-true}
 use Rattle.records.specs.Record.{node, recordAt}
-use Rattle.checking.specs.Fit.{reachOk}
+use Rattle.record_check.specs.Fit.{reachOk}
 use Rattle.checking.specs.Checked.{Checked}
 use Rattle.records.specs.declared.operator.Operator.{Operator}
 use Rattle.records.specs.declared.operator.Operator.the-variants as operator

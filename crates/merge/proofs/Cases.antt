@@ -6,8 +6,8 @@ use Rattle.records.specs.Bytes.{word, valueAt, all, first}
 use Rattle.checking.specs.Check.{typesKnown, tableOk, sizesOk, meaningFault, recordFault, firstFault, recordsAnswer}
 use Rattle.checking.specs.Check.{checkAnswer}
 use Rattle.records.specs.Course.{upTo, course}
-use Rattle.checking.specs.Fit.{allFit, listOk, reachOk, servedOk, typeOf, typeAt, sameType, binaryFits}
-use Rattle.checking.specs.Fit.{betweenFits, memberFits, typesOk}
+use Rattle.record_check.specs.Fit.{allFit, listOk, reachOk, servedOk, typeOf, typeAt, sameType, binaryFits}
+use Rattle.record_check.specs.Fit.{betweenFits, memberFits, typesOk}
 use Rattle.records.specs.Operator.{operatorAt}
 use Rattle.records.specs.Record.{fieldsAt, closedAt, decode, recordAt, encode}
 use Rattle.records.specs.Shape.{knownType, inType, maxCode, uses, knownOk, zeroOr, unusedOk}

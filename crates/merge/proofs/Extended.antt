@@ -17,7 +17,7 @@ use Rattle.records.specs.declared.record.Record.the-variants as kind
 use Rattle.records.proofs.Laws.{and-left, and-right, by-test}
 use Rattle.records.proofs.Loops.{all-holds}
 use Rattle.records.proofs.RoundTrips.{decode-encode}
-use Rattle.checking.specs.Fit.{reachOk, servedOk, typeOf, typeAt, sameType, binaryFits, typesOk}
+use Rattle.record_check.specs.Fit.{reachOk, servedOk, typeOf, typeAt, sameType, binaryFits, typesOk}
 use Rattle.checking.specs.Check.{typesKnown, tableOk}
 use Rattle.checking.specs.Checked.{CheckedRecord}
 use Rattle.truth.specs.Comparison.{Comparison, Eq, NotEq, Lt, LtEq, Gt, GtEq}

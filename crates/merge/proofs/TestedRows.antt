@@ -15,7 +15,7 @@ use Rattle.records.specs.Shape.{inType}
 use Rattle.truth.specs.AExpr.{AExpr}
 use Rattle.truth.specs.Halves.{key}
 use Rattle.truth.specs.FromBytes.{nullMarked, rowKeys}
-use Rattle.truth.specs.RowTest.{columnOk, columnsOk, marksOk, rowFault}
+use Rattle.row_test.specs.RowTest.{columnOk, columnsOk, marksOk, rowFault}
 use Rattle.merge.specs.Plain.{isNumberColumn}
 use Rattle.merge.specs.Demand.{IsRow, NullOrTruth, NullOrTyped}
 use Rattle.records.proofs.Loops.{all-holds}

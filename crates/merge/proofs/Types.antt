@@ -15,7 +15,7 @@ use Rattle.records.specs.declared.operator.Operator.{Operator}
 use Rattle.records.specs.declared.record.Fields.{Fields}
 use Rattle.records.specs.declared.record.Record.{Record}
 use Rattle.records.specs.declared.record.Record.the-variants as kind
-use Rattle.checking.specs.Fit.{reachOk, typeOf, typeAt, sameType, binaryFits, betweenFits, typesOk}
+use Rattle.record_check.specs.Fit.{reachOk, typeOf, typeAt, sameType, binaryFits, betweenFits, typesOk}
 use Rattle.checking.specs.Checked.{Checked}
 use Rattle.truth.specs.AExpr.{AExpr, Missing}
 use Rattle.truth.specs.FromBytes.{toAExpr, valuesFrom, aexprOf, aexprAt, truthKeys}

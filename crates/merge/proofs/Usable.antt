@@ -7,7 +7,7 @@ use native.Mathlib.Omega.{arith}
 use lib.Dec.{eqb, ltb, leb}
 use lib.ListN.{length}
 use borrow.Author.Tests.{le-ltb, ltb-false, leb-true, le-leb, eqb-true}
-use Rattle.checking.specs.Fit.{typeOf}
+use Rattle.record_check.specs.Fit.{typeOf}
 use Rattle.checking.specs.Check.{sizesOk, checkAnswer}
 use Rattle.checking.specs.Checked.{Checked}
 use Rattle.checking.specs.Tree.{treeCount}
@@ -16,12 +16,12 @@ use Rattle.checking.specs.declared.check.CheckAnswer.the-variants as check
 use Rattle.checking.proofs.Accepted.{checked, checked-accepted}
 use Rattle.truth.specs.declared.logic.Truth.{Truth}
 use Rattle.truth.specs.declared.logic.Truth.the-variants.{False, Unknown, True}
-use Rattle.truth.specs.declared.test.RowAnswer.{RowAnswer}
-use Rattle.truth.specs.declared.test.RowAnswer.the-variants as row
+use Rattle.row_test.specs.declared.test.RowAnswer.{RowAnswer}
+use Rattle.row_test.specs.declared.test.RowAnswer.the-variants as row
 use Rattle.truth.specs.Logic.{isTrue}
 use Rattle.truth.specs.FromBytes.{aexprAt, rowKeys, truthIn}
-use Rattle.truth.specs.RowTest.{rowFault, testRowAnswer}
-use Rattle.truth.specs.RowTest as test
+use Rattle.row_test.specs.RowTest.{rowFault, testRowAnswer}
+use Rattle.row_test.specs.RowTest as test
 use Rattle.constraints.specs.Comparisons.{ColumnComparison}
 use Rattle.constraints.specs.Values.{isEmpty}
 use Rattle.merge.specs.declared.answer.RewriteAnswer.{RewriteAnswer}

@@ -8,9 +8,9 @@ use Rattle.checking.specs.Check.{checkAnswer}
 use Rattle.checking.specs.Tree.{treeCount}
 use Rattle.checking.specs.declared.check.CheckAnswer.the-variants as check
 use Rattle.truth.specs.declared.logic.Truth.the-variants.{True}
-use Rattle.truth.specs.declared.test.RowAnswer.{RowAnswer}
-use Rattle.truth.specs.declared.test.RowAnswer.the-variants as row
-use Rattle.truth.specs.RowTest.{testRowAnswer}
+use Rattle.row_test.specs.declared.test.RowAnswer.{RowAnswer}
+use Rattle.row_test.specs.declared.test.RowAnswer.the-variants as row
+use Rattle.row_test.specs.RowTest.{testRowAnswer}
 use Rattle.merge.specs.Rewrite.{rewriteAnswer, rewriteBytes}
 use Rattle.merge.specs.Demand.{rootAfter, usedAfter, AreBytes, AcceptedScreen}
 

@@ -7,11 +7,11 @@ ghost use Prim.Native.Nat.{ℕ, _≤_, min};
 ghost use lib.ListN.{length};
 ghost use Rattle.truth.specs.AExpr.{Inputs};
 ghost use Rattle.merge.specs.Minterms.{minterms};
-ghost use Rattle.rewrite.specs.Walk.{walked, firstOf, stackOf, InputsBelow};
+ghost use Rattle.reading.specs.Walk.{walked, firstOf, stackOf, InputsBelow};
 ghost use Rattle.minterm_iter.specs.Iter.{stackIn, Walkable, Next, Taken};
+use reading::minterms::Sides;
+use reading::minterms::sides_at;
 use records::record::Node;
-use rewrite::minterms::Sides;
-use rewrite::minterms::sides_at;
 
 /// `Option<Node>`; `Over` if the stack's 128 places do not suffice.
 pub enum Item {

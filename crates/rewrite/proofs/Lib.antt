@@ -1,5 +1,2 @@
-pub mod Walks
-pub mod Classifying
-pub mod Reading
 pub mod Writing
 pub mod Telling

@@ -20,14 +20,14 @@ use Rattle.truth.specs.FromBytes.{valuesFrom, aexprOf}
 use Rattle.constraints.specs.Column.{Constraint, Lower, Upper, Exclude, Allow, Disallow, Require}
 use Rattle.columns.specs.Abstraction.{Conjuncts, conjuncts, listOf, marked, Fine}
 use Rattle.merge.specs.Classify as c
-use Rattle.rewrite.specs.Read.{saysIn, conjunctIn}
+use Rattle.reading.specs.Read.{saysIn, conjunctIn}
 use Rattle.rewrite.specs.Told.{saidBy, kindOf, literalOf, startOf, countOf, Holds, Told, ToldConjunct}
-use Rattle.rewrite.specs.declared.classify.Comparison.the-variants.{Eq, NotEq, Lt, LtEq, Gt, GtEq}
-use Rattle.rewrite.specs.declared.classify.Says.{Says}
-use Rattle.rewrite.specs.declared.classify.Says.the-variants as says
-use Rattle.rewrite.specs.declared.classify.Conjunct.{Conjunct}
-use Rattle.rewrite.specs.declared.classify.Conjunct.the-variants as conjunct
-use Rattle.rewrite.proofs.Reading.{binary-read}
+use Rattle.reading.specs.declared.classify.Comparison.the-variants.{Eq, NotEq, Lt, LtEq, Gt, GtEq}
+use Rattle.reading.specs.declared.classify.Says.{Says}
+use Rattle.reading.specs.declared.classify.Says.the-variants as says
+use Rattle.reading.specs.declared.classify.Conjunct.{Conjunct}
+use Rattle.reading.specs.declared.classify.Conjunct.the-variants as conjunct
+use Rattle.reading.proofs.Reading.{binary-read}
 
 list-told : (ss cs p : List ℕ) (j start count : ℕ) → getD ss j 0 ≡ start → getD cs j 0 ≡ count
     → listOf ss cs p j ≡ valuesFrom p start count

@@ -1,4 +1,2 @@
-pub mod Walk
-pub mod Read
 pub mod Told
 pub mod Written

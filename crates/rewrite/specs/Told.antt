@@ -7,12 +7,12 @@ use lib.ListN.{getD}
 use Rattle.constraints.specs.Column.{Constraint, Lower, Upper, Exclude, Allow, Disallow, Require}
 use Rattle.columns.specs.Abstraction.{Conjuncts, listOf}
 use Rattle.merge.specs.Classify as c
-use Rattle.rewrite.specs.declared.classify.Comparison.{Comparison}
-use Rattle.rewrite.specs.declared.classify.Comparison.the-variants.{Eq, NotEq, Lt, LtEq, Gt, GtEq}
-use Rattle.rewrite.specs.declared.classify.Says.{Says}
-use Rattle.rewrite.specs.declared.classify.Says.the-variants as says
-use Rattle.rewrite.specs.declared.classify.Conjunct.{Conjunct}
-use Rattle.rewrite.specs.declared.classify.Conjunct.the-variants as conjunct
+use Rattle.reading.specs.declared.classify.Comparison.{Comparison}
+use Rattle.reading.specs.declared.classify.Comparison.the-variants.{Eq, NotEq, Lt, LtEq, Gt, GtEq}
+use Rattle.reading.specs.declared.classify.Says.{Says}
+use Rattle.reading.specs.declared.classify.Says.the-variants as says
+use Rattle.reading.specs.declared.classify.Conjunct.{Conjunct}
+use Rattle.reading.specs.declared.classify.Conjunct.the-variants as conjunct
 
 -- What a conjunct says of its column, if it has one.
 abbrev pub saidBy : Conjunct → Says

@@ -10,10 +10,10 @@ ghost use Rattle.columns.specs.Abstraction.{Conjuncts, conjuncts};
 ghost use Rattle.merge.specs.Classify as c;
 ghost use Rattle.rewrite.specs.Told.{saidBy, comparisonKind, kindOf, literalOf, startOf, countOf};
 ghost use Rattle.rewrite.specs.Told.{ToldConjunct};
-use crate::classify::Comparison;
-use crate::classify::Conjunct;
-use crate::classify::Says;
-use crate::classify::classify;
+use reading::classify::Comparison;
+use reading::classify::Conjunct;
+use reading::classify::Says;
+use reading::classify::classify;
 use records::record::Node;
 
 fn said_by(k: Conjunct) -> Says

@@ -21,7 +21,7 @@ use Rattle.merge.specs.Emit.{Outcome, mergeFilterConstraints}
 use Rattle.merge.specs.Passes.{mergePasses, rewritePasses}
 use Rattle.merge.specs.Write.{outcomeBytes}
 use Rattle.merge.specs.Rewrite.{rewriteAnswer, writtenIf, rewriteBytes}
-use Rattle.rewrite.specs.Walk.{walked, firstOf}
+use Rattle.reading.specs.Walk.{walked, firstOf}
 use Rattle.stages.specs.Reckon.{reckonedAnswer}
 use Rattle.stages.proofs.Answers.{walkedOutcome, rewrite-on}
 use Rattle.stages.proofs.Screens.{nodes-count, conjuncts-used}

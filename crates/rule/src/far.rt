@@ -5,9 +5,9 @@ ghost use mathlib.Core.Bool.{true};
 ghost use Prim.Native.Nat.{ℕ, _+_, _<_, _≤_};
 ghost use lib.ListN.{length, getD};
 use columns::marks::number_at;
+use reading::classify::Conjunct;
+use reading::classify::classify;
 use records::record::Node;
-use rewrite::classify::Conjunct;
-use rewrite::classify::classify;
 use stages::fields::bump;
 
 fn is_equality(k: Conjunct) -> bool {

@@ -11,7 +11,7 @@ ghost use Rattle.merge.specs.Minterms.{minterms};
 ghost use Rattle.merge.specs.Passes.{rewritePasses};
 ghost use Rattle.merge.specs.Rewrite.{rewriteAnswer, rewriteBytes};
 ghost use Rattle.merge.specs.declared.answer.RewriteAnswer.the-variants as answer;
-ghost use Rattle.rewrite.specs.Walk.{walked, firstOf};
+ghost use Rattle.reading.specs.Walk.{walked, firstOf};
 
 pub mod far;
 pub mod indexed;

@@ -14,10 +14,10 @@ use Rattle.checking.specs.declared.check.CheckAnswer.the-variants as check
 use Rattle.checking.proofs.Answers.{refused-numbered}
 use Rattle.truth.specs.declared.logic.Truth.{Truth}
 use Rattle.truth.specs.declared.logic.Truth.the-variants.{False, Unknown, True}
-use Rattle.truth.specs.declared.test.RowAnswer.{RowAnswer}
-use Rattle.truth.specs.declared.test.RowAnswer.the-variants as row
+use Rattle.row_test.specs.declared.test.RowAnswer.{RowAnswer}
+use Rattle.row_test.specs.declared.test.RowAnswer.the-variants as row
 use Rattle.truth.specs.FromBytes.{aexprAt, rowKeys, truthIn}
-use Rattle.truth.specs.RowTest.{marksOk, columnsOk, rowFault, checkedAnswer, answerIf, testRowAnswer}
+use Rattle.row_test.specs.RowTest.{marksOk, columnsOk, rowFault, checkedAnswer, answerIf, testRowAnswer}
 use Rattle.merge.specs.declared.answer.RewriteAnswer.{RewriteAnswer}
 use Rattle.merge.specs.declared.answer.RewriteAnswer.the-variants as answer
 use Rattle.merge.specs.Emit.{Outcome, Unchanged, NothingPasses, Rebuilt}
@@ -29,8 +29,8 @@ use Rattle.screen.specs.Listed.{listed, checkRefusals, checkListed, colu
 use Rattle.screen.specs.Listed.{saveListed, loadListed}
 use Rattle.files.specs.Answers.{saveIf, saveAnswer, roomOk, heldAnswer, loadIf, loadAnswer}
 use Rattle.files.specs.Calls.{saveNumber, loadNumber}
-use Rattle.files.specs.Format.{fileLength}
-use Rattle.files.specs.Read.{structureOk, held, total, rootOf}
+use Rattle.file_blocks.specs.Format.{fileLength}
+use Rattle.file_blocks.specs.Read.{structureOk, held, total, rootOf}
 use Rattle.files.specs.declared.save.SaveAnswer.{SaveAnswer}
 use Rattle.files.specs.declared.save.SaveAnswer.the-variants as save
 use Rattle.files.specs.declared.load.LoadAnswer.{LoadAnswer}

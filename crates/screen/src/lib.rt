@@ -6,14 +6,14 @@ ghost use Rattle.checking.specs.Check.{checkAnswer};
 ghost use Rattle.checking.specs.Columns.{columnsAnswer};
 ghost use Rattle.screen.specs.Answers.{checkNumber, columnsNumber, columnsOut, countOut, rowNumber, truthNumber};
 ghost use Rattle.screen.specs.Answers.{rewriteNumber, newRootOut, newUsedOut, passesOut};
-ghost use Rattle.truth.specs.RowTest.{testRowAnswer};
+ghost use Rattle.row_test.specs.RowTest.{testRowAnswer};
 ghost use Rattle.merge.specs.Passes.{rewritePasses};
 ghost use Rattle.merge.specs.Rewrite.{rewriteAnswer, rewriteBytes};
 ghost use Rattle.screen.specs.Listed.{checkListed, columnsListed, rowListed, rewriteListed};
 ghost use Rattle.screen.specs.Listed.{saveListed, loadListed, slowestListed};
 ghost use Rattle.screen.specs.Promises.{ColumnsPromise, returned, BytesKept, RewritePromise};
 ghost use lib.ListN.{length};
-ghost use Rattle.files.specs.Read.{held};
+ghost use Rattle.file_blocks.specs.Read.{held};
 ghost use Rattle.files.specs.Answers.{saveAnswer, saveBytes, loadAnswer, loadedBytes};
 ghost use Rattle.files.specs.Calls.{saveNumber, savedLength, loadNumber, loadedRoot, loadedColumns, loadedUsed, loadedValues};
 ghost use Rattle.files.specs.Calls.{SavePromise, LoadPromise};
@@ -28,12 +28,12 @@ use files::load::load_screen;
 use files::save::SaveAnswer;
 use files::save::save_screen;
 use merge::answer::RewriteAnswer;
+use row_test::test::RowAnswer;
+use row_test::test::test_row;
 use rule::rewrite_screen;
 use slowest::build::SlowestAnswer;
 use slowest::build::build_slowest;
 use truth::logic::Truth;
-use truth::test::RowAnswer;
-use truth::test::test_row;
 
 // Below 256: the refusal's number. 256: accepted.
 #[no_mangle]

@@ -17,7 +17,7 @@ use Rattle.records.specs.declared.record.Record.the-variants as kind
 use Rattle.records.proofs.Courses.{course-law}
 use Rattle.checking.specs.Check.{typesKnown, tableOk, sizesOk, checkAnswer}
 use Rattle.checking.specs.Checked.{CheckedRecord, Checked}
-use Rattle.checking.specs.Fit.{reachOk, servedOk, typeOf, typeAt, sameType, binaryFits, typesOk}
+use Rattle.record_check.specs.Fit.{reachOk, servedOk, typeOf, typeAt, sameType, binaryFits, typesOk}
 use Rattle.checking.specs.Tree.{sumAt, treeStep, treeCount}
 use Rattle.truth.specs.AExpr.{AExpr, Column, Literal, BinaryExpr, Compare, And, Missing, WF}
 use Rattle.truth.specs.Comparison.{Eq, Gt}

@@ -20,7 +20,7 @@ use Rattle.merge.specs.Emit.{Outcome, mergeFilterConstraints}
 use Rattle.merge.specs.Write.{outcomeBytes}
 use Rattle.merge.specs.Rewrite.{outcomeOf, outcomeAnswer, rewriteChecked, rewriteIf, rewriteAnswer, writtenIf}
 use Rattle.merge.specs.Rewrite.{rewriteBytes}
-use Rattle.rewrite.specs.Walk.{walked}
+use Rattle.reading.specs.Walk.{walked}
 use Rattle.stages.specs.Reckon.{reckonedUsed, reckonedRoot, reckonedTree, roomFor, reckoned, reckonedAnswer}
 use Rattle.stages.specs.Rewritten.{isRewritten}
 use Rattle.stages.proofs.Screens.{minterms-walked, conjuncts-used}

@@ -12,8 +12,8 @@ use Rattle.checking.specs.Tree.{sumAt}
 use Rattle.records.proofs.Laws.{and-left, and-right}
 use Rattle.merge.specs.declared.answer.RewriteAnswer.{RewriteAnswer}
 use Rattle.merge.specs.declared.answer.RewriteAnswer.the-variants as answer
-use Rattle.rewrite.specs.Walk.{firstOf}
-use Rattle.rewrite.proofs.Walks.{first-length}
+use Rattle.reading.specs.Walk.{firstOf}
+use Rattle.reading.proofs.Walks.{first-length}
 use Rattle.stages.specs.Reckon.{roomFor, reckoned}
 
 -- ---- the trees of the kept nodes

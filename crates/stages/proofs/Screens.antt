@@ -8,7 +8,7 @@ use lib.ListN.{length, getD}
 use lib.Dec.{leb, ltb}
 use borrow.Author.Tests.{ltb-true, ltb-false, leb-true}
 use Rattle.records.specs.Record.{node, recordAt}
-use Rattle.checking.specs.Fit.{reachOk}
+use Rattle.record_check.specs.Fit.{reachOk}
 use Rattle.checking.specs.Check.{tableOk, typesKnown}
 use Rattle.checking.specs.Checked.{Checked}
 use Rattle.records.specs.declared.operator.Operator.{Operator}
@@ -28,8 +28,8 @@ use Rattle.merge.proofs.Chains.{Below, below-more, below-app, minterms-low}
 use Rattle.merge.proofs.Forms.{Forms, classify-ind}
 use Rattle.merge.proofs.Fitting.{AExprP}
 use Rattle.merge.proofs.Accepted.{inputs-fall}
-use Rattle.rewrite.specs.Walk.{walked, firstOf}
-use Rattle.rewrite.proofs.Walks.{walked-minterms, first-length}
+use Rattle.reading.specs.Walk.{walked, firstOf}
+use Rattle.reading.proofs.Walks.{walked-minterms, first-length}
 use Rattle.stages.specs.Columns.{ColumnsBelow}
 
 -- Inputs do not depend on the pool.

@@ -9,7 +9,7 @@ ghost use Rattle.constraints.specs.Column as q;
 ghost use Rattle.constraints.specs.Payload.{payload};
 ghost use Rattle.columns.specs.Abstraction.{Conjuncts, conjuncts, numbered, columnOf, Fine};
 ghost use Rattle.merge.specs.Classify.{comparisonConstraints};
-ghost use Rattle.rewrite.specs.Read.{saysIn, comparisonIn};
+ghost use Rattle.reading.specs.Read.{saysIn, comparisonIn};
 ghost use Rattle.rewrite.specs.Told.{Told};
 use columns::column::ColumnConstraints;
 use columns::column::add_lower;
@@ -18,9 +18,9 @@ use columns::column::require_nullability;
 use columns::marks::add_allowed;
 use columns::marks::add_disallowed;
 use columns::marks::add_excluded;
+use reading::classify::Comparison;
+use reading::classify::Says;
 use records::record::ClosedInterval;
-use rewrite::classify::Comparison;
-use rewrite::classify::Says;
 use truth::scalar::Scalar;
 
 // The column alone; what became of its bound matters to a merge.

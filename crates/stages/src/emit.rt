@@ -9,15 +9,15 @@ ghost use Rattle.constraints.specs.Resolve.{fixedAt};
 ghost use Rattle.columns.specs.Abstraction.{Conjuncts, numbered, columnOf, comparedOf, Fine};
 ghost use Rattle.merge.specs.Emit.{ofColumn, isFixed};
 ghost use Rattle.merge.specs.Write.{writeComparisons};
-ghost use Rattle.rewrite.specs.Read.{comparisonIn};
+ghost use Rattle.reading.specs.Read.{comparisonIn};
 ghost use Rattle.rewrite.specs.Written.{writeCompared};
 use columns::column::ColumnConstraints;
 use columns::comparisons::Compared;
 use columns::comparisons::comparison_at;
 use columns::resolve::FixedValue;
 use columns::resolve::fixed_value;
+use reading::classify::Comparison;
 use records::record::Column;
-use rewrite::classify::Comparison;
 use rewrite::write::write_comparison;
 use truth::scalar::Scalar;
 

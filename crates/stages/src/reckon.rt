@@ -7,7 +7,7 @@ ghost use Rattle.checking.specs.Tree.{sumAt};
 ghost use Rattle.merge.specs.Emit.{NothingPasses};
 ghost use Rattle.merge.specs.Write.{outcomeBytes};
 ghost use Rattle.merge.specs.Rewrite.{writtenIf};
-ghost use Rattle.rewrite.specs.Walk.{firstOf};
+ghost use Rattle.reading.specs.Walk.{firstOf};
 ghost use Rattle.stages.specs.Reckon.{roomFor, reckoned, reckonedAnswer};
 use merge::answer::RewriteAnswer;
 use records::record::Node;

@@ -11,7 +11,7 @@ ghost use Rattle.columns.specs.Abstraction.{Conjuncts, conjuncts, numbered, col
 ghost use Rattle.columns.specs.Index.{Indexed};
 ghost use Rattle.merge.specs.Emit.{ofColumn};
 ghost use Rattle.merge.specs.Write.{writeComparisons};
-ghost use Rattle.rewrite.specs.Read.{saysIn};
+ghost use Rattle.reading.specs.Read.{saysIn};
 ghost use Rattle.rewrite.specs.Told.{Told};
 ghost use Rattle.stages.specs.Rows.{stride, rowOf, RowsKept};
 use crate::add::add_says;
@@ -22,8 +22,8 @@ use columns::marks::copied;
 use columns::merging::Merged;
 use columns::merging::merge_from;
 use columns::resolve::resolve_deferred;
+use reading::classify::Says;
 use records::record::Column;
-use rewrite::classify::Says;
 
 /// What conjunct j says of the column c in row x.
 pub fn add_in_row(

@@ -8,9 +8,3 @@ pub mod Agree
 pub mod Memberships
 pub mod Lists
 pub mod Quotients
-pub mod Evaluation
-pub mod Ready
-pub mod Marks
-pub mod Answers
-mod Cases
-pub mod TypedRows

@@ -8,4 +8,3 @@ pub mod Cell
 pub mod FromBytes
 pub mod Negation
 pub mod Evaluate
-pub mod RowTest

@@ -13,7 +13,7 @@ use native.Mathlib.Omega.{arith}
 use lib.ListN.{length}
 use Rattle.checking.proofs.Accepted.{checked}
 use Rattle.merge.specs.Minterms as mt
-use Rattle.rewrite.specs.Walk.{walked}
+use Rattle.reading.specs.Walk.{walked}
 use Rattle.rule.proofs.Merged.{none-said}
 use Rattle.stages.proofs.Answers.{rewrite-9}
 use Rattle.stages.proofs.Screens.{walked-inputs}

@@ -9,7 +9,7 @@ use Rattle.screen.proofs.screen_test_row.Tie as tie
 use Rattle.screen.proofs.screen_test_row.Reads as reads
 use Rattle.screen.proofs.screen_test_row.Lts as lts
 use Rattle.screen.proofs.truth_number.Reads as truth-number-reads
-use Rattle.truth.proofs.test.test_row.Reads as test-row-reads
+use Rattle.row_test.proofs.test.test_row.Reads as test-row-reads
 
 -- src/lib.rt:85:11
 test-row-requires : tie.Need-test-row-requires

@@ -13,7 +13,7 @@ use mathlib.Core.Path.{refl, sym, _∙_}
 use native.Mathlib.Omega.{arith}
 use Rattle.records.proofs.Laws.{flags}
 use Rattle.checking.specs.Check.{checkAnswer}
-use Rattle.checking.specs.Outside.{Counts}
+use Rattle.record_check.specs.Outside.{Counts}
 use borrow.Author.Needs.{needs}
 
 table-ok-requires : tie.Need-table-ok-requires

@@ -3,16 +3,16 @@ use Rattle.checking.proofs.check.fault_below.Tie as tie
 use Rattle.checking.proofs.check.fault_below.Reads as reads
 use Rattle.checking.proofs.check.fault_below.Lts as lts
 use Rattle.checking.proofs.check.cut.Reads as cut-reads
-use Rattle.checking.proofs.step.record_step.Reads as record-step-reads
+use Rattle.record_check.proofs.step.record_step.Reads as record-step-reads
 use Rattle.records.proofs.record.fields_in.Reads as fields-in-reads
 use Prim.Native.Nat.{ℕ, _+_, _-_, _≤_, min}
 use lib.ListN.{length, length-set}
 use mathlib.Core.Path.{_≡_, sym, _∙_, subst}
 use native.Mathlib.Omega.{arith}
-use Rattle.checking.proofs.Tables.{filled-more}
+use Rattle.record_check.proofs.Filling.{filled-more}
 use Rattle.checking.proofs.Steps.{step-right, entered-none, entered-more}
 use Rattle.checking.specs.Tree.{treeCount, Counted}
-use Rattle.checking.specs.Step.{Entered}
+use Rattle.record_check.specs.Step.{Entered}
 use Rattle.checking.specs.Check.{recordFault}
 use Rattle.records.specs.Record.{node}
 use Rattle.records.specs.Bytes.{first}

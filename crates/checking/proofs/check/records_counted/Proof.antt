@@ -3,8 +3,8 @@ use Rattle.checking.proofs.check.records_counted.Tie as tie
 use Rattle.checking.proofs.check.records_counted.Reads as reads
 use Rattle.checking.proofs.check.records_counted.Lts as lts
 use Rattle.checking.proofs.check.records_answer.Reads as records-answer-reads
-use Rattle.checking.proofs.outside.fill_outside.Reads as fill-outside-reads
-use Rattle.checking.specs.Outside.{Counts}
+use Rattle.record_check.proofs.outside.fill_outside.Reads as fill-outside-reads
+use Rattle.record_check.specs.Outside.{Counts}
 use native.Mathlib.Omega.{arith}
 use borrow.Author.Needs.{needs}
 

@@ -3,7 +3,8 @@ use mathlib.Core.Path.{_≡_}
 use native.Mathlib.Omega.{arith}
 use lib.ListN.{length, length-set}
 use Rattle.checking.specs.Columns.{columnsWord}
-use Rattle.checking.proofs.Tables.{Filled, filled-more, columns-turn}
+use Rattle.record_check.proofs.Filling.{Filled, filled-more}
+use Rattle.checking.proofs.Tables.{columns-turn}
 use borrow.Author.Needs.{needs}
 use Rattle.checking.proofs.reads.fill_words.Statement.{statement}
 use Rattle.checking.proofs.reads.fill_words.Tie as tie

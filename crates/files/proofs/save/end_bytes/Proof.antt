@@ -4,7 +4,7 @@ use Rattle.files.proofs.save.end_bytes.Tie as tie
 use Rattle.files.proofs.save.end_bytes.Reads as reads
 use Rattle.files.proofs.save.end_bytes.Lts as lts
 use mathlib.Core.Path.{refl}
-use Rattle.files.specs.Format.{wordBytes}
+use Rattle.file_blocks.specs.Format.{wordBytes}
 
 -- src/save.rt:23:9
 cast-t4 : tie.Need-cast-t4

@@ -8,7 +8,7 @@ use Rattle.files.proofs.save.file_length.Reads as file-length-reads
 use Rattle.files.proofs.save.write_screen.Reads as write-screen-reads
 use mathlib.Core.Path.{_≡_, sym, _∙_}
 use native.Mathlib.Omega.{arith}
-use Rattle.files.specs.Format.{fileLength, blocksFor}
+use Rattle.file_blocks.specs.Format.{fileLength, blocksFor}
 use Rattle.files.proofs.Saving.{limits, save-refused, save-short, save-done}
 
 -- src/save.rt:67:11

@@ -3,14 +3,14 @@ use Rattle.files.proofs.save.write_screen.Statement.{statement}
 use Rattle.files.proofs.save.write_screen.Tie as tie
 use Rattle.files.proofs.save.write_screen.Reads as reads
 use Rattle.files.proofs.save.write_screen.Lts as lts
-use Rattle.files.proofs.block.write_block.Reads as write-block-reads
-use Rattle.files.proofs.block.write_blocks.Reads as write-blocks-reads
+use Rattle.file_blocks.proofs.block.write_block.Reads as write-block-reads
+use Rattle.file_blocks.proofs.block.write_blocks.Reads as write-blocks-reads
 use Rattle.files.proofs.save.end_bytes.Reads as end-bytes-reads
 use Prim.Native.Nat.{_*_}
 use mathlib.Core.Path.{refl, sym}
 use lib.Seq.{length-take-le}
 use native.Mathlib.Omega.{arith}
-use Rattle.files.specs.Format.{fileLength, blocksFor, wordBytes}
+use Rattle.file_blocks.specs.Format.{fileLength, blocksFor, wordBytes}
 use Rattle.files.proofs.Saving.{screen-written}
 
 -- src/save.rt:43:17

@@ -5,7 +5,7 @@ use Rattle.filter_constraint.proofs.collect.collect.Lts as lts
 use Rattle.filter_constraint.proofs.collect.add_to_column.Reads as add-to-column-reads
 use Rattle.filter_constraint.proofs.collect.enter.Reads as enter-reads
 use Rattle.filter_constraint.proofs.collect.require_non_null.Reads as require-non-null-reads
-use Rattle.rewrite.proofs.classify.classify.Reads as classify-reads
+use Rattle.reading.proofs.classify.classify.Reads as classify-reads
 use mathlib.Core.Path.{_≡_, refl, sym, _∙_, ap, subst}
 use mathlib.Core.Bool.{Bool, true, false, not, _&&_}
 use Prim.Native.Nat.{ℕ, _+_, _-_, _≤_, _<_}

@@ -14,7 +14,7 @@ use Prim.Native.Nat.{ℕ, _+_, _-_, _*_, _≤_, _<_}
 use native.Mathlib.Omega.{arith}
 use lib.ListN.{length}
 use Rattle.columns.specs.Abstraction.{conjuncts, numbered}
-use Rattle.rewrite.specs.Walk.{firstOf}
+use Rattle.reading.specs.Walk.{firstOf}
 use Rattle.stages.specs.Rows.{rowOf}
 use Rattle.filter_constraint.specs.Words.{columnsOf}
 use Rattle.filter_constraint.specs.State.{ColumnTable, Shows, Fits, Resolved}

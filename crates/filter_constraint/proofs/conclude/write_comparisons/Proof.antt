@@ -13,7 +13,7 @@ use lib.ListN.{length}
 use Rattle.constraints.specs.Payload.{payload}
 use Rattle.columns.specs.Abstraction.{Conjuncts, conjuncts}
 use Rattle.merge.specs.Emit.{comparisons}
-use Rattle.rewrite.specs.Walk.{firstOf}
+use Rattle.reading.specs.Walk.{firstOf}
 use Rattle.filter_constraint.specs.Words.{columnsOf}
 use Rattle.filter_constraint.specs.State.{shown, Written}
 use Rattle.filter_constraint.proofs.Resolving.{written-none, written-loaded, row-asked}

@@ -22,7 +22,7 @@ use Rattle.truth.specs.FromBytes.{aexprOf}
 use Rattle.constraints.specs.Payload.{payload}
 use Rattle.columns.specs.Abstraction.{conjuncts}
 use Rattle.merge.specs.Emit.{comparisons}
-use Rattle.rewrite.specs.Walk.{firstOf}
+use Rattle.reading.specs.Walk.{firstOf}
 use Rattle.filter_constraint.specs.Words.{columnsOf}
 use Rattle.filter_constraint.specs.State.{shown}
 use Rattle.filter_constraint.proofs.Encoding.{columns-empty}

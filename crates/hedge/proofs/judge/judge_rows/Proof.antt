@@ -3,7 +3,7 @@ use Rattle.hedge.proofs.judge.judge_rows.Tie as tie
 use Rattle.hedge.proofs.judge.judge_rows.Reads as reads
 use Rattle.hedge.proofs.judge.judge_rows.Lts as lts
 use Rattle.hedge.proofs.judge.class_of.Reads as class-of-reads
-use Rattle.truth.proofs.test.test_checked.Reads as test-checked-reads
+use Rattle.row_test.proofs.test.test_checked.Reads as test-checked-reads
 use Prim.Native.Nat.{ℕ, _+_, _-_, _*_, _≤_, _<_}
 use mathlib.Core.Path.{_≡_, refl, sym, _∙_, ap, subst}
 use mathlib.Core.Bool.{true, true≢false}
@@ -11,7 +11,7 @@ use lib.ListN.{length, length-set}
 use native.Mathlib.Omega.{arith}
 use Rattle.records.specs.Bytes.{all}
 use Rattle.records.proofs.Loops.{all-none, all-more, all-fails, all-done}
-use Rattle.truth.proofs.Ready.{columns-small}
+use Rattle.row_test.proofs.Ready.{columns-small}
 use Rattle.hedge.specs.Chain.{answerAt, isTested}
 use Rattle.hedge.specs.Classes.{classOf, Judged}
 use Rattle.hedge.proofs.Rows.{row-end, part-row, answer-is, class-refused, class-tested}

@@ -11,7 +11,7 @@ use lib.ListN.{length}
 use native.Mathlib.Omega.{arith}
 use borrow.Author.Tests.{not-false}
 use Rattle.records.proofs.Loops.{flag-no, flag-yes}
-use Rattle.truth.proofs.Ready.{columns-small}
+use Rattle.row_test.proofs.Ready.{columns-small}
 use Rattle.hedge.specs.Chain.{answerAt}
 use Rattle.hedge.proofs.Answers.{values-small, tree-refused, rows-refused, places-refused, values-refused, row-refused, rows-listed}
 

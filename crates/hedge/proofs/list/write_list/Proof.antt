@@ -8,7 +8,7 @@ use mathlib.Core.Path.{_≡_, refl, sym, _∙_, ap}
 use lib.ListN.{getD, length}
 use lib.Dec.{eqb}
 use native.Mathlib.Omega.{arith}
-use Rattle.files.specs.Format.{overwrite}
+use Rattle.file_blocks.specs.Format.{overwrite}
 use Rattle.hedge.specs.Chain.{numbers, bytesOf}
 use Rattle.hedge.proofs.Lists.{list-none, place-none, place-more, list-more, put-small}
 use borrow.Author.Needs.{needs}

@@ -2,7 +2,7 @@ use Rattle.rewrite.proofs.literals.read_literals.Statement.{statement}
 use Rattle.rewrite.proofs.literals.read_literals.Tie as tie
 use Rattle.rewrite.proofs.literals.read_literals.Reads as reads
 use Rattle.rewrite.proofs.literals.read_literals.Lts as lts
-use Rattle.rewrite.proofs.classify.classify.Reads as classify-reads
+use Rattle.reading.proofs.classify.classify.Reads as classify-reads
 use Rattle.rewrite.proofs.literals.count_of.Reads as count-of-reads
 use Rattle.rewrite.proofs.literals.kind_of.Reads as kind-of-reads
 use Rattle.rewrite.proofs.literals.literal_of.Reads as literal-of-reads

@@ -8,7 +8,7 @@ use Rattle.columns.proofs.marks.add_allowed.Reads as add-allowed-reads
 use Rattle.columns.proofs.marks.add_disallowed.Reads as add-disallowed-reads
 use Rattle.stages.proofs.add.add_between.Reads as add-between-reads
 use Rattle.stages.proofs.add.add_comparison.Reads as add-comparison-reads
-use Rattle.rewrite.specs.Read.{comparisonIn}
+use Rattle.reading.specs.Read.{comparisonIn}
 use Rattle.rewrite.proofs.Telling.{fine-same}
 use Rattle.stages.proofs.Adding.{told-compared}
 use Prim.Native.Nat.{ℕ}

@@ -1,5 +1,5 @@
 use Rattle.stages.proofs.Reckoning.{sum-none, sum-more}
-use Rattle.rewrite.specs.Walk.{firstOf}
+use Rattle.reading.specs.Walk.{firstOf}
 use Rattle.checking.specs.Tree.{sumAt}
 use lib.ListN.{getD}
 use Prim.Native.Nat.{_≤_, _*_, _-_}

@@ -1,0 +1,3 @@
+pub mod Filling
+pub mod Lists
+pub mod Outsides

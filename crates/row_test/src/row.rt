@@ -1,0 +1,62 @@
+// The checks of a row, numbers 12 and 13. Every column is looked at, whether the screen reads it or not.
+ghost use mathlib.Core.Path.{_≡_};
+ghost use Prim.Native.Nat.{_*_, _≤_, _^_};
+ghost use lib.Dec.{ltb};
+ghost use lib.ListN.{length};
+ghost use Rattle.row_test.specs.RowTest.{columnOk, columnsOk, marksOk, rowFault};
+use records::bytes::value_in;
+use records::shape::in_type;
+use truth::read::null_marked;
+
+fn column_ok(ty: u8, null: bool, v: u64) -> bool
+    ensures { λ r. ⌜ r ≡ columnOk ty null v ⌝ }
+{
+    if null {
+        return v == 0;
+    }
+    in_type(ty, v)
+}
+
+fn columns_ok(table: &[u8], row: &[u8], nulls: u64) -> bool
+    requires { ⌜ length (now table) ≤ 64 ⌝ }
+    requires { ⌜ length (now row) ≡ 8 * length (now table) ⌝ }
+    ensures { λ r. ⌜ r ≡ columnsOk (now (table .entry)) (now (row .entry)) nulls ⌝ }
+{
+    let mut c: usize = 0;
+    while c < table.len() {
+        let null = null_marked(nulls, c as u32);
+        if !column_ok(table[c], null, value_in(row, c)) {
+            return false;
+        }
+        c += 1;
+    }
+    true
+}
+
+// With 64 columns no mark is too high.
+fn marks_ok(count: usize, nulls: u64) -> bool
+    requires { ⌜ count ≤ 64 ⌝ }
+    ensures { λ r. ⌜ r ≡ marksOk count nulls ⌝ }
+{
+    if count == 64 {
+        return true;
+    }
+    nulls >> (count as u32) == 0
+}
+
+// 12, 13, or 0 for no fault.
+pub fn row_fault(table: &[u8], row: &[u8], nulls: u64) -> u32
+    requires { ⌜ length (now table) ≤ 64 ⌝ }
+    ensures { λ r. ⌜ r ≡ rowFault (now (table .entry)) (now (row .entry)) nulls ⌝ }
+{
+    if row.len() != 8 * table.len() {
+        return 12;
+    }
+    if !marks_ok(table.len(), nulls) {
+        return 13;
+    }
+    if !columns_ok(table, row, nulls) {
+        return 13;
+    }
+    0
+}

@@ -1,0 +1,120 @@
+// Testing a row: the checks in 01's order, then the root's truth. A row passes on true only.
+ghost use mathlib.Core.Path.{_≡_};
+ghost use Prim.Native.Nat.{_≤_, min};
+ghost use lib.ListN.{length};
+ghost use Rattle.checking.specs.Checked.{Checked};
+ghost use Rattle.checking.specs.Tree.{treeCount};
+ghost use Rattle.row_test.specs.RowTest.{checkedAnswer, testRowAnswer};
+use crate::evaluate::truth_at;
+use crate::row::row_fault;
+use checking::check::CheckAnswer;
+use checking::check::check_counted;
+use records::record::Node;
+use truth::logic::Truth;
+
+// A refusal with its number, or what the row makes of the screen.
+pub enum RowAnswer {
+    Refused(u32),
+    Tested(Truth),
+}
+
+// The answer for a screen that was accepted and whose root has the tree count: 8, 12 and 13, then the truth.
+pub fn test_checked(
+    table: &[u8],
+    records: &[u8],
+    pool: &[u8],
+    used: u64,
+    root: Node,
+    row: &[u8],
+    nulls: u64,
+    tree: u16,
+) -> RowAnswer
+    requires { ⌜ Checked (now table) (now records) (now pool) used (root .0) ⌝ }
+    requires { ⌜ tree ≡ min (treeCount (now records) (root .0)) 4097 ⌝ }
+    ensures { λ r. ⌜ r ≡ checkedAnswer (now (table .entry)) (now (records .entry)) (now (pool .entry)) used (root .0)
+        (now (row .entry)) nulls ⌝ }
+{
+    if 4096 < tree {
+        return RowAnswer::Refused(8);
+    }
+    let fault = row_fault(table, row, nulls);
+    if fault != 0 {
+        return RowAnswer::Refused(fault);
+    }
+    RowAnswer::Tested(truth_at(records, pool, row, nulls, root))
+}
+
+fn test_within(
+    table: &[u8],
+    records: &[u8],
+    pool: &[u8],
+    used: u64,
+    root: u64,
+    row: &[u8],
+    nulls: u64,
+    types: &mut [u8],
+    trees: &mut [u16],
+) -> RowAnswer
+    requires { ⌜ (used ≤ 4096 → used ≤ length (now types)) ⌝ }
+    requires { ⌜ (used ≤ 4096 → used ≤ length (now trees)) ⌝ }
+    ensures { λ r. ⌜ r ≡ testRowAnswer (now (table .entry)) (now (records .entry)) (now (pool .entry)) used root
+        (now (row .entry)) nulls ⌝ }
+{
+    let answer = check_counted(table, records, pool, used, root, types, trees);
+    match answer {
+        CheckAnswer::Refused(number) => RowAnswer::Refused(number),
+        CheckAnswer::Accepted => test_checked(
+            table,
+            records,
+            pool,
+            used,
+            Node(root as u32),
+            row,
+            nulls,
+            trees[root as usize],
+        ),
+    }
+}
+
+// Most screens have few records, and small tables cost less to clear.
+pub fn test_row(
+    table: &[u8],
+    records: &[u8],
+    pool: &[u8],
+    used: u64,
+    root: u64,
+    row: &[u8],
+    nulls: u64,
+) -> RowAnswer
+    ensures { λ r. ⌜ r ≡ testRowAnswer (now (table .entry)) (now (records .entry)) (now (pool .entry)) used root
+        (now (row .entry)) nulls ⌝ }
+{
+    if used <= 64 {
+        let mut few = [0u8; 64];
+        let mut small = [0u16; 64];
+        return test_within(
+            table,
+            records,
+            pool,
+            used,
+            root,
+            row,
+            nulls,
+            &mut few,
+            &mut small,
+        );
+    }
+    let mut types = [0u8; 4096];
+    let mut trees = [0u16; 4096];
+    test_within(
+        table,
+        records,
+        pool,
+        used,
+        root,
+        row,
+        nulls,
+        &mut types,
+        &mut trees,
+    )
+}
