@@ -231,6 +231,30 @@ static int divisions(void)
     return family("2,044 divisions, one of the other");
 }
 
+static int divisions_beside(void)
+{
+    uint32_t top = 0, dividend, divisor;
+    make(&now, COLUMNS, SCREEN_TYPE_INT);
+    dividend = screen_put_column(&now.s, 0);
+    divisor = screen_put_int(&now.s, 3);
+    for (unsigned n = 0; n < 819; n++) {
+        uint32_t next = screen_put_is_not_null(&now.s, screen_put_floor_divide(&now.s, dividend, divisor));
+        top = n == 0 ? next : screen_put_and(&now.s, top, next);
+    }
+    return family("819 divisions, one beside the other");
+}
+
+static int truths(void)
+{
+    uint32_t top, leaf;
+    make(&now, COLUMNS, SCREEN_TYPE_INT);
+    leaf = screen_put_is_null(&now.s, screen_put_column(&now.s, 0));
+    top = leaf;
+    for (unsigned n = 0; n < 1364; n++)
+        top = screen_put_binary(&now.s, SCREEN_OP_EQ, top, leaf);
+    return family("1,364 comparisons of truths, one of the other");
+}
+
 /* `count` is_in of column 0, each over the pool from its own place on; no row is in a list, so each is searched whole. */
 static int lists(const char *name, unsigned count)
 {
@@ -254,6 +278,8 @@ int main(void)
     differ |= full_tree();
     differ |= nots();
     differ |= divisions();
+    differ |= divisions_beside();
+    differ |= truths();
     differ |= lists("one list of 8,192 values", 1);
     differ |= lists("1,024 lists over parts of 8,192 values", 1024);
     printf("goals met: %u of %u\n", met, goals);

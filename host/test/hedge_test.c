@@ -390,15 +390,50 @@ static void *deep(void *unused)
     return unused;
 }
 
-/* The deepest screens, on a thread with as much stack as the header asks for. */
-static void test_deep(void)
+/* The call alone, since screen_test_row needs more. */
+static void *alone(void *answer)
+{
+    static uint8_t list[2 * 64];
+    struct screen_tally sums = {0, 0, 0};
+    uint64_t count = 0;
+    uint32_t got = screen_lent_hedge_list(&sent, values, values_len, nulls, rows, list, sizeof list, &sums, &count);
+    *(uint32_t *)answer = got == SCREEN_HEDGED && count == rows ? got : 0;
+    return NULL;
+}
+
+static void on_thread(void *(*work)(void *), void *argument, size_t stack)
 {
     pthread_attr_t attributes;
     pthread_t thread;
-    if (pthread_attr_init(&attributes) != 0 || pthread_attr_setstacksize(&attributes, (size_t)3 << 19) != 0 ||
-        pthread_create(&thread, &attributes, deep, NULL) != 0 || pthread_join(thread, NULL) != 0)
+    if (pthread_attr_init(&attributes) != 0 || pthread_attr_setstacksize(&attributes, stack) != 0 ||
+        pthread_create(&thread, &attributes, work, argument) != 0 || pthread_join(thread, NULL) != 0)
         abort();
     pthread_attr_destroy(&attributes);
+}
+
+/* The deepest screens, on threads with as much stack as the header asks for. */
+static void test_deep(void)
+{
+    uint32_t answer = 0;
+    on_thread(deep, NULL, (size_t)3 << 19);
+
+    begin_mixed();
+    uint32_t top = is_not_null(column(0));
+    for (unsigned n = 0; n < 4094; n++)
+        top = not_of(top);
+    zero_chain(64);
+    on_thread(alone, &answer, 96 << 10);
+    report(answer == SCREEN_HEDGED, "4,094 Nots", "not every row on a thread of 96 KB");
+
+    begin_mixed();
+    uint32_t divisor = literal(INT, -1);
+    top = column(0);
+    for (unsigned n = 0; n < 2046; n++)
+        top = binary(SCREEN_OP_FLOOR_DIVIDE, top, divisor);
+    is_not_null(top);
+    zero_chain(64);
+    on_thread(alone, &answer, 800 << 10);
+    report(answer == SCREEN_HEDGED, "2,046 divisions", "not every row on a thread of 800 KB");
 }
 
 static void test_texts(void)

@@ -1,22 +1,36 @@
--- Judging rows: where a row lies, and what its class tells of the row test's answer.
+-- Judging rows: where a row lies, what the row test says of one that fits, and the classes that blocks of rows write.
 -- Assumes nothing.
 use mathlib.Core.Path.{_≡_, refl, sym, _∙_, ap, subst}
-use mathlib.Core.Bool.{Bool, true, false}
+use mathlib.Core.Bool.{Bool, true, false, cond, _&&_}
 use mathlib.Core.List.{List, []}
-use Prim.Native.Nat.{ℕ, zero, suc, _+_, _-_, _*_, _≤_, _<_}
+use mathlib.Core.Logic.{_⊎_, inl, inr, ⊎-elim}
+use Prim.Native.Nat.{ℕ, zero, suc, _+_, _-_, _*_, _≤_, _<_, min}
 use native.Mathlib.Omega.{arith}
 use native.Mathlib.Nat.{mul-le-mul}
-use lib.ListN.{length, getD, take, drop, set}
+use lib.Dec.{ltb, eqb}
+use lib.ListN.{length, getD, take, drop, set, length-drop}
+use lib.Seq.{length-take-le}
+use borrow.Author.Tests.{le-ltb, eqb-true}
+use Rattle.records.specs.Bytes.{all}
+use Rattle.records.proofs.Loops.{all-holds}
 use Rattle.checking.specs.Checked.{Checked}
-use Rattle.record_check.proofs.Filling.{filled-none, filled-more}
-use Rattle.checking.proofs.Accepted.{checked-accepted}
-use Rattle.row_test.specs.RowTest.{checkedAnswer, testRowAnswer}
+use Rattle.checking.specs.Columns.{bit}
+use Rattle.checking.specs.Tree.{treeCount}
+use Rattle.checking.proofs.Accepted.{checked-accepted, checked-used}
+use Rattle.row_test.specs.RowTest.{rowFault, checkedAnswer, testRowAnswer}
+use Rattle.truth.specs.Logic.{isTrue}
 use Rattle.truth.specs.declared.logic.Truth.{Truth}
 use Rattle.truth.specs.declared.logic.Truth.the-variants.{False, Unknown, True}
 use Rattle.row_test.specs.declared.test.RowAnswer.{RowAnswer}
 use Rattle.row_test.specs.declared.test.RowAnswer.the-variants.{Refused, Tested}
+use Rattle.row_test.proofs.Answers.{row-tested}
+use Rattle.truth.proofs.Keys.{lt-or-le}
+use Rattle.row_test.proofs.Ready.{columns-small, checked-evaluable}
+use Rattle.masks.specs.declared.Masks.{Masks}
+use Rattle.masks.specs.Masks.{isUnknown, Tells}
+use Rattle.masks.specs.Block.{chainRow, chainTruth, Ready}
 use Rattle.hedge.specs.Chain.{rowAt, answerAt, isTested}
-use Rattle.hedge.specs.Classes.{truthClass, classOf, Judged}
+use Rattle.hedge.specs.Classes.{truthClass, classOf, Judged, rowFits, Classed, Evaluates}
 
 -- row r of n lies within them
 pub row-end : (w r n : ℕ) → r < n → w * r + w ≤ w * n
@@ -35,42 +49,126 @@ part-row t values w r s e ew es ee =
     let d : e - s ≡ w = omega (arith, ee) in
     rw (d, es, ew)
 
+-- whether a row fits, by what was found of the part that is lent
+pub fits-part : (t values nulls : List ℕ) (r k : ℕ) (row : List ℕ) → row ≡ rowAt t values r → k ≡ rowFault t row (getD nulls r 0)
+    → eqb k 0 ≡ rowFits t values nulls r
+unfolding rowFits
+fits-part t values nulls r k row er ek = rw (ek, er)
+
 -- of a checked screen the row test's answer is that of the row
-pub answer-is : (t rs p : List ℕ) (used root : ℕ) (values nulls : List ℕ) → Checked t rs p used root
-    → (r : ℕ) (row : List ℕ) → row ≡ rowAt t values r → (a : RowAnswer)
-    → a ≡ checkedAnswer t rs p used root row (getD nulls r 0) → a ≡ answerAt t rs p used root values nulls r
+answer-is : (t rs p : List ℕ) (used root : ℕ) (values nulls : List ℕ) → Checked t rs p used root → (r : ℕ)
+    → answerAt t rs p used root values nulls r ≡ checkedAnswer t rs p used root (rowAt t values r) (getD nulls r 0)
 unfolding answerAt testRowAnswer
-answer-is t rs p used root values nulls ok r row er a e =
-    rw (checked-accepted t rs p used root ok, ← er) e
+answer-is t rs p used root values nulls ok r = rw (checked-accepted t rs p used root ok)
 
-tested-class : (t : Truth) → truthClass t ≡ 3 → ⊥
-tested-class False e = omega (arith, e)
-tested-class Unknown e = omega (arith, e)
-tested-class True e = omega (arith, e)
+tree-small : (x c : ℕ) → c ≡ min x 4097 → c ≤ 4096 → x ≤ 4096
+tree-small x c e h = omega arith
 
-pub class-refused : (a b : RowAnswer) (k : ℕ) → a ≡ b → k ≡ classOf a → k ≡ 3 → isTested b ≡ false
-class-refused a b k e ek e3 = subst (λ x. isTested x ≡ false) e (go a (sym ek ∙ e3))
-  where
-    go : (x : RowAnswer) → classOf x ≡ 3 → isTested x ≡ false
-    go (Refused n) h = refl
-    go (Tested t) h = absurd (tested-class t h)
+all-same : (p q : ℕ → Bool) (n : ℕ) → ((i : ℕ) → p i ≡ q i) → all p n ≡ all q n
+unfolding all
+all-same p q zero h = refl
+all-same p q (suc n) h = rw (all-same p q n h, h n)
 
-pub class-tested : (a b : RowAnswer) (k : ℕ) → a ≡ b → k ≡ classOf a → (k ≡ 3 → ⊥) → isTested b ≡ true
-class-tested a b k e ek n3 = subst (λ x. isTested x ≡ true) e (go a (λ h. n3 (ek ∙ h)))
-  where
-    go : (x : RowAnswer) → (classOf x ≡ 3 → ⊥) → isTested x ≡ true
-    go (Refused n) h = absurd (h refl)
-    go (Tested t) h = refl
+module _ (t rs p : List ℕ) (used root : ℕ) (values nulls : List ℕ) (ok : Checked t rs p used root) (c : ℕ)
+    (counted : c ≡ min (treeCount rs root) 4097) (small : c ≤ 4096) where
+  -- a row is tested exactly if it fits
+  fits-tested : (r : ℕ) → rowFits t values nulls r ≡ isTested (answerAt t rs p used root values nulls r)
+  unfolding rowFits checkedAnswer
+  fits-tested r =
+      rw (answer-is t rs p used root values nulls ok r, le-ltb 4096 (treeCount rs root) (tree-small (treeCount rs root) c counted small))
+      (go (eqb (rowFault t (rowAt t values r) (getD nulls r 0)) 0) _ _)
+    where
+      go : (b : Bool) (x : Truth) (k : ℕ) → b ≡ isTested (cond b (Tested x) (Refused k))
+      go true x k = refl
+      go false x k = refl
 
--- the classes of the rows below n, and of one more
-pub judged-none : (A : ℕ → RowAnswer) (l : List ℕ) → Judged A l 0
-unfolding Judged
-judged-none A l = filled-none (λ r. classOf (A r)) l
+  pub all-tested : all (rowFits t values nulls) (length nulls)
+      ≡ all (λ i. isTested (answerAt t rs p used root values nulls i)) (length nulls)
+  all-tested = all-same (rowFits t values nulls) (λ i. isTested (answerAt t rs p used root values nulls i)) (length nulls) fits-tested
 
-pub judged-more : (A : ℕ → RowAnswer) (l : List ℕ) (n k : ℕ) (a : RowAnswer) → n < length l → Judged A l n
-    → k ≡ classOf a → a ≡ A n → Judged A (set l n k) (n + 1)
-unfolding Judged
-judged-more A l n k a h f ek e = filled-more (λ r. classOf (A r)) l n k h f (ek ∙ ap classOf e)
+  -- and its answer is then the truth of the root
+  tested-is : (r : ℕ) → rowFits t values nulls r ≡ true
+      → Tested (chainTruth rs p (length t) values nulls root r) ≡ answerAt t rs p used root values nulls r
+  unfolding rowFits chainTruth chainRow rowAt
+  tested-is r e =
+      row-tested t rs p (rowAt t values r) (getD nulls r 0) used root ok c counted small _ refl
+      (eqb-true (rowFault t (rowAt t values r) (getD nulls r 0)) 0 e) _ refl
+      ∙ sym (answer-is t rs p used root values nulls ok r)
 
-pub judged-done : (A : ℕ → RowAnswer) (l : List ℕ) (i n : ℕ) → i ≡ n → Judged A l i → Judged A l n
-judged-done A l i n e f = subst (λ m. Judged A l m) e f
+  pub judged-of : (classes : List ℕ) → all (rowFits t values nulls) (length nulls) ≡ true
+      → Classed rs p (length t) values nulls root classes (length nulls)
+      → Judged (answerAt t rs p used root values nulls) classes (length nulls)
+  unfolding Judged Classed
+  judged-of classes fit s r h =
+      s r h ∙ ap classOf (tested-is r (all-holds (rowFits t values nulls) r (length nulls) h fit))
+
+module _ (t rs p : List ℕ) (used root : ℕ) (values nulls : List ℕ) (ok : Checked t rs p used root)
+    (long : length values ≡ 8 * length t * length nulls) where
+  row-long : (r : ℕ) → r < length nulls → length (chainRow (length t) values r) ≡ 8 * length t
+  unfolding chainRow
+  row-long r h =
+      let e = row-end (8 * length t) r (length nulls) h in
+      length-take-le (8 * length t) (drop (8 * length t * r) values)
+      (subst (λ k. 8 * length t ≤ k) (sym (length-drop (8 * length t * r) values)) (omega (arith, e, long)))
+
+  pub evaluates-of : length nulls ≤ 1024 → Evaluates rs p (length t) values nulls root
+  evaluates-of short =
+      let u = checked-used t rs p used root ok in
+      let r = ok .root-used in
+      record {
+        narrow = columns-small t rs p used root ok;
+        short = short;
+        long = long;
+        small = omega (arith, u, r);
+        evaluable = λ i h. checked-evaluable t rs p (chainRow (length t) values i) used root ok (row-long i h) root (ok .root-used);
+      }
+
+-- ---- the rows of a block
+pub block-ready : (rs p : List ℕ) (columns : ℕ) (values nulls : List ℕ) (root base rows : ℕ)
+    → Evaluates rs p columns values nulls root → base < length nulls → rows ≡ min (length nulls - base) 64
+    → Ready rs p columns values nulls base rows root
+block-ready rs p columns values nulls root base rows ok h e =
+    record {
+      some = omega (arith, h, e);
+      few = omega (arith, e);
+      narrow = ok .narrow;
+      within = omega (arith, h, e);
+      short = ok .short;
+      long = ok .long;
+      evaluable = ok .evaluable;
+    }
+
+class-told : (b c : Bool) (t : Truth) → b ≡ isTrue t → c ≡ isUnknown t → cond b 2 (cond c 1 0) ≡ truthClass t
+class-told b c False eb ec = rw (eb, ec)
+class-told b c Unknown eb ec = rw (eb, ec)
+class-told b c True eb ec = rw eb
+
+pub classes-told : (classes : List ℕ) (base rows : ℕ) (m : Masks) → rows ≤ 64
+    → ((i : ℕ) → i < rows → getD classes (base + i) 0 ≡ cond (bit (m .truths) i) 2 (cond (bit (m .unknowns) i) 1 0))
+    → (f : ℕ → Truth) → Tells rows m f → (i : ℕ) → i < rows → getD classes (base + i) 0 ≡ truthClass (f i)
+unfolding Tells
+classes-told classes base rows m few s f t i h =
+    let q = t i (omega (arith, few, h)) h in
+    s i h ∙ class-told (bit (m .truths) i) (bit (m .unknowns) i) (f i) (q .0) (q .1)
+
+module _ (rs p : List ℕ) (columns : ℕ) (values nulls : List ℕ) (root : ℕ) where
+  pub classed-none : (classes : List ℕ) → Classed rs p columns values nulls root classes 0
+  unfolding Classed
+  classed-none classes r h = absurd (omega arith)
+
+  pub classed-more : (old classes : List ℕ) (base rows : ℕ)
+      → ((i : ℕ) → i < rows → getD classes (base + i) 0 ≡ truthClass (chainTruth rs p columns values nulls root (base + i)))
+      → ((j : ℕ) → j < base → getD classes j 0 ≡ getD old j 0) → Classed rs p columns values nulls root old base
+      → Classed rs p columns values nulls root classes (base + rows)
+  unfolding Classed
+  classed-more old classes base rows new kept s r h =
+      ⊎-elim (λ (l : r < base). kept r l ∙ s r l)
+      (λ (l : base ≤ r).
+      let e : base + (r - base) ≡ r = omega (arith, l) in
+      subst (λ k. getD classes k 0 ≡ truthClass (chainTruth rs p columns values nulls root k)) e
+      (new (r - base) (omega (arith, l, h))))
+      (lt-or-le r base)
+
+  pub classed-done : (classes : List ℕ) (i n : ℕ) → i ≡ n → Classed rs p columns values nulls root classes i
+      → Classed rs p columns values nulls root classes n
+  classed-done classes i n e s = subst (λ k. Classed rs p columns values nulls root classes k) e s

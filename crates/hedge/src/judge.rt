@@ -1,39 +1,166 @@
-// The class of each row, by the row test. The screen was checked once; nothing of it is checked again.
+// The class of each row. The screen was checked once; all rows are looked at (13) before the first is judged, and they are
+// judged in blocks of 64 by the truths in words of crate masks.
 ghost use mathlib.Core.Path.{_≡_};
-ghost use mathlib.Core.Bool.{true};
-ghost use Prim.Native.Nat.{_*_, _≤_, min};
-ghost use lib.ListN.{length};
+ghost use mathlib.Core.Bool.{true, cond};
+ghost use Prim.Native.Nat.{ℕ, _+_, _*_, _≤_, _<_, min};
+ghost use lib.ListN.{length, getD};
 ghost use Rattle.records.specs.Bytes.{all};
 ghost use Rattle.checking.specs.Checked.{Checked};
+ghost use Rattle.checking.specs.Columns.{bit};
 ghost use Rattle.checking.specs.Tree.{treeCount};
+ghost use Rattle.truth.specs.declared.logic.Truth.{Truth};
+ghost use Rattle.masks.specs.Masks.{Tells};
+ghost use Rattle.masks.specs.Block.{Closed};
 ghost use Rattle.hedge.specs.Chain.{answerAt, isTested};
-ghost use Rattle.hedge.specs.Classes.{truthClass, classOf, Judged};
+ghost use Rattle.hedge.specs.Classes.{truthClass, Judged, rowFits, Classed, Evaluates};
+use masks::Masks;
+use masks::reach::mark_reached;
+use masks::rows::block_masks;
 use records::record::Node;
-use row_test::test::RowAnswer;
-use row_test::test::test_checked;
-use truth::logic::Truth;
+use row_test::row::row_fault;
+use truth::read::null_marked;
 
-fn truth_class(t: Truth) -> u8
-    ensures { λ r. ⌜ r ≡ truthClass t ⌝ }
+// Every row, from 0 up: 13 is looked for before anything is judged.
+fn rows_fit(table: &[u8], values: &[u8], nulls: &[u64]) -> bool
+    requires { ⌜ length (now table) ≤ 64 ⌝ }
+    requires { ⌜ length (now values) ≡ 8 * length (now table) * length (now nulls) ⌝ }
+    ensures { λ r. ⌜ r ≡ all (rowFits (now (table .entry)) (now (values .entry)) (now (nulls .entry)))
+        (length (now (nulls .entry))) ⌝ }
 {
-    match t {
-        Truth::False => 0,
-        Truth::Unknown => 1,
-        Truth::True => 2,
+    let width = 8 * table.len();
+    let mut r: usize = 0;
+    while r < nulls.len() {
+        let start = width * r;
+        let end = start + width;
+        if row_fault(table, &values[start..end], nulls[r]) != 0 {
+            return false;
+        }
+        r += 1;
+    }
+    true
+}
+
+// 0 false, 1 unknown, 2 passes.
+fn class_at(m: Masks, i: u32) -> u8
+    requires { ⌜ i < 64 ⌝ }
+    ensures { λ r. ⌜ r ≡ cond (bit (m .truths) i) 2 (cond (bit (m .unknowns) i) 1 0) ⌝ }
+{
+    if null_marked(m.truths, i) {
+        return 2;
+    }
+    if null_marked(m.unknowns, i) {
+        return 1;
+    }
+    0
+}
+
+// The classes of the rows from `base` on; those before stay.
+fn write_classes(classes: &mut [u8], base: usize, rows: usize, m: Masks)
+    requires { ⌜ rows ≤ 64 ⌝ }
+    requires { ⌜ base + rows ≤ length (now classes) ⌝ }
+    ensures { λ _. ⌜ ((f : ℕ → Truth) → Tells rows m f
+        → (i : ℕ) → i < rows → getD (now (classes .exit)) (base + i) 0 ≡ truthClass (f i)) ⌝ }
+    ensures { λ _. ⌜ ((j : ℕ) → j < base → getD (now (classes .exit)) j 0 ≡ getD (now (classes .entry)) j 0) ⌝ }
+{
+    let mut i: usize = 0;
+    while i < rows {
+        classes[base + i] = class_at(m, i as u32);
+        i += 1;
     }
 }
 
-// 0 false, 1 unknown, 2 passes; 3 refused.
-fn class_of(answer: RowAnswer) -> u8
-    ensures { λ r. ⌜ r ≡ classOf answer ⌝ }
+fn at_most_64(left: usize) -> usize
+    ensures { λ r. ⌜ r ≡ min left 64 ⌝ }
 {
-    match answer {
-        RowAnswer::Refused(_) => 3,
-        RowAnswer::Tested(t) => truth_class(t),
+    if left < 64 {
+        return left;
+    }
+    64
+}
+
+// The rows in blocks of 64.
+fn judge_blocks(
+    records: &[u8],
+    pool: &[u8],
+    columns: usize,
+    values: &[u8],
+    nulls: &[u64],
+    root: Node,
+    marks: &[u8],
+    truths: &mut [u64],
+    unknowns: &mut [u64],
+    keys: &mut [u64],
+    classes: &mut [u8],
+)
+    requires { ⌜ Evaluates (now records) (now pool) columns (now values) (now nulls) (root .0) ⌝ }
+    requires { ⌜ getD (now marks) (root .0) 0 ≡ 1 ⌝ }
+    requires { ⌜ Closed (now records) (now marks) 0 (root .0) ⌝ }
+    requires { ⌜ 4096 ≤ length (now marks) ⌝ }
+    requires { ⌜ 4096 ≤ length (now truths) ⌝ }
+    requires { ⌜ 4096 ≤ length (now unknowns) ⌝ }
+    requires { ⌜ 192 ≤ length (now keys) ⌝ }
+    requires { ⌜ length (now nulls) ≤ length (now classes) ⌝ }
+    ensures { λ _. ⌜ Classed (now (records .entry)) (now (pool .entry)) columns (now (values .entry)) (now (nulls .entry))
+        (root .0) (now (classes .exit)) (length (now (nulls .entry))) ⌝ }
+{
+    let mut base: usize = 0;
+    while base < nulls.len() {
+        let rows = at_most_64(nulls.len() - base);
+        let m = block_masks(
+            records,
+            pool,
+            values,
+            nulls,
+            columns,
+            base,
+            rows,
+            root,
+            marks,
+            truths,
+            unknowns,
+            keys,
+        );
+        write_classes(classes, base, rows, m);
+        base += rows;
     }
 }
 
-// Every row's class, the rows from 0 up; false if a row is refused.
+fn judge_fitting(
+    records: &[u8],
+    pool: &[u8],
+    columns: usize,
+    values: &[u8],
+    nulls: &[u64],
+    root: Node,
+    classes: &mut [u8],
+)
+    requires { ⌜ Evaluates (now records) (now pool) columns (now values) (now nulls) (root .0) ⌝ }
+    requires { ⌜ 16 * root .0 + 15 < length (now records) ⌝ }
+    requires { ⌜ length (now nulls) ≤ length (now classes) ⌝ }
+    ensures { λ _. ⌜ Classed (now (records .entry)) (now (pool .entry)) columns (now (values .entry)) (now (nulls .entry))
+        (root .0) (now (classes .exit)) (length (now (nulls .entry))) ⌝ }
+{
+    let mut marks = [0u8; 4096];
+    let mut truths = [0u64; 4096];
+    let mut unknowns = [0u64; 4096];
+    let mut keys = [0u64; 192];
+    mark_reached(records, root, &mut marks);
+    judge_blocks(
+        records,
+        pool,
+        columns,
+        values,
+        nulls,
+        root,
+        &marks,
+        &mut truths,
+        &mut unknowns,
+        &mut keys,
+        classes,
+    );
+}
+
+// Every row's class; false if a row is refused.
 pub fn judge_rows(
     table: &[u8],
     records: &[u8],
@@ -47,33 +174,18 @@ pub fn judge_rows(
 ) -> bool
     requires { ⌜ Checked (now table) (now records) (now pool) used (root .0) ⌝ }
     requires { ⌜ tree ≡ min (treeCount (now records) (root .0)) 4097 ⌝ }
+    requires { ⌜ tree ≤ 4096 ⌝ }
     requires { ⌜ length (now values) ≡ 8 * length (now table) * length (now nulls) ⌝ }
+    requires { ⌜ length (now nulls) ≤ 1024 ⌝ }
     requires { ⌜ length (now nulls) ≤ length (now classes) ⌝ }
     ensures { λ r. ⌜ r ≡ all (λ i. isTested (answerAt (now (table .entry)) (now (records .entry)) (now (pool .entry)) used
         (root .0) (now (values .entry)) (now (nulls .entry)) i)) (length (now (nulls .entry))) ⌝ }
     ensures { λ r. ⌜ (r ≡ true → Judged (answerAt (now (table .entry)) (now (records .entry)) (now (pool .entry)) used
         (root .0) (now (values .entry)) (now (nulls .entry))) (now (classes .exit)) (length (now (nulls .entry)))) ⌝ }
 {
-    let width = 8 * table.len();
-    let mut r: usize = 0;
-    while r < nulls.len() {
-        let start = width * r;
-        let end = start + width;
-        let class = class_of(test_checked(
-            table,
-            records,
-            pool,
-            used,
-            root,
-            &values[start..end],
-            nulls[r],
-            tree,
-        ));
-        if class == 3 {
-            return false;
-        }
-        classes[r] = class;
-        r += 1;
+    if !rows_fit(table, values, nulls) {
+        return false;
     }
+    judge_fitting(records, pool, table.len(), values, nulls, root, classes);
     true
 }

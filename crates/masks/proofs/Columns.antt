@@ -27,7 +27,7 @@ use Rattle.masks.specs.declared.Masks.{Masks}
 use Rattle.masks.specs.Masks.{isUnknown, inverse, maskTo, Tells, KeyAt, isNull, isKey, Shown}
 use Rattle.masks.proofs.Bits.{bit-and, bit-inverse, mask-bit}
 
-abbrev order : ℕ → ℕ → Ordering
+abbrev pub order : ℕ → ℕ → Ordering
 order a b = ordZ .cmp (key a) (key b)
 
 module _ (a b : ℕ) (ha : a < 2 ^ 64) (hb : b < 2 ^ 64) where
@@ -38,7 +38,7 @@ module _ (a b : ℕ) (ha : a < 2 ^ 64) (hb : b < 2 ^ 64) where
   y = biasOf b
 
   -- the two tests tell the order
-  order-tests : (ltb x y ≡ isLess (order a b)) × (eqb x y ≡ isEqual (order a b))
+  pub order-tests : (ltb x y ≡ isLess (order a b)) × (eqb x y ≡ isEqual (order a b))
   order-tests = by-test (ltb x y) less (λ l. by-test (eqb x y) (equal l) (greater l))
     where
       less : ltb x y ≡ true → (ltb x y ≡ isLess (order a b)) × (eqb x y ≡ isEqual (order a b))
@@ -55,11 +55,11 @@ module _ (a b : ℕ) (ha : a < 2 ^ 64) (hb : b < 2 ^ 64) where
           let s = says-greater x y a b ha hb refl refl (ltb-false x y l) (eqb-false x y e) in
           (l ∙ ap isLess s, e ∙ ap isEqual s)
 
-of-bool-true : (t : Bool) → (t && true) ≡ isTrue (ofBool t)
+pub of-bool-true : (t : Bool) → (t && true) ≡ isTrue (ofBool t)
 of-bool-true true = refl
 of-bool-true false = refl
 
-of-bool-known : (t : Bool) → false ≡ isUnknown (ofBool t)
+pub of-bool-known : (t : Bool) → false ≡ isUnknown (ofBool t)
 of-bool-known true = refl
 of-bool-known false = refl
 

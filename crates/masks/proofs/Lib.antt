@@ -2,3 +2,10 @@ pub mod Bits
 pub mod Tables
 pub mod Columns
 pub mod Blocks
+pub mod Comparing
+pub mod Members
+pub mod Operands
+pub mod Reaching
+pub mod Turns
+pub mod Worths
+pub mod Working

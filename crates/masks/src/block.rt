@@ -9,7 +9,7 @@ use crate::with_bit;
 use records::bytes::value_in;
 use truth::read::null_marked;
 
-fn biased(x: u64) -> u64
+pub fn biased(x: u64) -> u64
     ensures { λ r. ⌜ r ≡ biasOf x ⌝ }
 {
     if x < 9223372036854775808 {

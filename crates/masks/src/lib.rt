@@ -16,6 +16,12 @@ ghost use Rattle.truth.specs.Halves.{key, biasOf};
 ghost use Rattle.masks.specs.Masks.{inverse, maskTo, Tells, Shown};
 
 pub mod block;
+pub mod compare;
+pub mod member;
+pub mod operand;
+pub mod reach;
+pub mod record;
+pub mod rows;
 
 /// Bit i of `truths`: true of row i. Bit i of `unknowns`: unknown of row i. Neither: false.
 pub struct Masks {
@@ -23,7 +29,7 @@ pub struct Masks {
     pub unknowns: u64,
 }
 
-fn inverted(x: u64) -> u64
+pub fn inverted(x: u64) -> u64
     ensures { λ r. ⌜ r ≡ inverse x ⌝ }
 {
     x ^ 18446744073709551615
@@ -219,7 +225,7 @@ pub fn less_columns(keys: &[u64], at: usize, nulls: u64, other: usize, others: u
 }
 
 /// Of which of 64 keys, from the one numbered `at` on, the key is equal to that from `other` on.
-fn mask_equal_pairs(keys: &[u64], at: usize, other: usize) -> u64
+pub fn mask_equal_pairs(keys: &[u64], at: usize, other: usize) -> u64
     requires { ⌜ at + 64 ≤ length (now keys) ⌝ }
     requires { ⌜ other + 64 ≤ length (now keys) ⌝ }
     ensures { λ r. ⌜ r ≡ maskTo (λ (i : ℕ). eqb (getD (now (keys .entry)) (at + i) 0)

@@ -70,9 +70,10 @@ judge-rows-requires : tie.Need-judge-rows-requires
 judge-rows-requires c κs =
     let st = c .before .before .before .before .before .before .before .before .before .before .before .before
     in
+    let if1 = c .before .before .before .before .if1 in
     let if2 = c .before .before .before .if2 in
     let if4 = c .before .if4 in
-    (st .pre .0, (st .pre .1 .0, (if4 .left, omega (arith, st .pre .1 .1, if2 .left))))
+    (st .pre .0, (st .pre .1 .0, (if1 .left, (if4 .left, (if2 .left, omega (arith, st .pre .1 .1, if2 .left))))))
 
 -- src/list.rt:148:9
 same-length : tie.Need-same-length
