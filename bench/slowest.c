@@ -90,15 +90,17 @@ static void fill_pool(uint32_t values, int64_t modulus)
 /* ---------------------------------------------------------------------------------------------------------- timing */
 
 static uint8_t scratch[16 * 4096];
+static uint8_t reasons[SCREEN_MAX_REASONS_BYTES];
 
 static uint64_t rewrite(void)
 {
     uint64_t root = 0;
     uint64_t used = 0;
+    uint64_t reasons_used = 0;
     uint64_t passes = 0;
     memcpy(scratch, now.records, sizeof scratch);
     return screen_rewrite(now.table, now.s.table_len, scratch, sizeof scratch, now.pool, now.s.pool_len, now.s.used,
-                          now.s.root, &root, &used, &passes);
+                          now.s.root, reasons, sizeof reasons, &root, &used, &reasons_used, &passes);
 }
 
 static volatile uint64_t sink;

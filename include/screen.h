@@ -78,9 +78,9 @@
 #include <stdint.h>
 
 /* Of this interface: the major number rises if a host must be changed to compile, the minor one if something is new. */
-#define SCREEN_VERSION_MAJOR 3
-#define SCREEN_VERSION_MINOR 1
-#define SCREEN_VERSION "3.1"
+#define SCREEN_VERSION_MAJOR 4
+#define SCREEN_VERSION_MINOR 0
+#define SCREEN_VERSION "4.0"
 
 /* A host that leaves an answer unread is warned, by compilers that can. */
 #if defined(__GNUC__)
@@ -104,6 +104,7 @@ enum screen_limit {
     SCREEN_VALUE_BYTES = 8,
     SCREEN_MAX_ROWS = 1024,         /* of a chain */
     SCREEN_PLACE_BYTES = 2,         /* of a hedge list: a row's number */
+    SCREEN_MAX_REASONS_BYTES = 34816, /* 1,024 lines of at most 34 bytes: every text of screen_rewrite fits */
     SCREEN_BLOCK_BYTES = 512,       /* a saved screen is whole blocks */
     SCREEN_MAX_FILE_BYTES = 137216  /* 268 blocks: 64 columns, 4,096 records and 8,192 values */
 };
@@ -216,7 +217,9 @@ enum screen_refusal {
      * that is not the number of records held, a missing end or a trailing byte.
      */
     SCREEN_REFUSED_FILE = 15,
-    /* 16 to 18 are not used: no refusal has these numbers. */
+    /* The lent text buffer cannot hold the reasons of the rewritten screen. */
+    SCREEN_REFUSED_REASONS = 16,
+    /* 17 and 18 are not used: no refusal has these numbers. */
     /* Building the slowest screen: not 2 to 64 columns. */
     SCREEN_REFUSED_COLUMNS = 19,
     /* A chain of over 1,024 rows, or a list buffer with fewer places than the chain has rows. */
@@ -268,6 +271,8 @@ static inline const char *screen_refusal_text(uint32_t answer)
         return "A lent buffer is too short for the file, or for what the file holds.";
     case SCREEN_REFUSED_FILE:
         return "This is not a saved screen, or it was damaged.";
+    case SCREEN_REFUSED_REASONS:
+        return "The text buffer is too short for the reasons of the rewritten screen.";
     case SCREEN_REFUSED_COLUMNS:
         return "The slowest screen is built for 2 to 64 columns.";
     case SCREEN_REFUSED_CHAIN:
@@ -312,16 +317,35 @@ enum screen_rewrite_answer {
 
 /*
  * Merges the lines of a screen: "c0 > 3" and "c0 > 5" become "c0 > 5", a range and a value outside it let nothing pass,
- * "c0 == c1" carries what is known of c0 to c1. Answers one of the above, or a refusal: 1 to 7, 8, 9, 11.
+ * "c0 == c1" carries what is known of c0 to c1. Answers one of the above, or a refusal: 1 to 7, 8, 9, 11, 16.
  *
  *   table .. root  as in screen_check, but the records may be written
+ *   reasons, reasons_len
+ *                  the buffer for the text of reasons; reasons_len is in bytes, and SCREEN_MAX_REASONS_BYTES are enough
+ *                  for every screen. Written with SCREEN_REWRITTEN are its first *reasons_used bytes; those behind them,
+ *                  and with another answer all of them, keep their values
  *   new_root       not NULL. Written with SCREEN_NOTHING_PASSES and SCREEN_REWRITTEN: the root of the screen returned.
  *                  Keeps its value with SCREEN_UNCHANGED and with a refusal
  *   new_used       not NULL, and not the same as new_root. Written with the same two answers: how many records belong
  *                  to the screen returned. Keeps its value with SCREEN_UNCHANGED and with a refusal
- *   passes         not NULL, and none of these two. Written with all three answers: how many passes over the equalities
- *                  were made, the last one, which changes nothing, counted; 0 without an equality, or where a line
- *                  made its column impossible and the reading stopped there. Keeps its value with a refusal
+ *   reasons_used   not NULL, and none of these two. Written with all three answers: the length of the text in bytes; 0
+ *                  with SCREEN_UNCHANGED and SCREEN_NOTHING_PASSES, whose text is empty. Keeps its value with a refusal
+ *   passes         not NULL, and none of these three. Written with all three answers: how many passes over the
+ *                  equalities were made, the last one, which changes nothing, counted; 0 without an equality, or where a
+ *                  line made its column impossible and the reading stopped there. Keeps its value with a refusal
+ *
+ * The text says which typed line is behind each comparison of a column with a value that the call has added, in the
+ * order in which their records were added, one a line:
+ *
+ *   0 GtEq 5 2     column 0, c0 >= 5, and the 5 was first given by line 2
+ *
+ * that is the column's number, the operator (Eq, NotEq, Lt, LtEq, Gt, GtEq), the value and the line's number, between
+ * them one blank, and byte 10 at the end, of the last line too. Numbers are decimal without leading zeros, a minus before
+ * negative values; a Truth is 0 or 1, a Day its number. Lines are the conjuncts of the root sent, counted from 0 from left
+ * to right; one that is reached twice is two lines. Of lines that give the same value the first keeps it, also where a
+ * later one opens the end or excludes the value there; what an equality carries to another column keeps its line. An Eq
+ * made of two ends names the line of the lower end. Two different lists of reasons never have the same text. No zero byte
+ * closes it.
  *
  * *passes is at most the number of different columns in the equalities; screen_slowest builds screens that reach it.
  *
@@ -340,7 +364,9 @@ enum screen_rewrite_answer {
  * So the call needs room: lend more records than are used. SCREEN_NOTHING_PASSES needs one; SCREEN_REWRITTEN three for
  * each comparison of a column with a value that the merged screen has, and one for each And that joins its conjuncts.
  * Without room the answer is SCREEN_REFUSED_ROOM, and the same call with more records lent may succeed; lending 4,096
- * records is all the room there is, since no more can be used. SCREEN_UNCHANGED needs none.
+ * records is all the room there is, since no more can be used. SCREEN_UNCHANGED needs none. Records are looked at before
+ * the text: if they have room and the text has not, the answer is SCREEN_REFUSED_REASONS, and the records are not added
+ * either. A buffer exactly as long as the text is long enough.
  *
  * Rewriting the screen returned once more answers SCREEN_UNCHANGED; or SCREEN_REFUSED_CONJUNCTS, if it has over 128
  * conjuncts, as equalities that carry bounds to many columns can make it.
@@ -366,7 +392,8 @@ enum screen_rewrite_answer {
 SCREEN_MUST_USE
 uint32_t screen_rewrite(const uint8_t *table, size_t table_len, uint8_t *records, size_t records_len,
                         const uint8_t *pool, size_t pool_len, uint64_t used, uint64_t root,
-                        uint64_t *new_root, uint64_t *new_used, uint64_t *passes);
+                        uint8_t *reasons, size_t reasons_len, uint64_t *new_root, uint64_t *new_used,
+                        uint64_t *reasons_used, uint64_t *passes);
 
 /* The answer of screen_slowest. */
 enum screen_slowest_answer {

@@ -341,24 +341,97 @@ static inline uint32_t screen_lent_check(const struct screen_lent *s)
     return screen_check(s->table, s->table_len, s->records, s->records_len, s->pool, s->pool_len, s->used, s->root);
 }
 
-/* As screen_rewrite; root and used become those of the screen returned, *passes as there. */
+/* As screen_rewrite; root and used become those of the screen returned, the text and the other two numbers as there. */
 SCREEN_MUST_USE
-static inline uint32_t screen_lent_rewrite_counted(struct screen_lent *s, uint64_t *passes)
+static inline uint32_t screen_lent_rewrite_told(struct screen_lent *s, uint8_t *reasons, size_t reasons_len,
+                                                uint64_t *reasons_used, uint64_t *passes)
 {
     uint64_t root = s->root, used = s->used;
     uint32_t answer = screen_rewrite(s->table, s->table_len, s->records, s->records_len, s->pool, s->pool_len, s->used,
-                                     s->root, &root, &used, passes);
+                                     s->root, reasons, reasons_len, &root, &used, reasons_used, passes);
     s->root = root;
     s->used = used;
     return answer;
 }
 
-/* The same for a caller who does not ask for the passes. */
+/* The same for a caller who does not ask for the reasons; their buffer takes 34 KB of stack. */
+SCREEN_MUST_USE
+static inline uint32_t screen_lent_rewrite_counted(struct screen_lent *s, uint64_t *passes)
+{
+    uint8_t reasons[SCREEN_MAX_REASONS_BYTES];
+    uint64_t reasons_used = 0;
+    return screen_lent_rewrite_told(s, reasons, sizeof reasons, &reasons_used, passes);
+}
+
+/* The same for a caller who does not ask for the passes either. */
 SCREEN_MUST_USE
 static inline uint32_t screen_lent_rewrite(struct screen_lent *s)
 {
     uint64_t passes = 0;
     return screen_lent_rewrite_counted(s, &passes);
+}
+
+/* One line of the text of reasons: column, SCREEN_OP_.., value, and the number of the typed line, from 0. */
+struct screen_reason {
+    uint64_t column;
+    uint64_t code;
+    int64_t value;
+    uint64_t line;
+};
+
+/* The word at *at, up to a blank or the end of its line, and *at behind that byte. */
+static inline size_t screen_reason_word(const uint8_t *text, size_t len, size_t *at, const uint8_t **word)
+{
+    size_t from = *at, end = from;
+    while (end < len && text[end] != ' ' && text[end] != '\n')
+        end++;
+    *word = text + from;
+    *at = end < len ? end + 1 : end;
+    return end - from;
+}
+
+/* Of digits, after a minus or not: its 64 bits in two's complement. */
+static inline uint64_t screen_reason_number(const uint8_t *word, size_t len)
+{
+    size_t minus = len > 0 && word[0] == '-' ? 1 : 0;
+    uint64_t number = 0;
+    for (size_t i = minus; i < len; i++)
+        number = 10 * number + SCREEN_CAST(uint64_t, word[i] - '0');
+    return minus ? 0 - number : number;
+}
+
+/* By its letters: Eq, NotEq, Lt, LtEq, Gt, GtEq. */
+static inline uint64_t screen_reason_operator(const uint8_t *word, size_t len)
+{
+    if (len == 0 || word[0] == 'E')
+        return SCREEN_OP_EQ;
+    if (word[0] == 'N')
+        return SCREEN_OP_NOT_EQ;
+    if (word[0] == 'L')
+        return len == 2 ? SCREEN_OP_LT : SCREEN_OP_LT_EQ;
+    return len == 2 ? SCREEN_OP_GT : SCREEN_OP_GT_EQ;
+}
+
+/*
+ * Reads the line at *at of a text that screen_rewrite wrote, and moves *at behind it; 0, and nothing is read, at its end.
+ */
+static inline int screen_next_reason(const uint8_t *text, size_t len, size_t *at, struct screen_reason *reason)
+{
+    const uint8_t *word;
+    uint64_t bits;
+    size_t size;
+    if (*at >= len)
+        return 0;
+    size = screen_reason_word(text, len, at, &word);
+    reason->column = screen_reason_number(word, size);
+    size = screen_reason_word(text, len, at, &word);
+    reason->code = screen_reason_operator(word, size);
+    size = screen_reason_word(text, len, at, &word);
+    bits = screen_reason_number(word, size);
+    memcpy(&reason->value, &bits, sizeof bits);
+    size = screen_reason_word(text, len, at, &word);
+    reason->line = screen_reason_number(word, size);
+    return 1;
 }
 
 /* As screen_slowest, into the rooms of s, which becomes the screen built; it has no pool. A refusal leaves s. */

@@ -13,6 +13,7 @@ ARCHIVE = os.path.join(REPO, "target", "staticlib", "libscreen.a")
 MARKS = (0x0123456789ABCDEF, 0xFEDCBA9876543210)  # out-parameters before a call
 THREE_MARKS = MARKS + (0x5555AAAA5555AAAA,)
 FOUR_MARKS = THREE_MARKS + (0x00FF00FF00FF00FF,)
+TEXT_ROOM = 34816  # bytes: enough for the text of every rewriting
 
 
 FILLER = bytes((7 * i + 3) % 251 for i in range(1 << 16))
@@ -68,11 +69,14 @@ class Archive:
             raise Changed("screen_test_row")
         return answer
 
-    def rewrite(self, s):
-        """The answer, new root, new used and passes, which stand at THREE_MARKS before the call, and the records at exit."""
-        out = [ctypes.c_uint64(mark) for mark in THREE_MARKS]
-        answer, records = self._call("screen_rewrite", s, *map(ctypes.byref, out), writes_records=True)
-        return answer, *(o.value for o in out), records
+    def rewrite(self, s, room=TEXT_ROOM):
+        """The answer, new root, new used, length of the text and passes, which stand at FOUR_MARKS before the call, the
+        lent text buffer of `room` bytes after it, where filler(5, room) stood, and the records at exit."""
+        lent = (ctypes.c_uint8 * room).from_buffer_copy(filler(5, room)) if room else None
+        out = [ctypes.c_uint64(mark) for mark in FOUR_MARKS]
+        answer, records = self._call("screen_rewrite", s, lent, ctypes.c_size_t(room), *map(ctypes.byref, out),
+                                     writes_records=True)
+        return answer, *(o.value for o in out), bytes(lent or b""), records
 
     def slowest(self, columns, *rooms):
         """The answer, root and used, which stand at MARKS before the call, and the lent table and records of `rooms`

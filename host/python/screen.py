@@ -4,6 +4,7 @@
     s = screen.Screen(strike="Int", expiry="Day", halted="Truth")
     s.add(s.strike > 3, s.strike >= 5, s.expiry <= datetime.date(2026, 12, 18), ~s.halted)
     s.rewrite()                                     # 'rewritten'
+    s.reasons                                       # [('strike', 'GtEq', 5, 1), ..]: the line behind each limit
     s.test_row({"strike": 7, "expiry": None, "halted": False})   # True, False, or None for unknown
     tally = screen.Tally()                          # the desk's running tally, added to where it is kept
     s.hedge_list([{"strike": 7}, {"strike": 4}], tally)   # the numbers of the rows that pass
@@ -17,7 +18,7 @@ import ctypes
 import datetime
 import os
 
-VERSION = (3, 1)  # of include/screen.h
+VERSION = (4, 0)  # of include/screen.h
 
 INT, DAY, TRUTH = 1, 2, 3
 TYPES = {"Int": INT, "Day": DAY, "Truth": TRUTH}
@@ -28,7 +29,7 @@ AND, OR, XOR = 15, 16, 17
 CLOSED = {"both": 0, "left": 1, "right": 2, "none": 3}
 INPUTS = {BINARY: 2, NOT: 1, IS_NULL: 1, IS_NOT_NULL: 1, IS_BETWEEN: 3, IS_IN: 2}
 MAX_RECORDS, MAX_POOL_VALUES, RECORD_BYTES, VALUE_BYTES, MAX_FILE_BYTES = 4096, 8192, 16, 8, 137216
-MAX_ROWS, PLACE_BYTES = 1024, 2
+MAX_ROWS, PLACE_BYTES, MAX_REASONS_BYTES = 1024, 2, 34816
 
 REFUSALS = {
     1: "The table has more than 64 columns, or a column of an unknown type.",
@@ -49,6 +50,7 @@ REFUSALS = {
         "zero.",
     14: "A lent buffer is too short for the file, or for what the file holds.",
     15: "This is not a saved screen, or it was damaged.",
+    16: "The text buffer is too short for the reasons of the rewritten screen.",
     19: "The slowest screen is built for 2 to 64 columns.",
     20: "The chain has more than 1,024 rows, or the list buffer has fewer places than the chain has rows.",
     21: "A sum of the tally, or its false and unknown rows together, would pass 64 bits.",
@@ -319,12 +321,18 @@ class Screen:
         """screen_rewrite: merges the lines. Answers 'unchanged', 'nothing passes' or 'rewritten'.
 
         The screen becomes the one returned: a row passes it exactly if it passed before. What it was stays among its
-        records; copy_reached leaves it behind. `passes` is then how many passes over the equalities were made. Refused
-        with 1 to 7, 8, 9, 11.
+        records; copy_reached leaves it behind. `passes` is then how many passes over the equalities were made, and
+        `reasons` has the line behind each comparison written: column, operator, value, and the number of the line among
+        those of the screen that it was, from 0. Refused with 1 to 7, 8, 9, 11.
         """
         root, used, passes = ctypes.c_uint64(self.root), ctypes.c_uint64(self.used), ctypes.c_uint64()
-        answer = _call("screen_rewrite", *self._lent(), ctypes.byref(root), ctypes.byref(used), ctypes.byref(passes))
+        text, length = (ctypes.c_uint8 * MAX_REASONS_BYTES)(), ctypes.c_uint64()
+        answer = _call("screen_rewrite", *self._lent(), text, ctypes.c_size_t(MAX_REASONS_BYTES), ctypes.byref(root),
+                       ctypes.byref(used), ctypes.byref(length), ctypes.byref(passes))
         self.root, self.used, self.passes = root.value, used.value, passes.value
+        words = (line.split() for line in bytes(text[:length.value]).decode().splitlines())
+        self.reasons = [(self.names[int(column)], operator, int(value), int(line))
+                        for column, operator, value, line in words]
         return ("unchanged", "nothing passes", "rewritten")[answer - 256]
 
     def _cells(self, row):

@@ -260,9 +260,16 @@ static void wrappers_agree(void)
                screen_columns_read(s.table, s.table_len, s.records, s.records_len, s.pool, s.pool_len, s.used, s.root,
                                    &columns[1], &counts[1]) && columns[0] == columns[1] && counts[0] == counts[1],
            "screen_lent_columns_read", "another answer");
+    static uint8_t reasons[2][SCREEN_MAX_REASONS_BYTES];
+    struct screen_lent told = s;
+    uint64_t lengths[2] = {4, 4}, counted = 3;
     uint32_t answer = screen_rewrite(sent.table, sent.table_len, sent.records, sent.records_len, sent.pool,
-                                     sent.pool_len, sent.used, sent.root, &root, &used, &passes);
-    uint64_t counted = 3;
+                                     sent.pool_len, sent.used, sent.root, reasons[0], sizeof reasons[0], &root, &used,
+                                     &lengths[0], &passes);
+    report(screen_lent_rewrite_told(&told, reasons[1], sizeof reasons[1], &lengths[1], &counted) == answer &&
+               told.root == root && told.used == used && counted == passes && lengths[0] == lengths[1] &&
+               memcmp(reasons[0], reasons[1], sizeof reasons[0]) == 0, "screen_lent_rewrite_told", "another answer");
+    counted = 3;
     report(screen_lent_rewrite_counted(&s, &counted) == answer && s.root == root && s.used == used && counted == passes,
            "screen_lent_rewrite_counted", "another answer");
     report(memcmp(&bytes, &sent_store, sizeof bytes) == 0, "the wrappers", "other bytes");

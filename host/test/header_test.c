@@ -17,7 +17,8 @@ static int calls_refuse(void)
     uint32_t answer = screen_check(NONE, 0, NONE, 0, NONE, 0, 0, 0);
     return answer == SCREEN_REFUSED_ROOT && screen_refused(answer) && screen_refusal_text(answer)[0] == 'T' &&
            screen_test_row(NONE, 0, NONE, 0, NONE, 0, 0, 0, NONE, 0, 0) == SCREEN_REFUSED_ROOT &&
-           screen_rewrite(NONE, 0, NONE, 0, NONE, 0, 0, 0, &root, &used, &count) == SCREEN_REFUSED_ROOT &&
+           screen_rewrite(NONE, 0, NONE, 0, NONE, 0, 0, 0, NONE, 0, &root, &used, &count, &columns) ==
+               SCREEN_REFUSED_ROOT &&
            screen_slowest(1, NONE, 0, NONE, 0, &root, &used) == SCREEN_REFUSED_COLUMNS &&
            screen_save(NONE, 0, NONE, 0, NONE, 0, 0, 0, NONE, 0, &count) == SCREEN_REFUSED_ROOT &&
            screen_load(NONE, 0, NONE, 0, NONE, 0, NONE, 0, &root, &columns, &used, &count) == SCREEN_REFUSED_FILE &&
@@ -48,8 +49,10 @@ static uint32_t put_screen(struct screen_lent *s)
 static int wrappers_answer(void)
 {
     uint8_t table[2], records[16 * 40], reached[16 * 40], pool[16], file[5 * SCREEN_BLOCK_BYTES];
-    uint8_t row[16] = {0}, list[2] = {1, 1};
+    uint8_t row[16] = {0}, list[2] = {1, 1}, reasons[SCREEN_MAX_REASONS_BYTES];
     uint64_t columns = 0, count = 0, length = 0, marks = 0;
+    struct screen_reason reason;
+    size_t at = 0;
     struct screen_tally tally = {7, 0, 0};
     struct screen_lent s;
     screen_begin(&s, table, sizeof table, records, sizeof records, pool, sizeof pool);
@@ -58,6 +61,8 @@ static int wrappers_answer(void)
     screen_store_value(row, 1);
     return screen_lent_columns_read(&s, &columns, &count) == SCREEN_COLUMNS && columns == 3 && count == 2 &&
            !screen_refused(screen_lent_rewrite(&s)) && screen_record_at(&s, 0).kind == SCREEN_KIND_COLUMN &&
+           !screen_refused(screen_lent_rewrite_told(&s, reasons, sizeof reasons, &length, &count)) &&
+           !screen_next_reason(reasons, length, &at, &reason) &&
            screen_copy_reached(&s, reached, sizeof reached, &s) == SCREEN_ACCEPTED &&
            screen_lent_save(&s, file, sizeof file, &length) == SCREEN_SAVED &&
            screen_lent_load(&s, file, length) == SCREEN_LOADED &&

@@ -110,6 +110,18 @@ def test_types():
     report(s.test_row({**row, "strike": 20805, "expiry": 20805}) is True, "a day as its number")
 
 
+def test_reasons():
+    s = screen.Screen(strike="Int", expiry="Day", spot="Int")
+    s.add(s.spot == s.strike, s.strike > 5, s.spot > 5, s.spot > 4, s.expiry != DAY(1969, 12, 31))
+    report(s.rewrite() == "rewritten", "reasons: not rewritten")
+    report(s.reasons == [("spot", "Gt", 5, 2), ("strike", "Gt", 5, 1), ("expiry", "NotEq", -1, 4)], "reasons")
+    report(s.rewrite() == "unchanged" and s.reasons == [], "reasons of a screen that is not rewritten")
+    s = screen.Screen(strike="Int")
+    s.add(s.strike <= 2**63 - 1, s.strike > -2**63, s.strike > -2**63)
+    report(s.rewrite() == "rewritten", "reasons: extremes")
+    report(s.reasons == [("strike", "Gt", -2**63, 1), ("strike", "LtEq", 2**63 - 1, 0)], "reasons: extremes")
+
+
 def test_slowest():
     for columns in (2, 3, 64):
         s = screen.Screen.slowest(columns)
@@ -291,7 +303,7 @@ def test_told():
                  "MODULUS", "AND", "OR", "XOR"):
         report(getattr(screen, name) == numbers[f"OP_{name}"], f"the operator {name}")
     for name in ("MAX_RECORDS", "MAX_POOL_VALUES", "RECORD_BYTES", "VALUE_BYTES", "MAX_FILE_BYTES", "MAX_ROWS",
-                 "PLACE_BYTES"):
+                 "PLACE_BYTES", "MAX_REASONS_BYTES"):
         report(getattr(screen, name) == numbers[name], name)
     version = tuple(int(re.search(rf"SCREEN_VERSION_{part} (\d+)", header)[1]) for part in ("MAJOR", "MINOR"))
     report(screen.VERSION == version, "the version")
@@ -300,8 +312,8 @@ def test_told():
     report(calls == used, f"the calls of the header: {calls ^ used}")
 
 
-for test in (test_cases, test_types, test_slowest, test_refusals, test_hedge_list, test_files, test_python,
-             test_divisions, test_random, test_told):
+for test in (test_cases, test_types, test_reasons, test_slowest, test_refusals, test_hedge_list, test_files,
+             test_python, test_divisions, test_random, test_told):
     test()
 print(f"{counts[True]} passed, {counts[False]} failed")
 sys.exit(counts[False] != 0)

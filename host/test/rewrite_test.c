@@ -1,5 +1,6 @@
 /*
- * screen_rewrite: the paper's cases, every refusal, every limit, and that no byte is written but the records added.
+ * screen_rewrite: the paper's cases, every refusal, every limit, the text of reasons, and that no byte is written but
+ * the records added and that text.
  *
  * A test builds a screen line by line, runs the call, and then goes on building: what it appends after the call is what
  * the call must have appended. So the lent buffers are compared whole, the room behind the added records too.
@@ -15,6 +16,7 @@ enum { PLENTY = 700 }; /* more records than any screen here adds */
 #define MARK_ROOT UINT64_C(0x0123456789abcdef)
 #define MARK_USED UINT64_C(0xfedcba9876543210)
 #define MARK_PASSES UINT64_C(0x5555aaaa5555aaaa)
+#define MARK_TEXT UINT64_C(0x00ff00ff00ff00ff)
 
 /* ---------------------------------------------------------------------------------------- screens of joined lines */
 
@@ -114,6 +116,10 @@ static uint64_t new_root;
 static uint64_t new_used;
 static uint64_t new_passes;
 static int others_kept; /* table and pool */
+static size_t text_room = SCREEN_MAX_REASONS_BYTES; /* of the buffer lent for the text */
+static uint8_t text_before[SCREEN_MAX_REASONS_BYTES];
+static uint8_t text_after[SCREEN_MAX_REASONS_BYTES];
+static uint64_t text_used;
 
 /* Lends so many records behind the used ones, and some bytes more, with values that no record has. */
 static void room(size_t records, size_t bytes)
@@ -127,6 +133,10 @@ static void room(size_t records, size_t bytes)
 static void run(void)
 {
     struct slices s = lend();
+    uint8_t *text;
+    for (size_t i = 0; i < text_room; i++)
+        text_before[i] = (uint8_t)(0xb0 + i % 29);
+    text = lent(text_before, text_room);
     before_store = sent_store;
     before = sent;
     before.table = before_store.table;
@@ -135,8 +145,12 @@ static void run(void)
     new_root = MARK_ROOT;
     new_used = MARK_USED;
     new_passes = MARK_PASSES;
+    text_used = MARK_TEXT;
     answer = screen_rewrite(s.table, sent.table_len, s.records, sent.records_len, s.pool, sent.pool_len, sent.used,
-                            sent.root, &new_root, &new_used, &new_passes);
+                            sent.root, text, text_room, &new_root, &new_used, &text_used, &new_passes);
+    if (text_room > 0)
+        memcpy(text_after, text, text_room);
+    free(text);
     if (sent.records_len > 0)
         memcpy(records_after, s.records, sent.records_len);
     others_kept = kept(s.table, sent.table, sent.table_len) && kept(s.pool, sent.pool, sent.pool_len);
@@ -216,12 +230,28 @@ static unsigned same_rows(const char *name)
 
 /* ------------------------------------------------------------------------------------------ what the call must say */
 
+/* All bytes of the text buffer from this one on are as they were. */
+static int text_kept(uint64_t from)
+{
+    return from <= text_room && kept(text_after + from, text_before + from, text_room - from);
+}
+
+/* The text is this one, and nothing behind it was written. */
+static void reasons_are(const char *name, const char *want)
+{
+    size_t len = strlen(want);
+    report(text_used == len && kept(text_after, (const uint8_t *)want, len), name, "another text of reasons");
+    report(text_kept(len), name, "a byte behind the text was written");
+}
+
 static void nothing_written(const char *name, uint32_t want)
 {
     report(answer == want, name, answer < 256 ? screen_refusal_text(answer) : "another answer");
     report(new_root == MARK_ROOT && new_used == MARK_USED, name, "an out-parameter was written");
     report((new_passes == MARK_PASSES) == (want < 256), name, "passes are written exactly if the screen is not refused");
-    report(others_kept && kept(records_after, before.records, before.records_len), name, "a lent byte changed");
+    report(text_used == (want < 256 ? MARK_TEXT : 0), name, "the text's length is 0 if the screen is not refused, else kept");
+    report(others_kept && kept(records_after, before.records, before.records_len) && text_kept(0), name,
+           "a lent byte changed");
 }
 
 static void refused(const char *name, uint32_t want)
@@ -243,6 +273,7 @@ static void added_these(const char *name, uint32_t want, uint64_t added)
     report(sent.used - before.used == added, name, "the test expects another number of records");
     report(new_root == sent.root && new_used == sent.used, name, "another root or used count");
     report(others_kept && kept(records_after, sent.records, before.records_len), name, "other records than expected");
+    report((text_used > 0) == (want == SCREEN_REWRITTEN) && text_kept(text_used), name, "another length of the text");
     if (new_used <= SCREEN_MAX_RECORDS)
         report(screen_check(before.table, before.table_len, records_after, before.records_len, before.pool,
                             before.pool_len, new_used, new_root) == SCREEN_ACCEPTED, name, "no well-formed screen");
@@ -752,7 +783,7 @@ static void test_slowest(void)
 {
     static uint8_t table[SCREEN_MAX_COLUMNS + 1], records[16 * 512];
     for (uint64_t n = 0; n <= SCREEN_MAX_COLUMNS + 1; n++) {
-        uint64_t root = MARK_ROOT, used = MARK_USED, passes = MARK_PASSES, new_at = 0, new_end = 0;
+        uint64_t root = MARK_ROOT, used = MARK_USED, passes = MARK_PASSES, new_at = 0, new_end = 0, told = 0;
         int known = 2 <= n && n <= SCREEN_MAX_COLUMNS;
         memset(table, 0xee, sizeof table);
         memset(records, 0xee, sizeof records);
@@ -768,10 +799,12 @@ static void test_slowest(void)
         report(screen_slowest(n, table, n - 1, records, sizeof records, &root, &used) == SCREEN_REFUSED_ROOM &&
                    screen_slowest(n, table, n, records, 48 * n - 1, &root, &used) == SCREEN_REFUSED_ROOM &&
                    screen_slowest(n, table, n, records, 48 * n, &root, &used) == SCREEN_BUILT, "slowest", "not 11");
-        report(screen_rewrite(table, n, records, 16 * (8 * n - 3), NULL, 0, used, root, &new_at, &new_end, &passes) ==
-                   SCREEN_REFUSED_ROOM && passes == MARK_PASSES, "slowest", "served with a record less");
-        report(screen_rewrite(table, n, records, 16 * (8 * n - 2), NULL, 0, used, root, &new_at, &new_end, &passes) ==
-                   SCREEN_REWRITTEN && passes == n && new_end == 8 * n - 2, "slowest", "another number of passes");
+        report(screen_rewrite(table, n, records, 16 * (8 * n - 3), NULL, 0, used, root, NULL, 0, &new_at, &new_end, &told,
+                              &passes) == SCREEN_REFUSED_ROOM && passes == MARK_PASSES, "slowest",
+               "served with a record less");
+        report(screen_rewrite(table, n, records, 16 * (8 * n - 2), NULL, 0, used, root, text_after, sizeof text_after,
+                              &new_at, &new_end, &told, &passes) == SCREEN_REWRITTEN && passes == n &&
+                   new_end == 8 * n - 2, "slowest", "another number of passes");
     }
 }
 
@@ -782,13 +815,19 @@ static void test_empty_slices(void)
     uint64_t root = MARK_ROOT;
     uint64_t used = MARK_USED;
     uint64_t passes = MARK_PASSES;
-    report(screen_rewrite(NULL, 0, NULL, 0, NULL, 0, 0, 0, &root, &used, &passes) == SCREEN_REFUSED_ROOT, "all NULL", "not 3");
-    report(screen_rewrite(odd, 0, odd, 0, odd, 0, 0, 0, &root, &used, &passes) == SCREEN_REFUSED_ROOT, "address 1", "not 3");
-    report(screen_rewrite(NULL, 0, NULL, 0, NULL, 0, 1, 0, &root, &used, &passes) == SCREEN_REFUSED_SIZE, "all NULL", "not 2");
-    report(screen_rewrite(NULL, 0, one, 16, NULL, 0, 1, 0, &root, &used, &passes) == SCREEN_UNCHANGED, "a null alone",
-           "not unchanged");
-    report(screen_rewrite(odd, 0, one, 32, odd, 0, 1, 0, &root, &used, &passes) == SCREEN_UNCHANGED, "a null alone",
-           "not unchanged");
+    uint64_t told = MARK_TEXT;
+    report(screen_rewrite(NULL, 0, NULL, 0, NULL, 0, 0, 0, NULL, 0, &root, &used, &told, &passes) == SCREEN_REFUSED_ROOT,
+           "all NULL", "not 3");
+    report(screen_rewrite(odd, 0, odd, 0, odd, 0, 0, 0, odd, 0, &root, &used, &told, &passes) == SCREEN_REFUSED_ROOT,
+           "address 1", "not 3");
+    report(screen_rewrite(NULL, 0, NULL, 0, NULL, 0, 1, 0, NULL, 0, &root, &used, &told, &passes) == SCREEN_REFUSED_SIZE,
+           "all NULL", "not 2");
+    report(told == MARK_TEXT, "empty slices", "a refusal wrote the text's length");
+    report(screen_rewrite(NULL, 0, one, 16, NULL, 0, 1, 0, NULL, 0, &root, &used, &told, &passes) == SCREEN_UNCHANGED,
+           "a null alone", "not unchanged");
+    report(screen_rewrite(odd, 0, one, 32, odd, 0, 1, 0, odd, 0, &root, &used, &told, &passes) == SCREEN_UNCHANGED,
+           "a null alone", "not unchanged");
+    report(told == 0, "empty slices", "the text is not empty");
     report(root == MARK_ROOT && used == MARK_USED, "empty slices", "an out-parameter was written");
 }
 
@@ -979,9 +1018,150 @@ static void test_too_many(void)
     refused("4,160 comparisons to add", SCREEN_REFUSED_ROOM);
 }
 
+/* --------------------------------------------------------------------------------- the line behind a limit, and 16 */
+
+/* Comparisons of two Int columns, as code, column, value; an equality of the two columns as EQUAL. */
+enum { EQUAL = 100 };
+
+struct typed {
+    unsigned code;
+    uint32_t column;
+    int64_t value;
+};
+
+static void reasons_of(const char *text, const struct typed *typed, size_t count)
+{
+    begin_ints(2);
+    for (size_t i = 0; i < count; i++)
+        if (typed[i].code == EQUAL)
+            equal_columns(0, 1);
+        else
+            compare(typed[i].code, typed[i].column, typed[i].value);
+    room(PLENTY, 0);
+    run();
+    report(answer == SCREEN_REWRITTEN, text, "not rewritten");
+    reasons_are(text, text);
+}
+
+#define REASONS(text, ...)                                                   \
+    do {                                                                     \
+        static const struct typed typed[] = {__VA_ARGS__};                   \
+        reasons_of(text, typed, sizeof typed / sizeof typed[0]);             \
+    } while (0)
+
+static void test_reasons(void)
+{
+    REASONS("0 Gt 5 1\n", {GT, 0, 3}, {GT, 0, 5});
+    REASONS("0 Gt 5 0\n", {GT, 0, 5}, {GT, 0, 3});
+    REASONS("0 GtEq 5 2\n", {GE, 0, 3}, {GE, 0, 4}, {GE, 0, 5}, {GE, 0, 5});
+    /* an equal value: the number held stays, though another line or an excluded value opens the end */
+    REASONS("0 Lt 3 0\n", {LE, 0, 3}, {LT, 0, 3});
+    REASONS("0 Gt 3 0\n", {GE, 0, 3}, {NE, 0, 3});
+    REASONS("0 Gt 3 1\n", {NE, 0, 3}, {GE, 0, 3});
+    /* an equality made of two ends names the lower one's */
+    REASONS("0 Eq 3 0\n", {GE, 0, 3}, {LE, 0, 3});
+    REASONS("0 Eq 3 1\n", {LE, 0, 3}, {GE, 0, 3});
+    /* along an equality */
+    REASONS("0 Gt 5 1\n1 Gt 5 1\n", {EQUAL, 0, 0}, {GT, 0, 5});
+    REASONS("0 Gt 5 1\n1 Gt 5 2\n", {EQUAL, 0, 0}, {GT, 0, 5}, {GT, 1, 5}, {GT, 1, 4});
+    REASONS("1 Eq 7 0\n0 Eq 7 0\n", {EQ, 1, 7}, {EQUAL, 0, 0});
+    REASONS("0 NotEq 2 1\n0 NotEq 1 2\n1 NotEq 1 2\n1 NotEq 2 1\n", {EQUAL, 0, 0}, {NE, 0, 2}, {NE, 1, 1});
+    /* the ends of 64 bits */
+    REASONS("0 Gt -9223372036854775808 0\n0 LtEq 9223372036854775807 1\n", {GT, 0, INT64_MIN}, {LE, 0, INT64_MAX},
+            {LE, 0, INT64_MAX});
+    REASONS("0 NotEq -9223372036854775808 0\n0 NotEq 9223372036854775807 1\n0 NotEq -1 2\n0 NotEq 0 3\n",
+            {NE, 0, INT64_MIN}, {NE, 0, INT64_MAX}, {NE, 0, -1}, {NE, 0, 0}, {NE, 0, -1});
+    REASONS("0 GtEq -10 0\n0 LtEq 100 1\n", {GE, 0, -10}, {LE, 0, 100}, {LE, 0, 100});
+}
+
+/* Days are their numbers, truths 0 and 1; both ends of a range have its line. */
+static void test_reason_types(void)
+{
+    begin_types();
+    join(is_between(SCREEN_CLOSED_LEFT, column(1), literal(DAY, -1), literal(DAY, 20545)));
+    join(line(GE, 1, DAY, -5));
+    join(line(GE, 1, DAY, -1));
+    join(line(GE, 2, TRUTH, 1));
+    join(line(LE, 2, TRUTH, 1));
+    room(PLENTY, 0);
+    run();
+    report(answer == SCREEN_REWRITTEN, "a range of days and a truth", "not rewritten");
+    reasons_are("a range of days and a truth", "1 GtEq -1 0\n1 Lt 20545 0\n2 Eq 1 3\n");
+}
+
+/* The longest line has 34 bytes: the last column, the longest operator, the lowest value, the last of 128 lines. */
+static void test_longest_reason(void)
+{
+    begin_ints(64);
+    for (unsigned i = 0; i < 127; i++)
+        compare(GT, 0, 3);
+    compare(NE, 63, INT64_MIN);
+    room(PLENTY, 0);
+    run();
+    report(answer == SCREEN_REWRITTEN, "the longest line", "not rewritten");
+    reasons_are("the longest line", "0 Gt 3 0\n63 NotEq -9223372036854775808 127\n");
+}
+
+/* Exactly the room that the text needs, a byte more, and every room that is too short: then no record is added. */
+static void test_reason_room(void)
+{
+    static const char text[] = "0 Gt -9223372036854775808 0\n0 Lt 9223372036854775807 1\n";
+    for (text_room = 0; text_room <= sizeof text; text_room++) {
+        begin_ints(1);
+        compare(GT, 0, INT64_MIN);
+        compare(LT, 0, INT64_MAX);
+        compare(LT, 0, INT64_MAX);
+        room(7, 3);
+        if (text_room < sizeof text - 1) {
+            refused("room for a part of the text", SCREEN_REFUSED_REASONS);
+            continue;
+        }
+        run();
+        uint32_t low = line(GT, 0, INT, INT64_MIN);
+        binary(AND, low, line(LT, 0, INT, INT64_MAX));
+        rewritten("room for exactly the text, and a byte more", 7);
+        reasons_are("room for exactly the text, and a byte more", text);
+    }
+    text_room = 0;
+    two_lines(GT, 3, GT, 5);
+    room(2, 15);
+    refused("neither room for a record nor for the text: 11 before 16", SCREEN_REFUSED_ROOM);
+    room(3, 0);
+    refused("room for the records and none for the text", SCREEN_REFUSED_REASONS);
+    two_lines(GE, 3, LT, 3);
+    nothing_passes("no room for a text, where nothing passes");
+    two_lines(GT, 3, LT, 4);
+    unchanged("no room for a text, unchanged");
+    conjuncts(129);
+    refused("9 before 16", SCREEN_REFUSED_CONJUNCTS);
+    text_room = SCREEN_MAX_REASONS_BYTES;
+}
+
+/* 64 columns that are equal and 13 excluded values: each column gets each of them, with the line that typed it. */
+static void test_many_reasons(void)
+{
+    struct screen_reason reason;
+    size_t at = 0;
+    uint64_t count = 0;
+    int good = 1;
+    begin_ints(64);
+    for (uint32_t i = 0; i < 63; i++)
+        equal_columns(i, i + 1);
+    for (int64_t i = 0; i < 13; i++)
+        compare(NE, (uint32_t)i, INT64_MIN + i);
+    room(4096 - (size_t)sent.used, 0);
+    run();
+    report(answer == SCREEN_REWRITTEN, "832 reasons", "not rewritten");
+    for (; answer == SCREEN_REWRITTEN && screen_next_reason(text_after, (size_t)text_used, &at, &reason); count++)
+        good &= reason.column < 64 && reason.code == SCREEN_OP_NOT_EQ && reason.line >= 63 && reason.line < 76 &&
+                reason.value == INT64_MIN + (int64_t)(reason.line - 63);
+    report(good && count == 832, "832 reasons", "other reasons");
+}
+
 static void test_texts(void)
 {
-    static const uint32_t own[] = {SCREEN_REFUSED_TREE, SCREEN_REFUSED_CONJUNCTS, SCREEN_REFUSED_ROOM};
+    static const uint32_t own[] = {SCREEN_REFUSED_TREE, SCREEN_REFUSED_CONJUNCTS, SCREEN_REFUSED_ROOM,
+                                   SCREEN_REFUSED_REASONS};
     for (size_t i = 0; i < sizeof own / sizeof own[0]; i++)
         report(strcmp(screen_refusal_text(own[i]), screen_refusal_text(0)) != 0, "screen_refusal_text", "no sentence");
     report(strcmp(screen_refusal_text(10), screen_refusal_text(0)) == 0, "screen_refusal_text", "10 is unused");
@@ -1008,6 +1188,11 @@ int main(void)
     test_lent_records();
     test_rebuilt_tree();
     test_too_many();
+    test_reasons();
+    test_reason_types();
+    test_longest_reason();
+    test_reason_room();
+    test_many_reasons();
     test_texts();
     return finish();
 }

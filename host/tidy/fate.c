@@ -133,8 +133,10 @@ static void find_contradiction(struct tidied *t)
     }
     for (size_t i = 0; i < count; i++) {
         t->fates[i].fate = chosen[i] ? FATE_CONTRADICTS : FATE_DROPPED;
-        if (chosen[i])
+        if (chosen[i]) {
             numbers_add(&t->lines[0].typed, t->build->lines[i].number);
+            numbers_add(&t->lines[0].behind, i);
+        }
         for (size_t j = 0; j < count; j++)
             if (chosen[i] && chosen[j] && j != i)
                 numbers_add(&t->fates[i].lines, t->build->lines[j].number);
@@ -164,11 +166,40 @@ static void trace_back(struct tidied *t, struct tidied_line *tidied)
     const struct build *build = t->build;
     for (size_t i = 0; i < build->line_count; i++) {
         if (tidied->record < t->typed.used) { /* a typed record: of the lines that have it */
-            if (has_conjunct(t, i, tidied->record))
+            if (has_conjunct(t, i, tidied->record)) {
                 numbers_add(&tidied->typed, build->lines[i].number);
+                numbers_add(&tidied->behind, i);
+            }
         } else if (columns_of(&t->typed, build->lines[i].root) & columns) {
             numbers_add(&tidied->typed, build->lines[i].number);
         }
+    }
+}
+
+/* The typed line that has this conjunct of all, counted from 0. */
+static size_t line_of(const struct tidied *t, uint64_t conjunct)
+{
+    size_t line = 0;
+    for (uint64_t left = conjunct; line < t->build->line_count; line++) {
+        struct conjuncts conjuncts = {NULL, 0, 0};
+        add_conjuncts(&conjuncts, &t->typed, t->build->lines[line].root);
+        free(conjuncts.records);
+        if (left < conjuncts.count)
+            break;
+        left -= conjuncts.count;
+    }
+    return line;
+}
+
+/* The comparisons that rewriting added stand among the tidied lines in the order of the library's reasons. */
+static void trace_reasons(struct tidied *t)
+{
+    size_t at = 0;
+    for (size_t i = 0; i < t->line_count; i++) {
+        struct screen_reason reason;
+        if (t->lines[i].record >= t->typed.used &&
+            screen_next_reason(t->reasons, (size_t)t->reasons_len, &at, &reason))
+            numbers_add(&t->lines[i].behind, line_of(t, reason.line));
     }
 }
 
@@ -216,4 +247,5 @@ void fates_told(struct tidied *t)
         trace_back(t, &t->lines[i]);
         t->lines[i].opened = only_opened(t, t->lines[i].record);
     }
+    trace_reasons(t);
 }

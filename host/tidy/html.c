@@ -66,6 +66,18 @@ static void add_typed(struct text *out, const struct tidied *tidied)
     text_add(out, "</ul></section>\n");
 }
 
+/* The typed lines behind a tidied one. */
+static void add_origin(struct text *out, const struct build *build, const struct tidied_line *line)
+{
+    struct text origin = {NULL, 0, 0};
+    add_origin_text(&origin, build, line);
+    if (origin.len > 0) {
+        struct slice text = {origin.bytes, origin.len};
+        html_text(out, text);
+    }
+    text_free(&origin);
+}
+
 static void add_tidied(struct text *out, const struct tidied *tidied)
 {
     const char *usual = tidied->answer == SCREEN_NOTHING_PASSES ? "contradicts" : "tidied";
@@ -74,8 +86,8 @@ static void add_tidied(struct text *out, const struct tidied *tidied)
         const struct tidied_line *line = &tidied->lines[i];
         struct slice text = {line->text.bytes, line->text.len};
         add_item(out, "tidied", i + 1, text, line->opened ? "opened" : usual);
-        text_add(out, "<i>%s ", line->typed.count == 1 ? "line" : "lines");
-        add_origin_text(out, line);
+        text_add(out, "<i>");
+        add_origin(out, tidied->build, line);
         text_add(out, "</i></li>\n");
     }
     text_add(out, "</ul></section>\n");

@@ -85,6 +85,19 @@ static void add_typed(struct text *out, const struct tidied *tidied)
     text_add(out, "\n  ],\n");
 }
 
+/* The typed lines behind a tidied one, by their number in the file and as typed. */
+static void add_behind(struct text *out, const struct build *build, const struct numbers *behind)
+{
+    text_add(out, "\"behind\": [");
+    for (size_t i = 0; i < behind->count; i++) {
+        const struct typed_line *typed = &build->lines[behind->at[i]];
+        text_add(out, "%s{\"line\": %zu, \"text\": ", i > 0 ? ", " : "", typed->number);
+        add_string(out, typed->text.at, typed->text.len);
+        text_add(out, "}");
+    }
+    text_add(out, "]");
+}
+
 static void add_tidied(struct text *out, const struct tidied *tidied)
 {
     text_add(out, "  \"tidied\": [");
@@ -93,6 +106,8 @@ static void add_tidied(struct text *out, const struct tidied *tidied)
         add_word(out, "text", tidied->lines[i].text.bytes);
         text_add(out, ", ");
         add_list(out, "lines", &tidied->lines[i].typed);
+        text_add(out, ", ");
+        add_behind(out, tidied->build, &tidied->lines[i].behind);
         text_add(out, ", \"opened\": %s}", tidied->lines[i].opened ? "true" : "false");
     }
     text_add(out, "\n  ],\n");

@@ -22,9 +22,12 @@ void add_fate_text(struct text *text, const struct tidied *tidied, size_t line)
     add_numbers(text, &fate->lines);
 }
 
-void add_origin_text(struct text *text, const struct tidied_line *line)
+void add_origin_text(struct text *text, const struct build *build, const struct tidied_line *line)
 {
-    add_numbers(text, &line->typed);
+    for (size_t i = 0; i < line->behind.count; i++) {
+        const struct typed_line *typed = &build->lines[line->behind.at[i]];
+        text_add(text, "%s%zu: %.*s", i > 0 ? "; " : "", typed->number, (int)typed->text.len, typed->text.at);
+    }
     text_add(text, "%s", line->opened ? "; end opened" : "");
 }
 
@@ -67,10 +70,10 @@ static void add_tidied(struct text *out, struct page page, const struct tidied *
     for (size_t i = 0; i < tidied->line_count; i++) {
         struct text left = {NULL, 0, 0}, right = {NULL, 0, 0};
         text_add(&left, "%*zu  %s", width, i + 1, tidied->lines[i].text.bytes);
-        add_origin_text(&right, &tidied->lines[i]);
+        add_origin_text(&right, tidied->build, &tidied->lines[i]);
         table_add(&table, left, (size_t)width + 2, right, tidied->lines[i].opened ? STYLE_CHANGED : STYLE_PLAIN);
     }
-    table_end(&table, out, page, "as tidied", "typed lines on its columns");
+    table_end(&table, out, page, "as tidied", "the typed line behind it");
 }
 
 void add_answer(struct text *text, const struct tidied *tidied)

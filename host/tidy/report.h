@@ -11,8 +11,8 @@ void add_fate_text(struct text *text, const struct tidied *tidied, size_t line);
 /* 1, 2, 3 */
 void add_numbers(struct text *text, const struct numbers *numbers);
 
-/* The typed lines that a tidied one comes from, and whether its end was opened: 15, 22, 23; end opened. */
-void add_origin_text(struct text *text, const struct tidied_line *line);
+/* The typed lines behind a tidied one, and whether its end was opened: 22: strike >= 4800; end opened. */
+void add_origin_text(struct text *text, const struct build *build, const struct tidied_line *line);
 
 /* The rows that pass, by their line in the file: neighbours as 12-15. */
 void add_passing(struct text *text, const struct chain *chain, const struct run *run);
@@ -20,7 +20,7 @@ void add_passing(struct text *text, const struct chain *chain, const struct run 
 /* What rewriting did, in a sentence. */
 void add_answer(struct text *text, const struct tidied *tidied);
 
-/* Each typed line and what became of it, each tidied line and the typed ones on its columns, the columns read. */
+/* Each typed line and what became of it, each tidied line and the typed ones behind it, the columns read. */
 void report_screen(struct text *out, struct page page, const struct tidied *tidied);
 
 /* How many passes over the equalities merging took. */

@@ -63,12 +63,14 @@ static uint32_t copy_out(struct tidied *tidied)
 
 void tidy(struct tidied *tidied, struct build *build)
 {
-    size_t room = 0;
+    size_t room = 0, reasons_room = 0;
     memset(tidied, 0, sizeof *tidied);
     build_lend(build);
     tidied->build = build;
     tidied->typed = tidied->returned = build->lent;
-    tidied->answer = screen_lent_rewrite_counted(&tidied->returned, &tidied->passes);
+    tidied->reasons = grown(NULL, &reasons_room, SCREEN_MAX_REASONS_BYTES, 1);
+    tidied->answer = screen_lent_rewrite_told(&tidied->returned, tidied->reasons, SCREEN_MAX_REASONS_BYTES,
+                                              &tidied->reasons_len, &tidied->passes);
     if (screen_refused(tidied->answer))
         return;
     uint32_t read = screen_lent_columns_read(&tidied->typed, &tidied->columns, &tidied->column_count);
@@ -88,12 +90,14 @@ void tidied_free(struct tidied *tidied)
     for (size_t i = 0; i < tidied->line_count; i++) {
         text_free(&tidied->lines[i].text);
         free(tidied->lines[i].typed.at);
+        free(tidied->lines[i].behind.at);
     }
     for (size_t i = 0; tidied->fates != NULL && i < tidied->build->line_count; i++)
         free(tidied->fates[i].lines.at);
     free(tidied->lines);
     free(tidied->fates);
     free(tidied->copied.records);
+    free(tidied->reasons);
 }
 
 const char *answer_text(uint32_t answer)

@@ -30,7 +30,8 @@ struct typed_fate {
 struct tidied_line {
     uint64_t record;
     struct text text;
-    struct numbers typed; /* the typed lines on its columns, by their number in the file */
+    struct numbers typed;  /* the typed lines on its columns, by their number in the file */
+    struct numbers behind; /* those behind it, as places among the typed lines: that first gave its value, or have it */
     bool opened; /* its end only became open: strike < 5300 from strike <= 5300 and strike != 5300 */
 };
 
@@ -39,6 +40,8 @@ struct tidied {
     const struct build *build;
     uint32_t answer; /* SCREEN_.., or a refusal */
     uint64_t passes; /* over the equalities, with an answer that is no refusal */
+    uint8_t *reasons; /* the library's text of reasons */
+    uint64_t reasons_len;
     struct screen_lent typed, returned;
     struct screen_lent copied; /* what the root of `returned` reaches, in a buffer of its own: the screen to run */
     struct tidied_line *lines; /* of a screen that is not refused */

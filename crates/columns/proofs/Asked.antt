@@ -14,17 +14,22 @@ use Rattle.checking.specs.Columns.{bit}
 use Rattle.checking.proofs.Bits.{bit-zero}
 use Rattle.constraints.specs.Values.{contains}
 use Rattle.constraints.specs.Payload.{payload}
+use Rattle.constraints.specs.Lined.{Lined, lined}
 use Rattle.constraints.specs.Resolve.{isAllowed}
 use Rattle.constraints.proofs.Sets.{subset-contains}
 use Rattle.sorted.specs.BitSets.{member, Put, Common, Missing, Meets, Within}
-use Rattle.columns.specs.Abstraction.{ofKind, listOf, allowedBy, disallowedBy, marked, Fine}
+use Rattle.columns.specs.Abstraction.{ofKind, listOf, valuesOf, allowedBy, disallowedBy, marked, Fine}
 use Rattle.columns.specs.Index.{Low, NumberSet, KindSet}
 use Rattle.columns.proofs.Pigeon.{Eq, yes, no, eq-view}
+use Rattle.columns.proofs.Lines.{contains-values}
 use Rattle.columns.proofs.Numbers.{marked-step, marked-none, mk-found}
 use Rattle.columns.proofs.Insertions.{within, all-within, any-within, all-none, all-more, any-none, any-more}
 
-abbrev has : ℕ → List ℕ → Bool
-has v l = contains payload (payload .key v) l
+abbrev has : ℕ → List Lined → Bool
+has v l = contains lined (payload .key v) l
+
+abbrev given : ℕ → List ℕ → Bool
+given v l = contains payload (payload .key v) l
 
 -- ---- sets of numbers
 zero-word : (q : ℕ) → _≡_ {A = ℕ} (getD (0 ∷ 0 ∷ []) q 0) 0
@@ -87,29 +92,30 @@ low-row m a n f h i l = let b = f i l .0 in omega arith
 
 -- ---- a value that every allowed list has
 all-each : (ks ss cs ps a : List ℕ) (v n : ℕ) →
-    ((i : ℕ) → i < n → (ofKind ks 1 (getD a i 0) && not (has v (listOf ss cs ps (getD a i 0)))) ≡ false) →
-    isAllowed payload (allowedBy ks ss cs ps a n) (payload .key v) ≡ true
+    ((i : ℕ) → i < n → (ofKind ks 1 (getD a i 0) && not (given v (listOf ss cs ps (getD a i 0)))) ≡ false) →
+    isAllowed lined (allowedBy ks ss cs ps a n) (payload .key v) ≡ true
 all-each ks ss cs ps a v zero h = all-none ks ss cs ps a v
 all-each ks ss cs ps a v (suc n) h =
     let e : n + 1 ≡ suc n = omega arith in
     rw e at (all-more ks ss cs ps a v n (all-each ks ss cs ps a v n (λ i l. h i (omega arith))) (h n (omega arith)))
 
 not-all : (ks ss cs ps a : List ℕ) (v n j : ℕ) → marked a n j ≡ true → getD ks j 0 ≡ 1 →
-    has v (listOf ss cs ps j) ≡ false → isAllowed payload (allowedBy ks ss cs ps a n) (payload .key v) ≡ false
+    given v (listOf ss cs ps j) ≡ false → isAllowed lined (allowedBy ks ss cs ps a n) (payload .key v) ≡ false
 not-all ks ss cs ps a v n j m k h = go (allowedBy ks ss cs ps a n) (all-within ks ss cs ps a n j m k)
   where
-    test : (x : List ℕ) → within (some x) (listOf ss cs ps j) ≡ true → (b : Bool) → has v x ≡ b → b ≡ false
+    test : (x : List Lined) → within (some x) (valuesOf ss cs ps j) ≡ true → (b : Bool) → has v x ≡ b → b ≡ false
     test x s true e =
-        absurd (true≢false (sym (subset-contains payload (payload .key v) x (listOf ss cs ps j) s e) ∙ h))
+        absurd (true≢false (sym (subset-contains lined (payload .key v) x (valuesOf ss cs ps j) s e) ∙
+        contains-values (payload .key v) ss cs ps j ∙ h))
     test x s false e = refl
 
-    go : (o : Option (List ℕ)) → within o (listOf ss cs ps j) ≡ true → isAllowed payload o (payload .key v) ≡ false
+    go : (o : Option (List Lined)) → within o (valuesOf ss cs ps j) ≡ true → isAllowed lined o (payload .key v) ≡ false
     go none s = absurd (true≢false (sym s))
     go (some x) s = test x s (has v x) refl
 
 -- ---- a value that no disallowed list has
 none-each : (ks ss cs ps a : List ℕ) (v n : ℕ) →
-    ((i : ℕ) → i < n → (ofKind ks 2 (getD a i 0) && has v (listOf ss cs ps (getD a i 0))) ≡ false) →
+    ((i : ℕ) → i < n → (ofKind ks 2 (getD a i 0) && given v (listOf ss cs ps (getD a i 0))) ≡ false) →
     has v (disallowedBy ks ss cs ps a n) ≡ false
 none-each ks ss cs ps a v zero h = any-none ks ss cs ps a v
 none-each ks ss cs ps a v (suc n) h =
@@ -118,30 +124,30 @@ none-each ks ss cs ps a v (suc n) h =
 
 -- ---- the sets of numbers against the set of the lists that have v
 module _ (ks ss cs ps a : List ℕ) (n v : ℕ) (index : List ℕ) (at : ℕ) (low : Low a n)
-    (lists : (j : ℕ) → j < 128 → member index at j ≡ has v (listOf ss cs ps j)) where
+    (lists : (j : ℕ) → j < 128 → member index at j ≡ given v (listOf ss cs ps j)) where
   own : (k : ℕ) (set : List ℕ) → KindSet ks k a n set → (i : ℕ) → i < n → ofKind ks k (getD a i 0) ≡ true →
       member set 0 (getD a i 0) ≡ true
   own k set s i l d =
       s .has (getD a i 0) (low i l) ∙ rw (d, ← mk-found a (getD a i 0) i n l (eq-eqb (getD a i 0) (getD a i 0) refl))
 
   pub allowed-asked : (set : List ℕ) (r : Bool) → KindSet ks 1 a n set → Within set 0 index at r →
-      r ≡ isAllowed payload (allowedBy ks ss cs ps a n) (payload .key v)
+      r ≡ isAllowed lined (allowedBy ks ss cs ps a n) (payload .key v)
   allowed-asked set r s w = go r w
     where
       each : Within set 0 index at true → (i : ℕ) → i < n → (d : Bool) → ofKind ks 1 (getD a i 0) ≡ d →
-          (d && not (has v (listOf ss cs ps (getD a i 0)))) ≡ false
+          (d && not (given v (listOf ss cs ps (getD a i 0)))) ≡ false
       each w i l true d = ap not (sym (lists (getD a i 0) (low i l)) ∙
           w .every refl (getD a i 0) (low i l) (own 1 set s i l d))
       each w i l false d = refl
 
-      lost : Missing set 0 index at → isAllowed payload (allowedBy ks ss cs ps a n) (payload .key v) ≡ false
+      lost : Missing set 0 index at → isAllowed lined (allowedBy ks ss cs ps a n) (payload .key v) ≡ false
       lost g =
           let e = sym (s .has (g .place) (g .below)) ∙ g .here in
           not-all ks ss cs ps a v n (g .place) (and-left (marked a n (g .place)) (ofKind ks 1 (g .place)) e)
           (eqb-true (getD ks (g .place) 0) 1 (and-right (marked a n (g .place)) (ofKind ks 1 (g .place)) e))
           (sym (lists (g .place) (g .below)) ∙ g .lacks)
 
-      go : (r : Bool) → Within set 0 index at r → r ≡ isAllowed payload (allowedBy ks ss cs ps a n) (payload .key v)
+      go : (r : Bool) → Within set 0 index at r → r ≡ isAllowed lined (allowedBy ks ss cs ps a n) (payload .key v)
       go true w = sym (all-each ks ss cs ps a v n (λ i l. each w i l (ofKind ks 1 (getD a i 0)) refl))
       go false w = sym (lost (w .some refl))
 
@@ -150,7 +156,7 @@ module _ (ks ss cs ps a : List ℕ) (n v : ℕ) (index : List ℕ) (at : ℕ) (l
   disallowed-asked set r s w = go r w
     where
       each : Meets set 0 index at false → (i : ℕ) → i < n → (d : Bool) → ofKind ks 2 (getD a i 0) ≡ d →
-          (d && has v (listOf ss cs ps (getD a i 0))) ≡ false
+          (d && given v (listOf ss cs ps (getD a i 0))) ≡ false
       each w i l true d = sym (lists (getD a i 0) (low i l)) ∙
           w .none refl (getD a i 0) (low i l) (own 2 set s i l d)
       each w i l false d = refl
@@ -158,10 +164,10 @@ module _ (ks ss cs ps a : List ℕ) (n v : ℕ) (index : List ℕ) (at : ℕ) (l
       met : Common set 0 index at → has v (disallowedBy ks ss cs ps a n) ≡ true
       met g =
           let e = sym (s .has (g .place) (g .below)) ∙ g .here in
-          subset-contains payload (payload .key v) (listOf ss cs ps (g .place)) (disallowedBy ks ss cs ps a n)
+          subset-contains lined (payload .key v) (valuesOf ss cs ps (g .place)) (disallowedBy ks ss cs ps a n)
           (any-within ks ss cs ps a n (g .place) (and-left (marked a n (g .place)) (ofKind ks 2 (g .place)) e)
           (eqb-true (getD ks (g .place) 0) 2 (and-right (marked a n (g .place)) (ofKind ks 2 (g .place)) e)))
-          (sym (lists (g .place) (g .below)) ∙ g .there)
+          (contains-values (payload .key v) ss cs ps (g .place) ∙ sym (lists (g .place) (g .below)) ∙ g .there)
 
       go : (r : Bool) → Meets set 0 index at r → r ≡ has v (disallowedBy ks ss cs ps a n)
       go true w = sym (met (w .some refl))

@@ -1,4 +1,5 @@
 pub mod Pigeon
+pub mod Lines
 pub mod Numbers
 pub mod Insertions
 pub mod Lists

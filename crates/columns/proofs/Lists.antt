@@ -2,7 +2,7 @@
 use mathlib.Core.Path.{_≡_, refl, sym, _∙_, ap}
 use mathlib.Core.Bool.{Bool, true, false, not, cond, _&&_, _||_, true≢false, or-true, or-false}
 use mathlib.Core.Bool.{or-assoc}
-use mathlib.Core.List.{List, [], _∷_, _++_}
+use mathlib.Core.List.{List, [], _∷_, _++_, map}
 use mathlib.Core.Option.{Option, none, some}
 use Prim.Native.Nat.{ℕ, zero, suc, _+_, _≤_, _<_}
 use lib.IntN.{ℤ}
@@ -19,7 +19,9 @@ use Rattle.constraints.specs.Scalars.{scalarCmp, opposite}
 use Rattle.constraints.specs.Values.{contains, subset, isEmpty}
 use Rattle.constraints.specs.Column as q
 use Rattle.constraints.specs.Payload.{payload}
-use Rattle.columns.specs.Abstraction.{Conjuncts, columnOf, gather, ofKind, listOf, excludedBy, allowedBy}
+use Rattle.constraints.specs.Lined.{Lined, onLine, lined}
+use Rattle.columns.specs.Abstraction.{Conjuncts, columnOf, gather, ofKind, listOf, valuesOf, excludedBy}
+use Rattle.columns.specs.Abstraction.{literalAt, allowedBy}
 use Rattle.columns.specs.Abstraction.{marked}
 use Rattle.columns.specs.Abstraction.{Numbered}
 use Rattle.constraints.proofs.Sets.{subset-contains, isEqual-subst}
@@ -27,11 +29,15 @@ use Rattle.constraints.specs.Resolve as z
 use Rattle.constraints.specs.Bound as b
 use Rattle.constraints.proofs.Columns.{isEmpty-snoc}
 use Rattle.columns.specs.Steps.{anyOf, outside, anyOfKind, changesIn}
+use Rattle.columns.proofs.Lines.{any-lines}
 use Rattle.columns.proofs.Numbers.{more, found, done}
-use Rattle.columns.proofs.Insertions.{within, all-within, any-within, all-sub}
+use Rattle.columns.proofs.Insertions.{within, all-within, any-within}
 
-abbrev has : ℕ → List ℕ → Bool
-has v l = contains payload (payload .key v) l
+abbrev has : ℕ → List Lined → Bool
+has v l = contains lined (payload .key v) l
+
+abbrev given : ℕ → List ℕ → Bool
+given v l = contains payload (payload .key v) l
 
 pub values-snoc : (p : List ℕ) (s n : ℕ) → valuesFrom p s (suc n) ≡ valuesFrom p s n ++ (valueAt p (s + n) ∷ [])
 unfolding valuesFrom
@@ -68,45 +74,66 @@ pub an-done : (f : ℕ → Bool) (p : List ℕ) (s i n : ℕ) → i ≤ n → n 
 an-done f p s i n l g h = done (λ n. anyOf f (valuesFrom p s n)) i n l g h
 
 -- ---- the tests of values as such
-pub has-any : (v : ℕ) (l : List ℕ) → has v l ≡ anyOf (λ w. isEqual (scalarCmp payload v w)) l
-has-any v [] = refl
-has-any v (w ∷ l) = rw (has-any v l)
+pub given-any : (v : ℕ) (l : List ℕ) → given v l ≡ anyOf (λ w. isEqual (scalarCmp payload v w)) l
+given-any v [] = refl
+given-any v (w ∷ l) = rw (given-any v l)
 
-pub widens-any : (l m : List ℕ) → not (subset payload l m) ≡ anyOf (λ v. not (has v m)) l
-widens-any [] m = refl
-widens-any (v ∷ l) m = go (has v m) (widens-any l m)
+new-any : (l m : List Lined) → not (subset lined l m) ≡ anyOf (λ v. not (contains lined (lined .key v) m)) l
+new-any [] m = refl
+new-any (v ∷ l) m = go (contains lined (lined .key v) m) (new-any l m)
   where
-    go : (b : Bool) → not (subset payload l m) ≡ anyOf (λ v. not (has v m)) l → not (b && subset payload l m) ≡
-        (not b || anyOf (λ v. not (has v m)) l)
+    go : (b : Bool) → not (subset lined l m) ≡ anyOf (λ v. not (contains lined (lined .key v) m)) l →
+        not (b && subset lined l m) ≡ (not b || anyOf (λ v. not (contains lined (lined .key v) m)) l)
     go true e = e
     go false e = refl
 
-pub feasible-any : (cc : q.ColumnConstraints ℕ) (l : List ℕ) → z.anyFeasible payload cc l ≡
-    anyOf (λ v. z.isFeasible payload cc (payload .key v)) l
+feasible-any : (cc : q.ColumnConstraints Lined) (l : List Lined) → z.anyFeasible lined cc l ≡
+    anyOf (λ v. z.isFeasible lined cc (lined .key v)) l
 feasible-any cc [] = refl
 feasible-any cc (v ∷ l) = rw (feasible-any cc l)
 
+-- of the list of a number
+pub widens-any : (ss cs ps : List ℕ) (j : ℕ) (m : List Lined) → not (subset lined (valuesOf ss cs ps j) m) ≡
+    anyOf (λ v. not (has v m)) (listOf ss cs ps j)
+unfolding valuesOf
+widens-any ss cs ps j m = new-any (map (onLine j) (listOf ss cs ps j)) m ∙
+    any-lines (λ k. not (contains lined k m)) j (listOf ss cs ps j)
+
+pub feasible-listed : (ss cs ps : List ℕ) (j : ℕ) (cc : q.ColumnConstraints Lined) →
+    z.anyFeasible lined cc (valuesOf ss cs ps j) ≡
+    anyOf (λ v. z.isFeasible lined cc (payload .key v)) (listOf ss cs ps j)
+unfolding valuesOf
+feasible-listed ss cs ps j cc = feasible-any cc (map (onLine j) (listOf ss cs ps j)) ∙
+    any-lines (λ k. z.isFeasible lined cc k) j (listOf ss cs ps j)
+
+outside-listed : (ss cs ps : List ℕ) (j : ℕ) (m l : List Lined) →
+    anyOf (λ v. outside (some m) l v) (listOf ss cs ps j) ≡
+    anyOf (λ x. contains lined (lined .key x) m && not (contains lined (lined .key x) l)) (valuesOf ss cs ps j)
+unfolding valuesOf
+outside-listed ss cs ps j m l =
+    sym (any-lines (λ k. contains lined k m && not (contains lined k l)) j (listOf ss cs ps j))
+
 -- ---- a property of keys that some value of a list has
-abbrev anyKey : (ℤ → Bool) → List ℕ → Bool
-anyKey P l = anyOf (λ v. P (payload .key v)) l
+abbrev anyKey : (ℤ → Bool) → List Lined → Bool
+anyKey P l = anyOf (λ v. P (lined .key v)) l
 
-key-in : (P : ℤ → Bool) (l : List ℕ) (k : ℤ) → contains payload k l ≡ true → P k ≡ true → anyKey P l ≡ true
+key-in : (P : ℤ → Bool) (l : List Lined) (k : ℤ) → contains lined k l ≡ true → P k ≡ true → anyKey P l ≡ true
 key-in P [] k h e = absurd (true≢false (sym h))
-key-in P (v ∷ l) k h e = go (isEqual (payload .order .cmp k (payload .key v))) refl h (λ i. key-in P l k i e)
+key-in P (v ∷ l) k h e = go (isEqual (lined .order .cmp k (lined .key v))) refl h (λ i. key-in P l k i e)
   where
-    go : (b : Bool) → isEqual (payload .order .cmp k (payload .key v)) ≡ b → (b || contains payload k l) ≡ true →
-        (contains payload k l ≡ true → anyKey P l ≡ true) → (P (payload .key v) || anyKey P l) ≡ true
-    go true i h f = rw (isEqual-subst payload (λ x. P x ≡ true) i e)
-    go false i h f = rw (f h) (or-true (P (payload .key v)))
+    go : (b : Bool) → isEqual (lined .order .cmp k (lined .key v)) ≡ b → (b || contains lined k l) ≡ true →
+        (contains lined k l ≡ true → anyKey P l ≡ true) → (P (lined .key v) || anyKey P l) ≡ true
+    go true i h f = rw (isEqual-subst lined (λ x. P x ≡ true) i e)
+    go false i h f = rw (f h) (or-true (P (lined .key v)))
 
-key-out : (P : ℤ → Bool) (l : List ℕ) (C : Type 0) → anyKey P l ≡ true →
-    ((k : ℤ) → contains payload k l ≡ true → P k ≡ true → C) → C
+key-out : (P : ℤ → Bool) (l : List Lined) (C : Type 0) → anyKey P l ≡ true →
+    ((k : ℤ) → contains lined k l ≡ true → P k ≡ true → C) → C
 key-out P [] C h f = absurd (true≢false (sym h))
-key-out P (v ∷ l) C h f = go (P (payload .key v)) refl h
-    (λ i. key-out P l C i (λ k i e. f k (rw i (or-true (isEqual (payload .order .cmp k (payload .key v))))) e))
+key-out P (v ∷ l) C h f = go (P (lined .key v)) refl h
+    (λ i. key-out P l C i (λ k i e. f k (rw i (or-true (isEqual (lined .order .cmp k (lined .key v))))) e))
   where
-    go : (b : Bool) → P (payload .key v) ≡ b → (b || anyKey P l) ≡ true → (anyKey P l ≡ true → C) → C
-    go true e h g = f (payload .key v) (rw (cmp-refl (payload .total) (payload .key v))) e
+    go : (b : Bool) → P (lined .key v) ≡ b → (b || anyKey P l) ≡ true → (anyKey P l ≡ true → C) → C
+    go true e h g = f (lined .key v) (rw (cmp-refl (lined .total) (lined .key v))) e
     go false e h g = g h
 
 bool-iff : (a b : Bool) → (a ≡ true → b ≡ true) → (b ≡ true → a ≡ true) → a ≡ b
@@ -119,59 +146,59 @@ not-yes true e = absurd (true≢false (sym e))
 not-yes false e = refl
 
 -- ---- one of the allowed lists x, and the values m common to them all
-pub outside-all : (m x l : List ℕ) → subset payload x x ≡ true → subset payload m x ≡ true →
-    anyOf (λ v. outside (some m) l v) x ≡ not (subset payload m l)
-outside-all m x l r s = bool-iff (anyOf (λ v. outside (some m) l v) x) (not (subset payload m l))
-    (λ h. key-out (λ k. contains payload k m && not (contains payload k l)) x _ h λ k i e. go k
-    (and-left (contains payload k m) (not (contains payload k l)) e)
-    (not-yes (contains payload k l) (and-right (contains payload k m) (not (contains payload k l)) e))
-    (subset payload m l) refl)
-    (λ h. key-out (λ k. not (contains payload k l)) m _ (sym (widens-any m l) ∙ h) λ k i e. key-in
-    (λ k. contains payload k m && not (contains payload k l)) x k (subset-contains payload k m x s i) (rw (i, e)))
+outside-all : (m x l : List Lined) → subset lined m x ≡ true →
+    anyKey (λ k. contains lined k m && not (contains lined k l)) x ≡ not (subset lined m l)
+outside-all m x l s = bool-iff (anyKey (λ k. contains lined k m && not (contains lined k l)) x) (not (subset lined m l))
+    (λ h. key-out (λ k. contains lined k m && not (contains lined k l)) x _ h λ k i e. go k
+    (and-left (contains lined k m) (not (contains lined k l)) e)
+    (not-yes (contains lined k l) (and-right (contains lined k m) (not (contains lined k l)) e))
+    (subset lined m l) refl)
+    (λ h. key-out (λ k. not (contains lined k l)) m _ (sym (new-any m l) ∙ h) λ k i e. key-in
+    (λ k. contains lined k m && not (contains lined k l)) x k (subset-contains lined k m x s i) (rw (i, e)))
   where
-    go : (k : ℤ) → contains payload k m ≡ true → contains payload k l ≡ false → (b : Bool) → subset payload m l ≡ b →
+    go : (k : ℤ) → contains lined k m ≡ true → contains lined k l ≡ false → (b : Bool) → subset lined m l ≡ b →
         not b ≡ true
-    go k i n true s = absurd (true≢false (sym (subset-contains payload k m l s i) ∙ n))
+    go k i n true s = absurd (true≢false (sym (subset-contains lined k m l s i) ∙ n))
     go k i n false s = refl
 
-pub feasible-all : (cc : q.ColumnConstraints ℕ) (m x : List ℕ) → cc .allowed ≡ some m → subset payload m x ≡ true →
-    z.anyFeasible payload cc x ≡ z.anyFeasible payload cc m
-feasible-all cc m x e s = feasible-any cc x ∙ bool-iff (anyKey (λ k. z.isFeasible payload cc k) x)
-    (anyKey (λ k. z.isFeasible payload cc k) m)
-    (λ h. key-out (λ k. z.isFeasible payload cc k) x _ h λ k i f. key-in (λ k. z.isFeasible payload cc k) m k
-    (ap (λ o. z.isAllowed payload o k) (sym e) ∙ and-left (z.isAllowed payload (cc .allowed) k)
-    (not (contains payload k (cc .disallowed)))
-    (and-right (b.clears payload (cc .lower) k &&
-    (b.clears (opposite payload) (cc .upper) k && not (contains payload k (cc .excluded))))
-    (z.isAllowed payload (cc .allowed) k && not (contains payload k (cc .disallowed))) f)) f)
-    (λ h. key-out (λ k. z.isFeasible payload cc k) m _ h λ k i f. key-in (λ k. z.isFeasible payload cc k) x k
-    (subset-contains payload k m x s i) f)
+feasible-all : (cc : q.ColumnConstraints Lined) (m x : List Lined) → cc .allowed ≡ some m → subset lined m x ≡ true →
+    z.anyFeasible lined cc x ≡ z.anyFeasible lined cc m
+feasible-all cc m x e s = feasible-any cc x ∙ bool-iff (anyKey (λ k. z.isFeasible lined cc k) x)
+    (anyKey (λ k. z.isFeasible lined cc k) m)
+    (λ h. key-out (λ k. z.isFeasible lined cc k) x _ h λ k i f. key-in (λ k. z.isFeasible lined cc k) m k
+    (ap (λ o. z.isAllowed lined o k) (sym e) ∙ and-left (z.isAllowed lined (cc .allowed) k)
+    (not (contains lined k (cc .disallowed)))
+    (and-right (b.clears lined (cc .lower) k &&
+    (b.clears (opposite lined) (cc .upper) k && not (contains lined k (cc .excluded))))
+    (z.isAllowed lined (cc .allowed) k && not (contains lined k (cc .disallowed))) f)) f)
+    (λ h. key-out (λ k. z.isFeasible lined cc k) m _ h λ k i f. key-in (λ k. z.isFeasible lined cc k) x k
+    (subset-contains lined k m x s i) f)
     ∙ sym (feasible-any cc m)
 
 -- ---- a number of kind 1 that a column has
 pub narrows-first : (ks ss cs ps a : List ℕ) (n f j : ℕ) → marked a n f ≡ true → getD ks f 0 ≡ 1 →
-    anyOf (λ v. outside (allowedBy ks ss cs ps a n) (listOf ss cs ps j) v) (listOf ss cs ps f) ≡
-    q.allowedChanges payload (allowedBy ks ss cs ps a n) (listOf ss cs ps j)
+    anyOf (λ v. outside (allowedBy ks ss cs ps a n) (valuesOf ss cs ps j) v) (listOf ss cs ps f) ≡
+    q.allowedChanges lined (allowedBy ks ss cs ps a n) (valuesOf ss cs ps j)
 narrows-first ks ss cs ps a n f j h k = go (allowedBy ks ss cs ps a n) (all-within ks ss cs ps a n f h k)
   where
-    go : (o : Option (List ℕ)) → within o (listOf ss cs ps f) ≡ true → anyOf (λ v. outside o (listOf ss cs ps j) v)
-        (listOf ss cs ps f) ≡ q.allowedChanges payload o (listOf ss cs ps j)
+    go : (o : Option (List Lined)) → within o (valuesOf ss cs ps f) ≡ true → anyOf
+        (λ v. outside o (valuesOf ss cs ps j) v) (listOf ss cs ps f) ≡ q.allowedChanges lined o (valuesOf ss cs ps j)
     go none e = absurd (true≢false (sym e))
-    go (some m) e = outside-all m (listOf ss cs ps f) (listOf ss cs ps j)
-        (all-sub (listOf ss cs ps f) (listOf ss cs ps f) (λ x i. i)) e
+    go (some m) e = outside-listed ss cs ps f m (valuesOf ss cs ps j) ∙
+        outside-all m (valuesOf ss cs ps f) (valuesOf ss cs ps j) e
 
 pub feasible-first : (t : Conjuncts) (c : Numbered) (f : ℕ) → marked (c .marks) (c .len) f ≡ true →
     getD (t .kinds) f 0 ≡ 1 →
-    z.anyFeasible payload (columnOf t c) (listOf (t .starts) (t .counts) (t .pool) f) ≡
-    z.allowedFeasible payload (columnOf t c) (columnOf t c .allowed)
+    z.anyFeasible lined (columnOf t c) (valuesOf (t .starts) (t .counts) (t .pool) f) ≡
+    z.allowedFeasible lined (columnOf t c) (columnOf t c .allowed)
 feasible-first t c f h k = go (columnOf t c .allowed) refl
     (all-within (t .kinds) (t .starts) (t .counts) (t .pool) (c .marks) (c .len) f h k)
   where
-    go : (o : Option (List ℕ)) → columnOf t c .allowed ≡ o → within o (listOf (t .starts) (t .counts) (t .pool) f) ≡
-        true → z.anyFeasible payload (columnOf t c) (listOf (t .starts) (t .counts) (t .pool) f) ≡
-        z.allowedFeasible payload (columnOf t c) o
+    go : (o : Option (List Lined)) → columnOf t c .allowed ≡ o → within o (valuesOf (t .starts) (t .counts) (t .pool) f) ≡
+        true → z.anyFeasible lined (columnOf t c) (valuesOf (t .starts) (t .counts) (t .pool) f) ≡
+        z.allowedFeasible lined (columnOf t c) o
     go none e h = absurd (true≢false (sym h))
-    go (some m) e h = feasible-all (columnOf t c) m (listOf (t .starts) (t .counts) (t .pool) f) e h
+    go (some m) e h = feasible-all (columnOf t c) m (valuesOf (t .starts) (t .counts) (t .pool) f) e h
 
 pub skip-allowed : (ks ss cs ps a : List ℕ) (i : ℕ) → allowedBy ks ss cs ps a i ≡ none →
     (getD ks (getD a i 0) 0 ≡ 1 → ⊥) → allowedBy ks ss cs ps a (i + 1) ≡ none
@@ -210,9 +237,9 @@ no-excluded ks vs a zero = refl
 no-excluded ks vs a (suc n) = go (ofKind ks 0 (getD a n 0)) (no-excluded ks vs a n)
   where
     go : (x : Bool) → isEmpty (excludedBy ks vs a n) ≡ not (anyOfKind ks 0 a n) →
-        isEmpty (cond x (excludedBy ks vs a n ++ (getD vs (getD a n 0) 0 ∷ [])) (excludedBy ks vs a n)) ≡
+        isEmpty (cond x (excludedBy ks vs a n ++ (literalAt vs (getD a n 0) ∷ [])) (excludedBy ks vs a n)) ≡
         not (anyOfKind ks 0 a n || x)
-    go true e = isEmpty-snoc (excludedBy ks vs a n) (getD vs (getD a n 0) 0) ∙
+    go true e = isEmpty-snoc (excludedBy ks vs a n) (literalAt vs (getD a n 0)) ∙
         ap not (sym (or-true (anyOfKind ks 0 a n)))
     go false e = e ∙ ap not (sym (or-false (anyOfKind ks 0 a n)))
 
@@ -222,7 +249,7 @@ no-allowed ks ss cs ps a zero = refl
 no-allowed ks ss cs ps a (suc n) = go (ofKind ks 1 (getD a n 0)) (no-allowed ks ss cs ps a n)
   where
     go : (x : Bool) → q.isNone (allowedBy ks ss cs ps a n) ≡ not (anyOfKind ks 1 a n) →
-        q.isNone (cond x (some (q.common payload (allowedBy ks ss cs ps a n) (listOf ss cs ps (getD a n 0))))
+        q.isNone (cond x (some (q.common lined (allowedBy ks ss cs ps a n) (valuesOf ss cs ps (getD a n 0))))
         (allowedBy ks ss cs ps a n)) ≡ not (anyOfKind ks 1 a n || x)
     go true e = ap not (sym (or-true (anyOfKind ks 1 a n)))
     go false e = e ∙ ap not (sym (or-false (anyOfKind ks 1 a n)))
@@ -233,22 +260,22 @@ pub list-as : (ss cs ps : List ℕ) (j s n : ℕ) → s ≡ getD ss j 0 → n �
 unfolding listOf
 list-as ss cs ps j s n e f = rw (e, f)
 
-pub within-still : (o : Option (List ℕ)) (l : List ℕ) → within o l ≡ true → q.allowedChanges payload o l ≡ false
+pub within-still : (o : Option (List Lined)) (l : List Lined) → within o l ≡ true → q.allowedChanges lined o l ≡ false
 within-still none l h = absurd (true≢false (sym h))
 within-still (some m) l h = ap not h
 
 pub held-allowed : (t : Conjuncts) (c : Numbered) (j : ℕ) → c .unsat ≡ false → marked (c .marks) (c .len) j ≡
-    true → getD (t .kinds) j 0 ≡ 1 → false ≡ changesIn (q.Allow (listOf (t .starts) (t .counts) (t .pool) j))
+    true → getD (t .kinds) j 0 ≡ 1 → false ≡ changesIn (q.Allow (valuesOf (t .starts) (t .counts) (t .pool) j))
     (columnOf t c)
-held-allowed t c j u m k = sym (ap (λ x. not x && q.changes payload
-    (q.Allow (listOf (t .starts) (t .counts) (t .pool) j)) (columnOf t c)) u ∙
-    within-still (columnOf t c .allowed) (listOf (t .starts) (t .counts) (t .pool) j)
+held-allowed t c j u m k = sym (ap (λ x. not x && q.changes lined
+    (q.Allow (valuesOf (t .starts) (t .counts) (t .pool) j)) (columnOf t c)) u ∙
+    within-still (columnOf t c .allowed) (valuesOf (t .starts) (t .counts) (t .pool) j)
     (all-within (t .kinds) (t .starts) (t .counts) (t .pool) (c .marks) (c .len) j m k))
 
 pub held-disallowed : (t : Conjuncts) (c : Numbered) (j : ℕ) → c .unsat ≡ false →
     marked (c .marks) (c .len) j ≡ true → getD (t .kinds) j 0 ≡ 2 → false ≡
-    changesIn (q.Disallow false (listOf (t .starts) (t .counts) (t .pool) j)) (columnOf t c)
+    changesIn (q.Disallow false (valuesOf (t .starts) (t .counts) (t .pool) j)) (columnOf t c)
 held-disallowed t c j u m k = sym
-    (ap (λ x. not x && q.changes payload (q.Disallow false (listOf (t .starts) (t .counts) (t .pool) j))
+    (ap (λ x. not x && q.changes lined (q.Disallow false (valuesOf (t .starts) (t .counts) (t .pool) j))
     (columnOf t c)) u
     ∙ ap not (any-within (t .kinds) (t .starts) (t .counts) (t .pool) (c .marks) (c .len) j m k))

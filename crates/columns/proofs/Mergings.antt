@@ -11,10 +11,11 @@ use lib.ListN.{getD}
 use borrow.Author.Tests.{ne-eqb}
 use Rattle.constraints.specs.Values.{contains, insert, extend, retain, subset}
 use Rattle.constraints.specs.Column as q
-use Rattle.constraints.specs.Payload.{payload}
+use Rattle.constraints.specs.Lined.{Lined, lined}
 use Rattle.constraints.specs.Scalars.{opposite}
 use Rattle.constraints.specs.declared.column.BoundChange.the-variants.{NoChange}
-use Rattle.columns.specs.Abstraction.{Conjuncts, columnOf, boundOf, gather, ofKind, listOf, excludedBy}
+use Rattle.columns.specs.Abstraction.{Conjuncts, columnOf, boundOf, gather, ofKind, valuesOf, excludedBy}
+use Rattle.columns.specs.Abstraction.{literalAt}
 use Rattle.columns.specs.Abstraction.{allowedBy, disallowedBy}
 use Rattle.columns.specs.Abstraction.{Numbered}
 use Rattle.constraints.proofs.Sets.{contains-extend, contains-retain, subset-contains, extend-subset}
@@ -24,57 +25,57 @@ use Rattle.columns.specs.Steps.{Merging, changesIn, emitting, recording,
 use Rattle.constraints.proofs.Columns.{swap-mid}
 use Rattle.columns.proofs.Pigeon.{Eq, yes, no, eq-view}
 
-abbrev has : ℕ → List ℕ → Bool
-has v l = contains payload (payload .key v) l
+abbrev has : Lined → List Lined → Bool
+has v l = contains lined (lined .key v) l
 
-pub union-snoc : (d l : List ℕ) (v : ℕ) → extend payload d (l ++ (v ∷ [])) ≡ insert payload v (extend payload d l)
+pub union-snoc : (d l : List Lined) (v : Lined) → extend lined d (l ++ (v ∷ [])) ≡ insert lined v (extend lined d l)
 union-snoc d [] v = refl
-union-snoc d (w ∷ l) v = union-snoc (insert payload w d) l v
+union-snoc d (w ∷ l) v = union-snoc (insert lined w d) l v
 
-pub union-ins : (d x : List ℕ) (v : ℕ) → extend payload d (insert payload v x) ≡ insert payload v (extend payload d x)
-union-ins d x v = go (contains payload (payload .key v) x) refl
+pub union-ins : (d x : List Lined) (v : Lined) → extend lined d (insert lined v x) ≡ insert lined v (extend lined d x)
+union-ins d x v = go (contains lined (lined .key v) x) refl
   where
-    go : (b : Bool) → contains payload (payload .key v) x ≡ b → extend payload d (cond b x (x ++ (v ∷ []))) ≡
-        insert payload v (extend payload d x)
-    go true h = rw (contains-extend payload (payload .key v) d x, h, or-true (contains payload (payload .key v) d))
+    go : (b : Bool) → contains lined (lined .key v) x ≡ b → extend lined d (cond b x (x ++ (v ∷ []))) ≡
+        insert lined v (extend lined d x)
+    go true h = rw (contains-extend lined (lined .key v) d x, h, or-true (contains lined (lined .key v) d))
     go false h = union-snoc d x v
 
-pub union-union : (d x l : List ℕ) → extend payload d (extend payload x l) ≡ extend payload (extend payload d x) l
+pub union-union : (d x l : List Lined) → extend lined d (extend lined x l) ≡ extend lined (extend lined d x) l
 union-union d x [] = refl
-union-union d x (v ∷ l) = union-union d (insert payload v x) l ∙ ap (λ y. extend payload y l) (union-ins d x v)
+union-union d x (v ∷ l) = union-union d (insert lined v x) l ∙ ap (λ y. extend lined y l) (union-ins d x v)
 
-pub keep-keep : (l m x : List ℕ) → retain payload (retain payload l m) x ≡ retain payload l (retain payload m x)
+pub keep-keep : (l m x : List Lined) → retain lined (retain lined l m) x ≡ retain lined l (retain lined m x)
 keep-keep l m [] = refl
-keep-keep l m (v ∷ x) = rw (contains-retain payload (payload .key v) l m)
-    (go (contains payload (payload .key v) m) (contains payload (payload .key v) l) refl (keep-keep l m x))
+keep-keep l m (v ∷ x) = rw (contains-retain lined (lined .key v) l m)
+    (go (contains lined (lined .key v) m) (contains lined (lined .key v) l) refl (keep-keep l m x))
   where
-    go : (a b : Bool) → contains payload (payload .key v) l ≡ b → retain payload (retain payload l m) x ≡
-        retain payload l (retain payload m x) → cond (a && b) (v ∷ (retain payload (retain payload l m) x))
-        (retain payload (retain payload l m) x) ≡
-        retain payload l (cond a (v ∷ (retain payload m x)) (retain payload m x))
+    go : (a b : Bool) → contains lined (lined .key v) l ≡ b → retain lined (retain lined l m) x ≡
+        retain lined l (retain lined m x) → cond (a && b) (v ∷ (retain lined (retain lined l m) x))
+        (retain lined (retain lined l m) x) ≡
+        retain lined l (cond a (v ∷ (retain lined m x)) (retain lined m x))
     go true true e h = rw (e, h)
     go true false e h = rw e h
     go false b e h = h
 
-abbrev pub join : Option (List ℕ) → Option (List ℕ) → Option (List ℕ)
+abbrev pub join : Option (List Lined) → Option (List Lined) → Option (List Lined)
 join o none = o
-join o (some m) = some (q.common payload o m)
+join o (some m) = some (q.common lined o m)
 
-pub join-more : (o p : Option (List ℕ)) (l : List ℕ) → join o (some (q.common payload p l)) ≡
-    some (q.common payload (join o p) l)
+pub join-more : (o p : Option (List Lined)) (l : List Lined) → join o (some (q.common lined p l)) ≡
+    some (q.common lined (join o p) l)
 join-more o none l = refl
 join-more none (some m) l = refl
 join-more (some x) (some m) l = ap some (keep-keep l m x)
 
 -- a column with more excluded values, allowed lists, disallowed values
-abbrev pub joined : q.ColumnConstraints ℕ → List ℕ → Option (List ℕ) → List ℕ → q.ColumnConstraints ℕ
+abbrev pub joined : q.ColumnConstraints Lined → List Lined → Option (List Lined) → List Lined → q.ColumnConstraints Lined
 joined c e o d = record {
   lower = c .lower;
   upper = c .upper;
-  excluded = extend payload (c .excluded) e;
+  excluded = extend lined (c .excluded) e;
   allowed =
       join (c .allowed) o;
-  disallowed = extend payload (c .disallowed) d;
+  disallowed = extend lined (c .disallowed) d;
   strict = c .strict;
   nullability =
       c .nullability;
@@ -82,78 +83,78 @@ joined c e o d = record {
 }
 
 -- ---- what is new among values
-subset-snoc : (e x : List ℕ) (v : ℕ) → subset payload (e ++ (v ∷ [])) x ≡ (subset payload e x && has v x)
+subset-snoc : (e x : List Lined) (v : Lined) → subset lined (e ++ (v ∷ [])) x ≡ (subset lined e x && has v x)
 subset-snoc [] x v = and-true (has v x)
-subset-snoc (w ∷ e) x v = rw (subset-snoc e x v) (sym (and-assoc (has w x) (subset payload e x) (has v x)))
+subset-snoc (w ∷ e) x v = rw (subset-snoc e x v) (sym (and-assoc (has w x) (subset lined e x) (has v x)))
 
-subset-retain : (x l m : List ℕ) → subset payload x (retain payload l m) ≡ (subset payload x m && subset payload x l)
+subset-retain : (x l m : List Lined) → subset lined x (retain lined l m) ≡ (subset lined x m && subset lined x l)
 subset-retain [] l m = refl
-subset-retain (v ∷ x) l m = rw (contains-retain payload (payload .key v) l m, subset-retain x l m)
-    (swap-mid (has v m) (has v l) (subset payload x m) (subset payload x l))
+subset-retain (v ∷ x) l m = rw (contains-retain lined (lined .key v) l m, subset-retain x l m)
+    (swap-mid (has v m) (has v l) (subset lined x m) (subset lined x l))
 
-subset-insert : (d x : List ℕ) (v : ℕ) → subset payload (insert payload v d) x ≡ (subset payload d x && has v x)
+subset-insert : (d x : List Lined) (v : Lined) → subset lined (insert lined v d) x ≡ (subset lined d x && has v x)
 subset-insert d x v = go (has v d) refl
   where
-    own : has v d ≡ true → (b : Bool) → subset payload d x ≡ b → b ≡ (b && has v x)
-    own h true s = sym (subset-contains payload (payload .key v) d x s h)
+    own : has v d ≡ true → (b : Bool) → subset lined d x ≡ b → b ≡ (b && has v x)
+    own h true s = sym (subset-contains lined (lined .key v) d x s h)
     own h false s = refl
 
-    go : (b : Bool) → has v d ≡ b → subset payload (cond b d (d ++ (v ∷ []))) x ≡ (subset payload d x && has v x)
-    go true h = own h (subset payload d x) refl
+    go : (b : Bool) → has v d ≡ b → subset lined (cond b d (d ++ (v ∷ []))) x ≡ (subset lined d x && has v x)
+    go true h = own h (subset lined d x) refl
     go false h = subset-snoc d x v
 
-subset-extend : (d l x : List ℕ) → subset payload (extend payload d l) x ≡ (subset payload d x && subset payload l x)
-subset-extend d [] x = sym (and-true (subset payload d x))
-subset-extend d (v ∷ l) x = subset-extend (insert payload v d) l x ∙
-    rw (subset-insert d x v) (and-assoc (subset payload d x) (has v x) (subset payload l x))
+subset-extend : (d l x : List Lined) → subset lined (extend lined d l) x ≡ (subset lined d x && subset lined l x)
+subset-extend d [] x = sym (and-true (subset lined d x))
+subset-extend d (v ∷ l) x = subset-extend (insert lined v d) l x ∙
+    rw (subset-insert d x v) (and-assoc (subset lined d x) (has v x) (subset lined l x))
 
-new-excluded : (e x : List ℕ) (v : ℕ) → (not (subset payload e x) || not (has v (extend payload x e))) ≡
-    not (subset payload (e ++ (v ∷ [])) x)
-new-excluded e x v = rw (subset-snoc e x v) (go (subset payload e x) refl)
+new-excluded : (e x : List Lined) (v : Lined) → (not (subset lined e x) || not (has v (extend lined x e))) ≡
+    not (subset lined (e ++ (v ∷ [])) x)
+new-excluded e x v = rw (subset-snoc e x v) (go (subset lined e x) refl)
   where
-    go : (b : Bool) → subset payload e x ≡ b → (not b || not (has v (extend payload x e))) ≡ not (b && has v x)
-    go true s = rw (extend-subset payload x e s)
+    go : (b : Bool) → subset lined e x ≡ b → (not b || not (has v (extend lined x e))) ≡ not (b && has v x)
+    go true s = rw (extend-subset lined x e s)
     go false s = refl
 
-new-disallowed : (d l x : List ℕ) → (not (subset payload d x) || not (subset payload l (extend payload x d))) ≡
-    not (subset payload (extend payload d l) x)
-new-disallowed d l x = rw (subset-extend d l x) (go (subset payload d x) refl)
+new-disallowed : (d l x : List Lined) → (not (subset lined d x) || not (subset lined l (extend lined x d))) ≡
+    not (subset lined (extend lined d l) x)
+new-disallowed d l x = rw (subset-extend d l x) (go (subset lined d x) refl)
   where
-    go : (b : Bool) → subset payload d x ≡ b → (not b || not (subset payload l (extend payload x d))) ≡
-        not (b && subset payload l x)
-    go true s = rw (extend-subset payload x d s)
+    go : (b : Bool) → subset lined d x ≡ b → (not b || not (subset lined l (extend lined x d))) ≡
+        not (b && subset lined l x)
+    go true s = rw (extend-subset lined x d s)
     go false s = refl
 
-abbrev pub newAllowed : Option (List ℕ) → Option (List ℕ) → Bool
+abbrev pub newAllowed : Option (List Lined) → Option (List Lined) → Bool
 newAllowed o none = false
-newAllowed o (some m) = q.allowedChanges payload o m
+newAllowed o (some m) = q.allowedChanges lined o m
 
-new-allowed : (o p : Option (List ℕ)) (l : List ℕ) → (newAllowed o p || q.allowedChanges payload (join o p) l) ≡
-    newAllowed o (some (q.common payload p l))
+new-allowed : (o p : Option (List Lined)) (l : List Lined) → (newAllowed o p || q.allowedChanges lined (join o p) l) ≡
+    newAllowed o (some (q.common lined p l))
 new-allowed none none l = refl
 new-allowed none (some m) l = refl
 new-allowed (some x) none l = refl
-new-allowed (some x) (some m) l = rw (subset-retain x l m) (go (subset payload x m) refl)
+new-allowed (some x) (some m) l = rw (subset-retain x l m) (go (subset lined x m) refl)
   where
-    go : (b : Bool) → subset payload x m ≡ b → (not b || not (subset payload (retain payload m x) l)) ≡
-        not (b && subset payload x l)
-    go true s = rw (retain-subset payload m x s)
+    go : (b : Bool) → subset lined x m ≡ b → (not b || not (subset lined (retain lined m x) l)) ≡
+        not (b && subset lined x l)
+    go true s = rw (retain-subset lined m x s)
     go false s = refl
 
 -- ---- a column that is not impossible, after some numbers
-abbrev pub taken : Merging → List ℕ → Option (List ℕ) → List ℕ → Merging
+abbrev pub taken : Merging → List Lined → Option (List Lined) → List Lined → Merging
 taken m e o d =
     record {
       column = joined (m .column) e o d;
-      emitted = m .emitted || not (subset payload e (m .column .excluded));
-      any = m .any || (newAllowed (m .column .allowed) o || not (subset payload d (m .column .disallowed)));
+      emitted = m .emitted || not (subset lined e (m .column .excluded));
+      any = m .any || (newAllowed (m .column .allowed) o || not (subset lined d (m .column .disallowed)));
     }
 
-abbrev atMark : Conjuncts → List ℕ → Option (List ℕ) → List ℕ → ℕ → Merging → Merging
+abbrev atMark : Conjuncts → List Lined → Option (List Lined) → List Lined → ℕ → Merging → Merging
 atMark t e o d j m =
-    taken m (cond (ofKind (t .kinds) 0 j) (e ++ (getD (t .values) j 0 ∷ [])) e)
-    (cond (ofKind (t .kinds) 1 j) (some (q.common payload o (listOf (t .starts) (t .counts) (t .pool) j))) o)
-    (cond (ofKind (t .kinds) 2 j) (extend payload d (listOf (t .starts) (t .counts) (t .pool) j)) d)
+    taken m (cond (ofKind (t .kinds) 0 j) (e ++ (literalAt (t .values) j ∷ [])) e)
+    (cond (ofKind (t .kinds) 1 j) (some (q.common lined o (valuesOf (t .starts) (t .counts) (t .pool) j))) o)
+    (cond (ofKind (t .kinds) 2 j) (extend lined d (valuesOf (t .starts) (t .counts) (t .pool) j)) d)
 
 shuffle-1 : (n a d x : Bool) → ((n || (a || d)) || x) ≡ (n || ((a || x) || d))
 shuffle-1 true a d x = refl
@@ -168,58 +169,58 @@ shuffle-2 true a d x = refl
 shuffle-2 false true d x = refl
 shuffle-2 false false d x = refl
 
-take-exclude : (m : Merging) (e : List ℕ) (o : Option (List ℕ)) (d : List ℕ) (v : ℕ) → m .column .unsat ≡ false →
+take-exclude : (m : Merging) (e : List Lined) (o : Option (List Lined)) (d : List Lined) (v : Lined) → m .column .unsat ≡ false →
     emitting (q.Exclude v) (taken m e o d) ≡ taken m (e ++ (v ∷ [])) o d
 take-exclude m e o d v u = rw (
   u,
   union-snoc (m .column .excluded) e v,
   or-assoc (m .emitted)
-      (not (subset payload e (m .column .excluded))) (not (has v (extend payload (m .column .excluded) e))),
+      (not (subset lined e (m .column .excluded))) (not (has v (extend lined (m .column .excluded) e))),
   new-excluded e (m .column .excluded) v,
 )
 
-take-allow : (m : Merging) (e : List ℕ) (o : Option (List ℕ)) (d l : List ℕ) → m .column .unsat ≡ false →
-    recording (q.Allow l) (taken m e o d) ≡ taken m e (some (q.common payload o l)) d
+take-allow : (m : Merging) (e : List Lined) (o : Option (List Lined)) (d l : List Lined) → m .column .unsat ≡ false →
+    recording (q.Allow l) (taken m e o d) ≡ taken m e (some (q.common lined o l)) d
 take-allow m e o d l u = rw (
   u,
   join-more (m .column .allowed) o l,
   shuffle-1 (m .any)
-      (newAllowed (m .column .allowed) o) (not (subset payload d (m .column .disallowed)))
-      (q.allowedChanges payload (join (m .column .allowed) o) l),
+      (newAllowed (m .column .allowed) o) (not (subset lined d (m .column .disallowed)))
+      (q.allowedChanges lined (join (m .column .allowed) o) l),
   new-allowed (m .column .allowed) o l,
 )
 
-take-disallow : (m : Merging) (e : List ℕ) (o : Option (List ℕ)) (d l : List ℕ) → m .column .unsat ≡ false →
-    recording (q.Disallow false l) (taken m e o d) ≡ taken m e o (extend payload d l)
+take-disallow : (m : Merging) (e : List Lined) (o : Option (List Lined)) (d l : List Lined) → m .column .unsat ≡ false →
+    recording (q.Disallow false l) (taken m e o d) ≡ taken m e o (extend lined d l)
 take-disallow m e o d l u = rw (
   u,
   union-union (m .column .disallowed) d l,
   or-false (m .column .strict),
-  shuffle-2 (m .any) (newAllowed (m .column .allowed) o) (not (subset payload d (m .column .disallowed)))
-      (not (subset payload l (extend payload (m .column .disallowed) d))),
+  shuffle-2 (m .any) (newAllowed (m .column .allowed) o) (not (subset lined d (m .column .disallowed)))
+      (not (subset lined l (extend lined (m .column .disallowed) d))),
   new-disallowed d l (m .column .disallowed),
 )
 
-mark-taken : (t : Conjuncts) (j : ℕ) (m : Merging) (e : List ℕ) (o : Option (List ℕ)) (d : List ℕ) →
+mark-taken : (t : Conjuncts) (j : ℕ) (m : Merging) (e : List Lined) (o : Option (List Lined)) (d : List Lined) →
     m .column .unsat ≡ false → takeMark t j (taken m e o d) ≡ atMark t e o d j m
 unfolding takeMark
 mark-taken t j m e o d u = go (eq-view (getD (t .kinds) j 0) 0) (eq-view (getD (t .kinds) j 0) 1)
     (eq-view (getD (t .kinds) j 0) 2)
   where
     go : {x y z : Bool} → Eq (getD (t .kinds) j 0) 0 x → Eq (getD (t .kinds) j 0) 1 y → Eq (getD (t .kinds) j 0) 2 z →
-        cond x (emitting (q.Exclude (getD (t .values) j 0)) (taken m e o d))
-        (cond y (recording (q.Allow (listOf (t .starts) (t .counts) (t .pool) j)) (taken m e o d))
-        (cond z (recording (q.Disallow false (listOf (t .starts) (t .counts) (t .pool) j)) (taken m e o d))
+        cond x (emitting (q.Exclude (literalAt (t .values) j)) (taken m e o d))
+        (cond y (recording (q.Allow (valuesOf (t .starts) (t .counts) (t .pool) j)) (taken m e o d))
+        (cond z (recording (q.Disallow false (valuesOf (t .starts) (t .counts) (t .pool) j)) (taken m e o d))
         (taken m e o d))) ≡
-        taken m (cond x (e ++ (getD (t .values) j 0 ∷ [])) e)
-        (cond y (some (q.common payload o (listOf (t .starts) (t .counts) (t .pool) j))) o)
-        (cond z (extend payload d (listOf (t .starts) (t .counts) (t .pool) j)) d)
+        taken m (cond x (e ++ (literalAt (t .values) j ∷ [])) e)
+        (cond y (some (q.common lined o (valuesOf (t .starts) (t .counts) (t .pool) j))) o)
+        (cond z (extend lined d (valuesOf (t .starts) (t .counts) (t .pool) j)) d)
     go (yes p) (yes r) s = absurd (omega (arith, p, r))
     go (yes p) (no r) (yes s) = absurd (omega (arith, p, s))
-    go (yes p) (no r) (no s) = take-exclude m e o d (getD (t .values) j 0) u
+    go (yes p) (no r) (no s) = take-exclude m e o d (literalAt (t .values) j) u
     go (no p) (yes r) (yes s) = absurd (omega (arith, r, s))
-    go (no p) (yes r) (no s) = take-allow m e o d (listOf (t .starts) (t .counts) (t .pool) j) u
-    go (no p) (no r) (yes s) = take-disallow m e o d (listOf (t .starts) (t .counts) (t .pool) j) u
+    go (no p) (yes r) (no s) = take-allow m e o d (valuesOf (t .starts) (t .counts) (t .pool) j) u
+    go (no p) (no r) (yes s) = take-disallow m e o d (valuesOf (t .starts) (t .counts) (t .pool) j) u
     go (no p) (no r) (no s) = refl
 
 start-taken : (m : Merging) → taken m [] none [] ≡ m
@@ -237,45 +238,45 @@ marks-taken t a (suc n) m u = ap (λ y. takeMark t (getD a n 0) y) (marks-taken 
     (disallowedBy (t .kinds) (t .starts) (t .counts) (t .pool) a n) u
 
 -- ---- an impossible column takes nothing
-dead : (x : q.Constraint ℕ) (c : q.ColumnConstraints ℕ) → c .unsat ≡ true → q.add payload x c ≡ c
-dead x c u = ap (λ b. cond b c (q.put payload x c)) u
+dead : (x : q.Constraint Lined) (c : q.ColumnConstraints Lined) → c .unsat ≡ true → q.add lined x c ≡ c
+dead x c u = ap (λ b. cond b c (q.put lined x c)) u
 
-dead-all : (l : List (q.Constraint ℕ)) (c : q.ColumnConstraints ℕ) → c .unsat ≡ true → q.addAll payload l c ≡ c
+dead-all : (l : List (q.Constraint Lined)) (c : q.ColumnConstraints Lined) → c .unsat ≡ true → q.addAll lined l c ≡ c
 dead-all [] c u = refl
-dead-all (x ∷ l) c u = ap (λ y. q.addAll payload l y) (dead x c u) ∙ dead-all l c u
+dead-all (x ∷ l) c u = ap (λ y. q.addAll lined l y) (dead x c u) ∙ dead-all l c u
 
-dead-still : (l : List (q.Constraint ℕ)) (c : q.ColumnConstraints ℕ) → c .unsat ≡ true → q.changesAll payload l c ≡
+dead-still : (l : List (q.Constraint Lined)) (c : q.ColumnConstraints Lined) → c .unsat ≡ true → q.changesAll lined l c ≡
     false
 dead-still [] c u = refl
-dead-still (x ∷ l) c u = ap (λ b. (not b && q.changes payload x c) || q.changesAll payload l (q.add payload x c)) u ∙
-    ap (λ y. q.changesAll payload l y) (dead x c u) ∙ dead-still l c u
+dead-still (x ∷ l) c u = ap (λ b. (not b && q.changes lined x c) || q.changesAll lined l (q.add lined x c)) u ∙
+    ap (λ y. q.changesAll lined l y) (dead x c u) ∙ dead-still l c u
 
-dead-emitting : (x : q.Constraint ℕ) (m : Merging) → m .column .unsat ≡ true → emitting x m ≡ m
+dead-emitting : (x : q.Constraint Lined) (m : Merging) → m .column .unsat ≡ true → emitting x m ≡ m
 dead-emitting x m u = ap (λ b. record {
-  column = cond b (m .column) (q.put payload x (m .column));
+  column = cond b (m .column) (q.put lined x (m .column));
   emitted =
-      m .emitted || (not b && q.changes payload x (m .column));
+      m .emitted || (not b && q.changes lined x (m .column));
   any = m .any;
 }) u ∙ rw (or-false (m .emitted))
 
-dead-recording : (x : q.Constraint ℕ) (m : Merging) → m .column .unsat ≡ true → recording x m ≡ m
+dead-recording : (x : q.Constraint Lined) (m : Merging) → m .column .unsat ≡ true → recording x m ≡ m
 dead-recording x m u = ap (λ b. record {
-  column = cond b (m .column) (q.put payload x (m .column));
+  column = cond b (m .column) (q.put lined x (m .column));
   emitted = m .emitted;
   any =
-      m .any || (not b && q.changes payload x (m .column));
+      m .any || (not b && q.changes lined x (m .column));
 }) u ∙ rw (or-false (m .any))
 
 pub dead-mark : (t : Conjuncts) (j : ℕ) (m : Merging) → m .column .unsat ≡ true → takeMark t j m ≡ m
 unfolding takeMark
 dead-mark t j m u = go (ofKind (t .kinds) 0 j) (ofKind (t .kinds) 1 j) (ofKind (t .kinds) 2 j)
   where
-    go : (x y z : Bool) → cond x (emitting (q.Exclude (getD (t .values) j 0)) m)
-        (cond y (recording (q.Allow (listOf (t .starts) (t .counts) (t .pool) j)) m)
-        (cond z (recording (q.Disallow false (listOf (t .starts) (t .counts) (t .pool) j)) m) m)) ≡ m
-    go true y z = dead-emitting (q.Exclude (getD (t .values) j 0)) m u
-    go false true z = dead-recording (q.Allow (listOf (t .starts) (t .counts) (t .pool) j)) m u
-    go false false true = dead-recording (q.Disallow false (listOf (t .starts) (t .counts) (t .pool) j)) m u
+    go : (x y z : Bool) → cond x (emitting (q.Exclude (literalAt (t .values) j)) m)
+        (cond y (recording (q.Allow (valuesOf (t .starts) (t .counts) (t .pool) j)) m)
+        (cond z (recording (q.Disallow false (valuesOf (t .starts) (t .counts) (t .pool) j)) m) m)) ≡ m
+    go true y z = dead-emitting (q.Exclude (literalAt (t .values) j)) m u
+    go false true z = dead-recording (q.Allow (valuesOf (t .starts) (t .counts) (t .pool) j)) m u
+    go false false true = dead-recording (q.Disallow false (valuesOf (t .starts) (t .counts) (t .pool) j)) m u
     go false false false = refl
 
 pub dead-marks : (t : Conjuncts) (a : List ℕ) (n : ℕ) (m : Merging) → m .column .unsat ≡ true → takeMarks t a n m ≡ m
@@ -284,110 +285,110 @@ dead-marks t a zero m u = refl
 dead-marks t a (suc n) m u = ap (λ y. takeMark t (getD a n 0) y) (dead-marks t a n m u) ∙ dead-mark t (getD a n 0) m u
 
 -- ---- the definition's way: all excluded values, then the allowed list, then the disallowed values
-excluded-joined : (l : List ℕ) (c : q.ColumnConstraints ℕ) → c .unsat ≡ false → q.addAll payload (map q.Exclude l) c ≡
+excluded-joined : (l : List Lined) (c : q.ColumnConstraints Lined) → c .unsat ≡ false → q.addAll lined (map q.Exclude l) c ≡
     joined c l none []
 excluded-joined [] c u = refl
-excluded-joined (v ∷ l) c u = ap (λ b. q.addAll payload (map q.Exclude l) (cond b c (q.put payload (q.Exclude v) c)))
+excluded-joined (v ∷ l) c u = ap (λ b. q.addAll lined (map q.Exclude l) (cond b c (q.put lined (q.Exclude v) c)))
     u ∙
-    excluded-joined l (q.put payload (q.Exclude v) c) u
+    excluded-joined l (q.put lined (q.Exclude v) c) u
 
-recorded-joined : (o : Option (List ℕ)) (d l : List ℕ) (c : q.ColumnConstraints ℕ) → c .unsat ≡ false →
-    q.addAll payload (q.allowedOf o ++ (q.Disallow false d ∷ [])) (joined c l none []) ≡ joined c l o d
+recorded-joined : (o : Option (List Lined)) (d l : List Lined) (c : q.ColumnConstraints Lined) → c .unsat ≡ false →
+    q.addAll lined (q.allowedOf o ++ (q.Disallow false d ∷ [])) (joined c l none []) ≡ joined c l o d
 recorded-joined none d l c u = rw (u, or-false (c .strict))
 recorded-joined (some m) d l c u = rw (u, or-false (c .strict))
 
-excluded-new : (l : List ℕ) (c : q.ColumnConstraints ℕ) → c .unsat ≡ false → q.changesAll payload (map q.Exclude l) c ≡
-    not (subset payload l (c .excluded))
+excluded-new : (l : List Lined) (c : q.ColumnConstraints Lined) → c .unsat ≡ false → q.changesAll lined (map q.Exclude l) c ≡
+    not (subset lined l (c .excluded))
 excluded-new [] c u = refl
-excluded-new (v ∷ l) c u = ap (λ b. (not b && q.changes payload (q.Exclude v) c) ||
-    q.changesAll payload (map q.Exclude l)
-    (cond b c (q.put payload (q.Exclude v) c))) u
-    ∙ ap (λ b. not (has v (c .excluded)) || b) (excluded-new l (q.put payload (q.Exclude v) c) u) ∙
+excluded-new (v ∷ l) c u = ap (λ b. (not b && q.changes lined (q.Exclude v) c) ||
+    q.changesAll lined (map q.Exclude l)
+    (cond b c (q.put lined (q.Exclude v) c))) u
+    ∙ ap (λ b. not (has v (c .excluded)) || b) (excluded-new l (q.put lined (q.Exclude v) c) u) ∙
     go (has v (c .excluded)) refl
   where
     go : (b : Bool) → has v (c .excluded) ≡ b → (not b || not
-        (subset payload l (cond b (c .excluded) ((c .excluded) ++ (v ∷ []))))) ≡
-        not (b && subset payload l (c .excluded))
+        (subset lined l (cond b (c .excluded) ((c .excluded) ++ (v ∷ []))))) ≡
+        not (b && subset lined l (c .excluded))
     go true h = refl
     go false h = refl
 
-recorded-new : (o : Option (List ℕ)) (d l : List ℕ) (c : q.ColumnConstraints ℕ) → c .unsat ≡ false →
-    q.changesAll payload (q.allowedOf o ++ (q.Disallow false d ∷ [])) (joined c l none []) ≡
-    (newAllowed (c .allowed) o || not (subset payload d (c .disallowed)))
-recorded-new none d l c u = rw (u, or-false (not (subset payload d (c .disallowed))))
-recorded-new (some m) d l c u = rw (u, or-false (not (subset payload d (c .disallowed))))
+recorded-new : (o : Option (List Lined)) (d l : List Lined) (c : q.ColumnConstraints Lined) → c .unsat ≡ false →
+    q.changesAll lined (q.allowedOf o ++ (q.Disallow false d ∷ [])) (joined c l none []) ≡
+    (newAllowed (c .allowed) o || not (subset lined d (c .disallowed)))
+recorded-new none d l c u = rw (u, or-false (not (subset lined d (c .disallowed))))
+recorded-new (some m) d l c u = rw (u, or-false (not (subset lined d (c .disallowed))))
 
-all-append : (l m : List (q.Constraint ℕ)) (c : q.ColumnConstraints ℕ) → q.addAll payload (l ++ m) c ≡
-    q.addAll payload m (q.addAll payload l c)
+all-append : (l m : List (q.Constraint Lined)) (c : q.ColumnConstraints Lined) → q.addAll lined (l ++ m) c ≡
+    q.addAll lined m (q.addAll lined l c)
 all-append [] m c = refl
-all-append (x ∷ l) m c = all-append l m (q.add payload x c)
+all-append (x ∷ l) m c = all-append l m (q.add lined x c)
 
-changes-append : (l m : List (q.Constraint ℕ)) (c : q.ColumnConstraints ℕ) → q.changesAll payload (l ++ m) c ≡
-    (q.changesAll payload l c || q.changesAll payload m (q.addAll payload l c))
+changes-append : (l m : List (q.Constraint Lined)) (c : q.ColumnConstraints Lined) → q.changesAll lined (l ++ m) c ≡
+    (q.changesAll lined l c || q.changesAll lined m (q.addAll lined l c))
 changes-append [] m c = refl
-changes-append (x ∷ l) m c = rw (changes-append l m (q.add payload x c))
-    (sym (or-assoc (not (c .unsat) && q.changes payload x c) (q.changesAll payload l (q.add payload x c))
-    (q.changesAll payload m (q.addAll payload l (q.add payload x c)))))
+changes-append (x ∷ l) m c = rw (changes-append l m (q.add lined x c))
+    (sym (or-assoc (not (c .unsat) && q.changes lined x c) (q.changesAll lined l (q.add lined x c))
+    (q.changesAll lined m (q.addAll lined l (q.add lined x c)))))
 
 -- what the definition makes of the values e, o, d, after the bounds
-abbrev told : Merging → List ℕ → Option (List ℕ) → List ℕ → Merging
+abbrev told : Merging → List Lined → Option (List Lined) → List Lined → Merging
 told m e o d =
     record {
-      column = q.addAll payload (q.allowedOf o ++ (q.Disallow false d ∷ []))
-          (q.addAll payload (map q.Exclude e) (m .column));
-      emitted = m .emitted || q.changesAll payload (map q.Exclude e) (m .column);
-      any = m .any || q.changesAll payload (q.allowedOf o ++ (q.Disallow false d ∷ []))
-          (q.addAll payload (map q.Exclude e) (m .column));
+      column = q.addAll lined (q.allowedOf o ++ (q.Disallow false d ∷ []))
+          (q.addAll lined (map q.Exclude e) (m .column));
+      emitted = m .emitted || q.changesAll lined (map q.Exclude e) (m .column);
+      any = m .any || q.changesAll lined (q.allowedOf o ++ (q.Disallow false d ∷ []))
+          (q.addAll lined (map q.Exclude e) (m .column));
     }
 
-live-told : (m : Merging) (e : List ℕ) (o : Option (List ℕ)) (d : List ℕ) → m .column .unsat ≡ false → told m e o d ≡
+live-told : (m : Merging) (e : List Lined) (o : Option (List Lined)) (d : List Lined) → m .column .unsat ≡ false → told m e o d ≡
     taken m e o d
 live-told m e o d u =
     ap (λ y. record {
-      column = q.addAll payload (q.allowedOf o ++ (q.Disallow false d ∷ [])) y;
+      column = q.addAll lined (q.allowedOf o ++ (q.Disallow false d ∷ [])) y;
       emitted =
-          m .emitted || q.changesAll payload (map q.Exclude e) (m .column);
+          m .emitted || q.changesAll lined (map q.Exclude e) (m .column);
       any =
-          m .any || q.changesAll payload (q.allowedOf o ++ (q.Disallow false d ∷ [])) y;
+          m .any || q.changesAll lined (q.allowedOf o ++ (q.Disallow false d ∷ [])) y;
     })
     (excluded-joined e (m .column) u)
     ∙ ap (λ y. record {
       column = y;
-      emitted = m .emitted || q.changesAll payload (map q.Exclude e) (m .column);
+      emitted = m .emitted || q.changesAll lined (map q.Exclude e) (m .column);
       any =
-          m .any || q.changesAll payload (q.allowedOf o ++ (q.Disallow false d ∷ [])) (joined (m .column) e none []);
+          m .any || q.changesAll lined (q.allowedOf o ++ (q.Disallow false d ∷ [])) (joined (m .column) e none []);
     })
     (recorded-joined o d e (m .column) u)
     ∙ ap (λ y. record {
       column = joined (m .column) e o d;
       emitted = m .emitted || y;
       any =
-          m .any || q.changesAll payload (q.allowedOf o ++ (q.Disallow false d ∷ [])) (joined (m .column) e none []);
+          m .any || q.changesAll lined (q.allowedOf o ++ (q.Disallow false d ∷ [])) (joined (m .column) e none []);
     })
     (excluded-new e (m .column) u)
     ∙ ap (λ y. record {
       column = joined (m .column) e o d;
       emitted =
-          m .emitted || not (subset payload e (m .column .excluded));
+          m .emitted || not (subset lined e (m .column .excluded));
       any = m .any || y;
     })
     (recorded-new o d e (m .column) u)
 
-dead-told : (m : Merging) (e : List ℕ) (o : Option (List ℕ)) (d : List ℕ) → m .column .unsat ≡ true → told m e o d ≡ m
+dead-told : (m : Merging) (e : List Lined) (o : Option (List Lined)) (d : List Lined) → m .column .unsat ≡ true → told m e o d ≡ m
 dead-told m e o d u =
     ap (λ y. record {
-      column = q.addAll payload (q.allowedOf o ++ (q.Disallow false d ∷ [])) y;
+      column = q.addAll lined (q.allowedOf o ++ (q.Disallow false d ∷ [])) y;
       emitted =
-          m .emitted || q.changesAll payload (map q.Exclude e) (m .column);
+          m .emitted || q.changesAll lined (map q.Exclude e) (m .column);
       any =
-          m .any || q.changesAll payload (q.allowedOf o ++ (q.Disallow false d ∷ [])) y;
+          m .any || q.changesAll lined (q.allowedOf o ++ (q.Disallow false d ∷ [])) y;
     })
     (dead-all (map q.Exclude e) (m .column) u)
     ∙ ap (λ y. record {
       column = y;
-      emitted = m .emitted || q.changesAll payload (map q.Exclude e) (m .column);
+      emitted = m .emitted || q.changesAll lined (map q.Exclude e) (m .column);
       any =
-          m .any || q.changesAll payload (q.allowedOf o ++ (q.Disallow false d ∷ [])) (m .column);
+          m .any || q.changesAll lined (q.allowedOf o ++ (q.Disallow false d ∷ [])) (m .column);
     })
     (dead-all (q.allowedOf o ++ (q.Disallow false d ∷ [])) (m .column) u)
     ∙ rw (
@@ -410,77 +411,77 @@ marks-told t d m = go (m .column .unsat) refl
         sym (live-told m (columnOf t d .excluded) (columnOf t d .allowed) (columnOf t d .disallowed) u)
 
 -- ---- the bounds
-abbrev atLower : b.Bound ℕ → Merging → Merging
+abbrev atLower : b.Bound Lined → Merging → Merging
 atLower l m = record {
-  column = q.addAll payload (ofBound q.Lower l) (m .column);
+  column = q.addAll lined (ofBound q.Lower l) (m .column);
   emitted =
-      m .emitted || q.changesAll payload (ofBound q.Lower l) (m .column);
+      m .emitted || q.changesAll lined (ofBound q.Lower l) (m .column);
   any = m .any;
 }
 
-lower-told : (l : b.Bound ℕ) (m : Merging) → takeLower l m ≡ atLower l m
+lower-told : (l : b.Bound Lined) (m : Merging) → takeLower l m ≡ atLower l m
 lower-told b.absent m = rw (or-false (m .emitted))
-lower-told (b.at i v) m = rw (or-false (not (m .column .unsat) && q.changes payload (q.Lower i v) (m .column)))
+lower-told (b.at i v) m = rw (or-false (not (m .column .unsat) && q.changes lined (q.Lower i v) (m .column)))
 
-abbrev atUpper : b.Bound ℕ → Merging → Merging
+abbrev atUpper : b.Bound Lined → Merging → Merging
 atUpper u m = record {
-  column = q.addAll payload (ofBound q.Upper u) (m .column);
+  column = q.addAll lined (ofBound q.Upper u) (m .column);
   emitted =
-      m .emitted || q.changesAll payload (ofBound q.Upper u) (m .column);
+      m .emitted || q.changesAll lined (ofBound q.Upper u) (m .column);
   any = m .any;
 }
 
-upper-told : (u : b.Bound ℕ) (m : Merging) → takeUpper u m ≡ atUpper u m
+upper-told : (u : b.Bound Lined) (m : Merging) → takeUpper u m ≡ atUpper u m
 upper-told b.absent m = rw (or-false (m .emitted))
-upper-told (b.at i v) m = rw (or-false (not (m .column .unsat) && q.changes payload (q.Upper i v) (m .column)))
+upper-told (b.at i v) m = rw (or-false (not (m .column .unsat) && q.changes lined (q.Upper i v) (m .column)))
 
 -- the two bounds first, then the numbers: that is merging
-abbrev mergeStart : q.ColumnConstraints ℕ → Merging
+abbrev mergeStart : q.ColumnConstraints Lined → Merging
 mergeStart c = record { column = c; emitted = false; any = false }
 
-abbrev wholly : q.ColumnConstraints ℕ → q.ColumnConstraints ℕ → Merging
+abbrev wholly : q.ColumnConstraints Lined → q.ColumnConstraints Lined → Merging
 wholly c d = record {
-  column = q.mergeFrom payload c d;
-  emitted = q.mergeEmitted payload c d;
+  column = q.mergeFrom lined c d;
+  emitted = q.mergeEmitted lined c d;
   any =
-      q.changesAll payload (q.recorded d) (q.addAll payload (q.emitted d) c);
+      q.changesAll lined (q.recorded d) (q.addAll lined (q.emitted d) c);
 }
 
-append-3 : (l u e : List (q.Constraint ℕ)) (c : q.ColumnConstraints ℕ) → q.addAll payload (l ++ (u ++ e)) c ≡
-    q.addAll payload e (q.addAll payload u (q.addAll payload l c))
-append-3 l u e c = all-append l (u ++ e) c ∙ all-append u e (q.addAll payload l c)
+append-3 : (l u e : List (q.Constraint Lined)) (c : q.ColumnConstraints Lined) → q.addAll lined (l ++ (u ++ e)) c ≡
+    q.addAll lined e (q.addAll lined u (q.addAll lined l c))
+append-3 l u e c = all-append l (u ++ e) c ∙ all-append u e (q.addAll lined l c)
 
-changes-3 : (l u e : List (q.Constraint ℕ)) (c : q.ColumnConstraints ℕ) → q.changesAll payload (l ++ (u ++ e)) c ≡
-    ((q.changesAll payload l c || q.changesAll payload u (q.addAll payload l c)) || q.changesAll payload e
-    (q.addAll payload u (q.addAll payload l c)))
-changes-3 l u e c = changes-append l (u ++ e) c ∙ ap (λ b. q.changesAll payload l c || b)
-    (changes-append u e (q.addAll payload l c)) ∙
-    sym (or-assoc (q.changesAll payload l c) (q.changesAll payload u (q.addAll payload l c))
-    (q.changesAll payload e (q.addAll payload u (q.addAll payload l c))))
+changes-3 : (l u e : List (q.Constraint Lined)) (c : q.ColumnConstraints Lined) → q.changesAll lined (l ++ (u ++ e)) c ≡
+    ((q.changesAll lined l c || q.changesAll lined u (q.addAll lined l c)) || q.changesAll lined e
+    (q.addAll lined u (q.addAll lined l c)))
+changes-3 l u e c = changes-append l (u ++ e) c ∙ ap (λ b. q.changesAll lined l c || b)
+    (changes-append u e (q.addAll lined l c)) ∙
+    sym (or-assoc (q.changesAll lined l c) (q.changesAll lined u (q.addAll lined l c))
+    (q.changesAll lined e (q.addAll lined u (q.addAll lined l c))))
 
-told-whole : (c d : q.ColumnConstraints ℕ) → told (atUpper (d .upper) (atLower (d .lower) (mergeStart c)))
+told-whole : (c d : q.ColumnConstraints Lined) → told (atUpper (d .upper) (atLower (d .lower) (mergeStart c)))
     (d .excluded) (d .allowed) (d .disallowed) ≡ wholly c d
 told-whole c d = sym (
     ap (λ y. record {
-      column = q.addAll payload (q.recorded d) y;
-      emitted = q.mergeEmitted payload c d;
+      column = q.addAll lined (q.recorded d) y;
+      emitted = q.mergeEmitted lined c d;
       any =
-          q.changesAll payload (q.recorded d) y;
+          q.changesAll lined (q.recorded d) y;
     })
     (append-3 (ofBound q.Lower (d .lower)) (ofBound q.Upper (d .upper)) (map q.Exclude (d .excluded)) c)
     ∙ ap (λ y. record {
-      column = q.addAll payload (q.recorded d)
-          (q.addAll payload (map q.Exclude (d .excluded))
-          (q.addAll payload (ofBound q.Upper (d .upper)) (q.addAll payload (ofBound q.Lower (d .lower)) c)));
+      column = q.addAll lined (q.recorded d)
+          (q.addAll lined (map q.Exclude (d .excluded))
+          (q.addAll lined (ofBound q.Upper (d .upper)) (q.addAll lined (ofBound q.Lower (d .lower)) c)));
       emitted = y;
       any =
-          q.changesAll payload (q.recorded d)
-          (q.addAll payload (map q.Exclude (d .excluded))
-          (q.addAll payload (ofBound q.Upper (d .upper)) (q.addAll payload (ofBound q.Lower (d .lower)) c)));
+          q.changesAll lined (q.recorded d)
+          (q.addAll lined (map q.Exclude (d .excluded))
+          (q.addAll lined (ofBound q.Upper (d .upper)) (q.addAll lined (ofBound q.Lower (d .lower)) c)));
     })
     (changes-3 (ofBound q.Lower (d .lower)) (ofBound q.Upper (d .upper)) (map q.Exclude (d .excluded)) c))
 
-pub merge-law : (t : Conjuncts) (c : q.ColumnConstraints ℕ) (d : Numbered) →
+pub merge-law : (t : Conjuncts) (c : q.ColumnConstraints Lined) (d : Numbered) →
     takeMarks t (d .marks) (d .len) (takeUpper (boundOf (d .upper)) (takeLower (boundOf (d .lower)) (mergeStart c))) ≡
     wholly c (columnOf t d)
 merge-law t c d = marks-told t d (takeUpper (boundOf (d .upper)) (takeLower (boundOf (d .lower)) (mergeStart c)))
@@ -500,17 +501,17 @@ unfolding takeMarks
 marks-more t a i m = rw add-one
 
 pub mark-0 : (t : Conjuncts) (j : ℕ) (m : Merging) → getD (t .kinds) j 0 ≡ 0 →
-    emitting (q.Exclude (getD (t .values) j 0)) m ≡ takeMark t j m
+    emitting (q.Exclude (literalAt (t .values) j)) m ≡ takeMark t j m
 unfolding takeMark
 mark-0 t j m k = rw k
 
 pub mark-1 : (t : Conjuncts) (j : ℕ) (m : Merging) → getD (t .kinds) j 0 ≡ 1 →
-    recording (q.Allow (listOf (t .starts) (t .counts) (t .pool) j)) m ≡ takeMark t j m
+    recording (q.Allow (valuesOf (t .starts) (t .counts) (t .pool) j)) m ≡ takeMark t j m
 unfolding takeMark
 mark-1 t j m k = rw k
 
 pub mark-2 : (t : Conjuncts) (j : ℕ) (m : Merging) → getD (t .kinds) j 0 ≡ 2 →
-    recording (q.Disallow false (listOf (t .starts) (t .counts) (t .pool) j)) m ≡ takeMark t j m
+    recording (q.Disallow false (valuesOf (t .starts) (t .counts) (t .pool) j)) m ≡ takeMark t j m
 unfolding takeMark
 mark-2 t j m k = rw k
 
@@ -520,20 +521,20 @@ unfolding takeMark
 mark-else t j m k e x y z = rw (e, ne-eqb k 0 x, ne-eqb k 1 y, ne-eqb k 2 z)
 
 -- What became of a bound, and whether the column changed.
-pub lower-moved : (v : ℕ) (i : Bool) (cc : q.ColumnConstraints ℕ) →
-    b.isChange (q.lowerChange payload v i cc) ≡ changesIn (q.Lower i v) cc
+pub lower-moved : (v : Lined) (i : Bool) (cc : q.ColumnConstraints Lined) →
+    b.isChange (q.lowerChange lined v i cc) ≡ changesIn (q.Lower i v) cc
 lower-moved v i cc = go (cc .unsat)
   where
-    go : (x : Bool) → b.isChange (cond x NoChange (b.tighten payload (cc .lower) i v .change)) ≡
-        (not x && b.isChange (b.tighten payload (cc .lower) i v .change))
+    go : (x : Bool) → b.isChange (cond x NoChange (b.tighten lined (cc .lower) i v .change)) ≡
+        (not x && b.isChange (b.tighten lined (cc .lower) i v .change))
     go true = refl
     go false = refl
 
-pub upper-moved : (v : ℕ) (i : Bool) (cc : q.ColumnConstraints ℕ) →
-    b.isChange (q.upperChange payload v i cc) ≡ changesIn (q.Upper i v) cc
+pub upper-moved : (v : Lined) (i : Bool) (cc : q.ColumnConstraints Lined) →
+    b.isChange (q.upperChange lined v i cc) ≡ changesIn (q.Upper i v) cc
 upper-moved v i cc = go (cc .unsat)
   where
-    go : (x : Bool) → b.isChange (cond x NoChange (b.tighten (opposite payload) (cc .upper) i v .change)) ≡
-        (not x && b.isChange (b.tighten (opposite payload) (cc .upper) i v .change))
+    go : (x : Bool) → b.isChange (cond x NoChange (b.tighten (opposite lined) (cc .upper) i v .change)) ≡
+        (not x && b.isChange (b.tighten (opposite lined) (cc .upper) i v .change))
     go true = refl
     go false = refl

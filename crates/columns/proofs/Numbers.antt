@@ -15,12 +15,13 @@ use Rattle.constraints.specs.Scalars.{scalarCmp}
 use Rattle.constraints.specs.Values.{contains}
 use Rattle.constraints.specs.Column as q
 use Rattle.constraints.specs.Payload.{payload}
-use Rattle.columns.specs.Abstraction.{gather, ofKind, excludedBy, marked, Fine}
+use Rattle.constraints.specs.Lined.{Lined, lined}
+use Rattle.columns.specs.Abstraction.{gather, ofKind, literalAt, excludedBy, marked, Fine}
 use Rattle.constraints.proofs.Sets.{contains-append}
 use Rattle.columns.proofs.Pigeon.{Eq, yes, no, eq-view}
 
-abbrev has : ℕ → List ℕ → Bool
-has v l = contains payload (payload .key v) l
+abbrev has : ℕ → List Lined → Bool
+has v l = contains lined (payload .key v) l
 
 -- ---- a walk: w n says whether p holds somewhere below n
 pub more : (w p : ℕ → Bool) → ((n : ℕ) → w (suc n) ≡ (w n || p n)) → (i : ℕ) → w i ≡ false → p i ≡ false → w (i + 1) ≡
@@ -50,12 +51,12 @@ marked-none a j = refl
 pub excl-step : (ks vs a : List ℕ) (v n : ℕ) → has v (excludedBy ks vs a (suc n)) ≡
     (has v (excludedBy ks vs a n) ||
     (ofKind ks 0 (getD a n 0) && isEqual (scalarCmp payload v (getD vs (getD a n 0) 0))))
-unfolding excludedBy gather
+unfolding excludedBy gather lined payload
 excl-step ks vs a v n = go (ofKind ks 0 (getD a n 0))
   where
-    go : (x : Bool) → has v (cond x (excludedBy ks vs a n ++ (getD vs (getD a n 0) 0 ∷ [])) (excludedBy ks vs a n)) ≡
+    go : (x : Bool) → has v (cond x (excludedBy ks vs a n ++ (literalAt vs (getD a n 0) ∷ [])) (excludedBy ks vs a n)) ≡
         (has v (excludedBy ks vs a n) || (x && isEqual (scalarCmp payload v (getD vs (getD a n 0) 0))))
-    go true = contains-append payload (payload .key v) (excludedBy ks vs a n) (getD vs (getD a n 0) 0 ∷ []) ∙
+    go true = contains-append lined (payload .key v) (excludedBy ks vs a n) (literalAt vs (getD a n 0) ∷ []) ∙
         ap (λ b. has v (excludedBy ks vs a n) || b)
         (or-false (isEqual (scalarCmp payload v (getD vs (getD a n 0) 0))))
     go false = sym (or-false (has v (excludedBy ks vs a n)))

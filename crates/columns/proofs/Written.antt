@@ -12,8 +12,8 @@ use borrow.Author.Tests.{ne-eqb}
 use Rattle.constraints.specs.Bound as b
 use Rattle.constraints.specs.Resolve as z
 use Rattle.constraints.specs.Comparisons as e
-use Rattle.constraints.specs.Payload.{payload}
-use Rattle.columns.specs.Abstraction.{Conjuncts, columnOf, boundOf, gather, ofKind, excludedBy}
+use Rattle.constraints.specs.Lined.{Lined, lined}
+use Rattle.columns.specs.Abstraction.{Conjuncts, columnOf, boundOf, gather, ofKind, literalAt, excludedBy}
 use Rattle.columns.specs.Steps.{placed, placedTo, placedBy, placedFree, placedPoint, placedMark}
 use Rattle.columns.specs.Abstraction.{Numbered}
 
@@ -26,9 +26,9 @@ count-suc : (ks vs a : List ℕ) (i : ℕ) → length (excludedBy ks vs a (suc i
 unfolding excludedBy gather
 count-suc ks vs a i = go (ofKind ks 0 (getD a i 0))
   where
-    go : (x : Bool) → length (cond x (excludedBy ks vs a i ++ (getD vs (getD a i 0) 0 ∷ [])) (excludedBy ks vs a i)) ≡
+    go : (x : Bool) → length (cond x (excludedBy ks vs a i ++ (literalAt vs (getD a i 0) ∷ [])) (excludedBy ks vs a i)) ≡
         length (excludedBy ks vs a i) + cond x 1 0
-    go true = length-append (excludedBy ks vs a i) (getD vs (getD a i 0) 0 ∷ [])
+    go true = length-append (excludedBy ks vs a i) (literalAt vs (getD a i 0) ∷ [])
     go false = let h : length (excludedBy ks vs a i) ≡ length (excludedBy ks vs a i) + 0 = omega arith in h
 
 pub count-more : (ks vs a : List ℕ) (i : ℕ) → length (excludedBy ks vs a (i + 1)) ≡
@@ -41,7 +41,7 @@ count-few false r e = omega (arith, e)
 
 -- ---- the places, one after the other, are the comparisons in their order
 
-compared-snoc : (l : List ℕ) (v : ℕ) → map e.IsNotEq (l ++ (v ∷ [])) ≡
+compared-snoc : (l : List Lined) (v : Lined) → map e.IsNotEq (l ++ (v ∷ [])) ≡
     map e.IsNotEq l ++ (e.IsNotEq v ∷ [])
 compared-snoc [] v = refl
 compared-snoc (w ∷ l) v = ap (λ m. e.IsNotEq w ∷ m) (compared-snoc l v)
@@ -59,10 +59,10 @@ mark-compared : (ks vs a : List ℕ) (n : ℕ) → map e.IsNotEq (excludedBy ks 
 unfolding excludedBy gather
 mark-compared ks vs a n = go (ofKind ks 0 (getD a n 0))
   where
-    go : (x : Bool) → map e.IsNotEq (cond x (excludedBy ks vs a n ++ (getD vs (getD a n 0) 0 ∷ []))
+    go : (x : Bool) → map e.IsNotEq (cond x (excludedBy ks vs a n ++ (literalAt vs (getD a n 0) ∷ []))
         (excludedBy ks vs a n)) ≡ map e.IsNotEq (excludedBy ks vs a n) ++ cond x
-        (e.IsNotEq (getD vs (getD a n 0) 0) ∷ []) []
-    go true = compared-snoc (excludedBy ks vs a n) (getD vs (getD a n 0) 0)
+        (e.IsNotEq (literalAt vs (getD a n 0)) ∷ []) []
+    go true = compared-snoc (excludedBy ks vs a n) (literalAt vs (getD a n 0))
     go false = sym (nil (map e.IsNotEq (excludedBy ks vs a n)))
 
 none-compared : (ks vs a : List ℕ) → map e.IsNotEq (excludedBy ks vs a 0) ≡ []
@@ -70,16 +70,16 @@ unfolding excludedBy gather
 none-compared ks vs a = refl
 
 -- the places of a column that no value fixes
-abbrev free : Conjuncts → Numbered → ℕ → List (e.ColumnComparison ℕ)
+abbrev free : Conjuncts → Numbered → ℕ → List (e.ColumnComparison Lined)
 free t c n = ofBound e.IsLower (boundOf (c .lower)) ++
     (ofBound e.IsUpper (boundOf (c .upper)) ++ map e.IsNotEq (excludedBy (t .kinds) (t .values) (c .marks) n))
 
-unfixed : (t : Conjuncts) (c : Numbered) (p : ℕ) → z.fixedAt payload (boundOf (c .lower))
+unfixed : (t : Conjuncts) (c : Numbered) (p : ℕ) → z.fixedAt lined (boundOf (c .lower))
     (boundOf (c .upper)) ≡ none → placed t c p ≡ placedFree t c p
 unfolding placed
 unfixed t c p h = ap (λ o. placedBy o t c p) h
 
-fixed : (t : Conjuncts) (c : Numbered) (p v : ℕ) → z.fixedAt payload (boundOf (c .lower))
+fixed : (t : Conjuncts) (c : Numbered) (p : ℕ) (v : Lined) → z.fixedAt lined (boundOf (c .lower))
     (boundOf (c .upper)) ≡ some v → placed t c p ≡ placedPoint v p
 unfolding placed
 fixed t c p v h = ap (λ o. placedBy o t c p) h
@@ -100,7 +100,7 @@ place-mark t c n =
     let s : 2 + n - 2 ≡ n = omega arith in
     rw (ne-eqb (2 + n) 0 z0, ne-eqb (2 + n) 1 z1, s)
 
-free-placed : (t : Conjuncts) (c : Numbered) → z.fixedAt payload (boundOf (c .lower)) (boundOf (c .upper)) ≡
+free-placed : (t : Conjuncts) (c : Numbered) → z.fixedAt lined (boundOf (c .lower)) (boundOf (c .upper)) ≡
     none → (n : ℕ) → placedTo t c (2 + n) ≡ free t c n
 free-placed t c h zero = two t c ∙
     rw (
@@ -127,11 +127,11 @@ free-placed t c h (suc n) =
     (map e.IsNotEq (excludedBy (t .kinds) (t .values) (c .marks) n))
     (placedMark (t .kinds) (t .values) (getD (c .marks) n 0))))
 
-none-placed : (t : Conjuncts) (c : Numbered) (v : ℕ) → placedTo t c 0 ++ (e.IsEq v ∷ []) ≡ e.IsEq v ∷ []
+none-placed : (t : Conjuncts) (c : Numbered) (v : Lined) → placedTo t c 0 ++ (e.IsEq v ∷ []) ≡ e.IsEq v ∷ []
 unfolding placedTo
 none-placed t c v = refl
 
-point-placed : (t : Conjuncts) (c : Numbered) (v : ℕ) → z.fixedAt payload (boundOf (c .lower))
+point-placed : (t : Conjuncts) (c : Numbered) (v : Lined) → z.fixedAt lined (boundOf (c .lower))
     (boundOf (c .upper)) ≡ some v → (n : ℕ) → placedTo t c (suc n) ≡ e.IsEq v ∷ []
 point-placed t c v h zero = step t c 0 ∙ rw (fixed t c 0 v h) (none-placed t c v)
 point-placed t c v h (suc n) =
@@ -140,10 +140,10 @@ point-placed t c v h (suc n) =
 
 -- the places, one after the other, are the column's comparisons in their order
 pub places-law : (t : Conjuncts) (c : Numbered) → placedTo t c (2 + c .len) ≡
-    e.collectColumnComparisons payload (columnOf t c)
-places-law t c = go (z.fixedAt payload (boundOf (c .lower)) (boundOf (c .upper))) refl
+    e.collectColumnComparisons lined (columnOf t c)
+places-law t c = go (z.fixedAt lined (boundOf (c .lower)) (boundOf (c .upper))) refl
   where
-    go : (o : Option ℕ) → z.fixedAt payload (boundOf (c .lower)) (boundOf (c .upper)) ≡ o →
+    go : (o : Option Lined) → z.fixedAt lined (boundOf (c .lower)) (boundOf (c .upper)) ≡ o →
         placedTo t c (2 + c .len) ≡ e.collectBy o (columnOf t c)
     go none h = free-placed t c h (c .len)
     go (some v) h =
@@ -159,19 +159,19 @@ count-le ks vs a (suc n) =
     let f = count-few (ofKind ks 0 (getD a n 0)) (cond (ofKind ks 0 (getD a n 0)) 1 0) refl in
     omega (arith, h, g, f)
 
-length-excluded : (l : List ℕ) → length (map e.IsNotEq l) ≡ length l
+length-excluded : (l : List Lined) → length (map e.IsNotEq l) ≡ length l
 length-excluded [] = refl
 length-excluded (v ∷ l) = ap suc (length-excluded l)
 
-lower-count : (l : b.Bound ℕ) → length (ofBound e.IsLower l) ≡ cond (not (b.isAbsent l)) 1 0
+lower-count : (l : b.Bound Lined) → length (ofBound e.IsLower l) ≡ cond (not (b.isAbsent l)) 1 0
 lower-count b.absent = refl
 lower-count (b.at i v) = refl
 
-upper-count : (l : b.Bound ℕ) → length (ofBound e.IsUpper l) ≡ cond (not (b.isAbsent l)) 1 0
+upper-count : (l : b.Bound Lined) → length (ofBound e.IsUpper l) ≡ cond (not (b.isAbsent l)) 1 0
 upper-count b.absent = refl
 upper-count (b.at i v) = refl
 
-pub count-law : (l u : b.Bound ℕ) (x : List ℕ) →
+pub count-law : (l u : b.Bound Lined) (x : List Lined) →
     length (ofBound e.IsLower l ++ (ofBound e.IsUpper u ++ map e.IsNotEq x)) ≡
     cond (not (b.isAbsent l)) 1 0 + (cond (not (b.isAbsent u)) 1 0 + length x)
 count-law l u x = length-append (ofBound e.IsLower l) (ofBound e.IsUpper u ++ map e.IsNotEq x) ∙

@@ -4,7 +4,7 @@
 use Prim.Native.Nat.{ℕ, zero, suc, _+_, _<_}
 use mathlib.Core.Path.{_≡_}
 use mathlib.Core.Bool.{Bool, true, false, cond, _||_}
-use mathlib.Core.List.{List, [], _∷_, _++_}
+use mathlib.Core.List.{List, [], _∷_, _++_, map}
 use mathlib.Core.Option.{Option, none, some}
 use lib.ListN.{getD, set}
 use lib.Dec.{eqb}
@@ -13,7 +13,8 @@ use Rattle.constraints.specs.Bound as b
 use Rattle.constraints.specs.Values.{extend}
 use Rattle.constraints.specs.Column as q
 use Rattle.constraints.specs.Comparisons as e
-use Rattle.constraints.specs.Payload.{payload}
+use Rattle.constraints.specs.Lined.{Lined, onLine, lined}
+use Rattle.columns.specs.declared.bound.Limit.{Limit}
 use Rattle.columns.specs.declared.bound.Bound.{Bound}
 use Rattle.columns.specs.declared.bound.Tightened.{Tightened}
 use Rattle.columns.specs.declared.bound.Bound.the-variants.{Absent, Open, Closed}
@@ -41,6 +42,13 @@ conjuncts kinds′ values′ starts′ counts′ pool′ =
 unfoldable pub listOf : List ℕ → List ℕ → List ℕ → ℕ → List ℕ
 listOf starts counts pool j = valuesFrom pool (getD starts j 0) (getD counts j 0)
 
+-- Its values and its literal, under its number.
+unfoldable pub valuesOf : List ℕ → List ℕ → List ℕ → ℕ → List Lined
+valuesOf starts counts pool j = map (onLine j) (listOf starts counts pool j)
+
+abbrev pub literalAt : List ℕ → ℕ → Lined
+literalAt values j = onLine j (getD values j 0)
+
 abbrev pub ofKind : List ℕ → ℕ → ℕ → Bool
 ofKind kinds k j = eqb (getD kinds j 0) k
 
@@ -50,25 +58,29 @@ gather p f z a zero = z
 gather p f z a (suc n) = cond (p (getD a n 0)) (f (gather p f z a n) (getD a n 0)) (gather p f z a n)
 
 -- The values that n numbers exclude.
-unfoldable pub excludedBy : List ℕ → List ℕ → List ℕ → ℕ → List ℕ
-excludedBy kinds values a n = gather (ofKind kinds 0) (λ l j. l ++ (getD values j 0 ∷ [])) [] a n
+unfoldable pub excludedBy : List ℕ → List ℕ → List ℕ → ℕ → List Lined
+excludedBy kinds values a n = gather (ofKind kinds 0) (λ l j. l ++ (literalAt values j ∷ [])) [] a n
 
 -- The common values of the lists that n numbers allow; none if there is no such list.
-unfoldable pub allowedBy : List ℕ → List ℕ → List ℕ → List ℕ → List ℕ → ℕ → Option (List ℕ)
+unfoldable pub allowedBy : List ℕ → List ℕ → List ℕ → List ℕ → List ℕ → ℕ → Option (List Lined)
 allowedBy kinds starts counts pool a n =
-    gather (ofKind kinds 1) (λ o j. some (q.common payload o (listOf starts counts pool j))) none a n
+    gather (ofKind kinds 1) (λ o j. some (q.common lined o (valuesOf starts counts pool j))) none a n
 
 -- All values of the lists that n numbers disallow.
-unfoldable pub disallowedBy : List ℕ → List ℕ → List ℕ → List ℕ → List ℕ → ℕ → List ℕ
+unfoldable pub disallowedBy : List ℕ → List ℕ → List ℕ → List ℕ → List ℕ → ℕ → List Lined
 disallowedBy kinds starts counts pool a n =
-    gather (ofKind kinds 2) (λ l j. extend payload l (listOf starts counts pool j)) [] a n
+    gather (ofKind kinds 2) (λ l j. extend lined l (valuesOf starts counts pool j)) [] a n
 
-abbrev pub boundOf : Bound → b.Bound ℕ
+-- A value of a bound with the number of the conjunct that gave it.
+abbrev pub limitOf : Limit → Lined
+limitOf v = onLine (v .line) (v .value .0)
+
+abbrev pub boundOf : Bound → b.Bound Lined
 boundOf Absent = b.absent
-boundOf (Open s) = b.at false (s .0)
-boundOf (Closed s) = b.at true (s .0)
+boundOf (Open s) = b.at false (limitOf s)
+boundOf (Closed s) = b.at true (limitOf s)
 
-abbrev pub tightenedOf : Tightened → b.Tightened ℕ
+abbrev pub tightenedOf : Tightened → b.Tightened Lined
 tightenedOf r = b.tightened (boundOf (r .bound)) (r .change)
 
 -- A column with its numbers. The code keeps the numbers of all columns in one array, a row for each column.
@@ -93,7 +105,7 @@ numbered a c =
       unsat = c .unsat;
     }
 
-abbrev pub columnOf : Conjuncts → Numbered → q.ColumnConstraints ℕ
+abbrev pub columnOf : Conjuncts → Numbered → q.ColumnConstraints Lined
 columnOf t c =
     record {
       lower = boundOf (c .lower);
@@ -106,18 +118,18 @@ columnOf t c =
       unsat = c .unsat;
     }
 
-abbrev pub fixedOf : FixedValue → Option ℕ
+abbrev pub fixedOf : FixedValue → Option Lined
 fixedOf Nothing = none
-fixedOf (At s) = some (s .0)
+fixedOf (At s) = some (limitOf s)
 
-abbrev pub comparedOf : Compared → List (e.ColumnComparison ℕ)
+abbrev pub comparedOf : Compared → List (e.ColumnComparison Lined)
 comparedOf m.Vacant = []
-comparedOf (m.Eq s) = e.IsEq (s .0) ∷ []
-comparedOf (m.Gt s) = e.IsLower false (s .0) ∷ []
-comparedOf (m.GtEq s) = e.IsLower true (s .0) ∷ []
-comparedOf (m.Lt s) = e.IsUpper false (s .0) ∷ []
-comparedOf (m.LtEq s) = e.IsUpper true (s .0) ∷ []
-comparedOf (m.NotEq s) = e.IsNotEq (s .0) ∷ []
+comparedOf (m.Eq s) = e.IsEq (limitOf s) ∷ []
+comparedOf (m.Gt s) = e.IsLower false (limitOf s) ∷ []
+comparedOf (m.GtEq s) = e.IsLower true (limitOf s) ∷ []
+comparedOf (m.Lt s) = e.IsUpper false (limitOf s) ∷ []
+comparedOf (m.LtEq s) = e.IsUpper true (limitOf s) ∷ []
+comparedOf (m.NotEq s) = e.IsNotEq (limitOf s) ∷ []
 
 -- Is j one of n numbers held in an array.
 unfoldable pub marked : List ℕ → ℕ → ℕ → Bool
@@ -137,6 +149,7 @@ longer c =
       len = c .len + 1;
       strict = c .strict;
       nullability = c .nullability;
+      since = c .since;
       unsat = c .unsat;
     }
 

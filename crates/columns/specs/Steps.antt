@@ -14,7 +14,9 @@ use Rattle.constraints.specs.Column as q
 use Rattle.constraints.specs.Resolve as z
 use Rattle.constraints.specs.Comparisons as e
 use Rattle.constraints.specs.Payload.{payload}
-use Rattle.columns.specs.Abstraction.{Conjuncts, Numbered, numbered, columnOf, boundOf, ofKind, listOf}
+use Rattle.constraints.specs.Lined.{Lined, lined}
+use Rattle.columns.specs.Abstraction.{Conjuncts, Numbered, numbered, columnOf, boundOf, ofKind, valuesOf}
+use Rattle.columns.specs.Abstraction.{literalAt}
 use Rattle.constraints.specs.declared.column.ExcludedResolution.{ExcludedResolution}
 use Rattle.constraints.specs.declared.column.ExcludedResolution.the-variants.{Drop, Keep, TightenLower}
 use Rattle.constraints.specs.declared.column.ExcludedResolution.the-variants.{TightenUpper}
@@ -31,105 +33,105 @@ anyOfKind kinds k a zero = false
 anyOfKind kinds k a (suc n) = anyOfKind kinds k a n || ofKind kinds k (getD a n 0)
 
 -- Does p hold of some value of the list.
-abbrev pub anyOf : (ℕ → Bool) → List ℕ → Bool
+abbrev pub anyOf : {A : Type 0} → (A → Bool) → List A → Bool
 anyOf p [] = false
 anyOf p (v ∷ l) = p v || anyOf p l
 
 -- A value that every allowed list has and the list l has not.
-abbrev pub outside : Option (List ℕ) → List ℕ → ℕ → Bool
-outside o l v = z.isAllowed payload o (payload .key v) && not (contains payload (payload .key v) l)
+abbrev pub outside : Option (List Lined) → List Lined → ℕ → Bool
+outside o l v = z.isAllowed lined o (payload .key v) && not (contains lined (payload .key v) l)
 
 -- ---- merging
 pub record Merging : Type 0 where
-  pub column : q.ColumnConstraints ℕ
+  pub column : q.ColumnConstraints Lined
   pub emitted : Bool
   pub any : Bool
 
 abbrev pub mergingOf : Conjuncts → List ℕ → Merged → Merging
 mergingOf t a m = record { column = columnOf t (numbered a (m .column)); emitted = m .emitted; any = m .any }
 
-abbrev pub changesIn : q.Constraint ℕ → q.ColumnConstraints ℕ → Bool
-changesIn a cc = (not (cc .unsat) && q.changes payload a cc)
+abbrev pub changesIn : q.Constraint Lined → q.ColumnConstraints Lined → Bool
+changesIn a cc = (not (cc .unsat) && q.changes lined a cc)
 
 -- A constraint that is written out again, and one that is only recorded.
-abbrev pub emitting : q.Constraint ℕ → Merging → Merging
+abbrev pub emitting : q.Constraint Lined → Merging → Merging
 emitting a m =
-    record { column = q.add payload a (m .column); emitted = m .emitted || changesIn a (m .column); any = m .any }
+    record { column = q.add lined a (m .column); emitted = m .emitted || changesIn a (m .column); any = m .any }
 
-abbrev pub recording : q.Constraint ℕ → Merging → Merging
+abbrev pub recording : q.Constraint Lined → Merging → Merging
 recording a m =
-    record { column = q.add payload a (m .column); emitted = m .emitted; any = m .any || changesIn a (m .column) }
+    record { column = q.add lined a (m .column); emitted = m .emitted; any = m .any || changesIn a (m .column) }
 
-abbrev pub takeLower : b.Bound ℕ → Merging → Merging
+abbrev pub takeLower : b.Bound Lined → Merging → Merging
 takeLower b.absent m = m
 takeLower (b.at inclusive v) m = emitting (q.Lower inclusive v) m
 
-abbrev pub takeUpper : b.Bound ℕ → Merging → Merging
+abbrev pub takeUpper : b.Bound Lined → Merging → Merging
 takeUpper b.absent m = m
 takeUpper (b.at inclusive v) m = emitting (q.Upper inclusive v) m
 
 unfoldable pub takeMark : Conjuncts → ℕ → Merging → Merging
 takeMark t j m =
-    cond (ofKind (t .kinds) 0 j) (emitting (q.Exclude (getD (t .values) j 0)) m)
-    (cond (ofKind (t .kinds) 1 j) (recording (q.Allow (listOf (t .starts) (t .counts) (t .pool) j)) m)
-    (cond (ofKind (t .kinds) 2 j) (recording (q.Disallow false (listOf (t .starts) (t .counts) (t .pool) j)) m) m))
+    cond (ofKind (t .kinds) 0 j) (emitting (q.Exclude (literalAt (t .values) j)) m)
+    (cond (ofKind (t .kinds) 1 j) (recording (q.Allow (valuesOf (t .starts) (t .counts) (t .pool) j)) m)
+    (cond (ofKind (t .kinds) 2 j) (recording (q.Disallow false (valuesOf (t .starts) (t .counts) (t .pool) j)) m) m))
 
 unfoldable pub takeMarks : Conjuncts → List ℕ → ℕ → Merging → Merging
 takeMarks t a zero m = m
 takeMarks t a (suc n) m = takeMark t (getD a n 0) (takeMarks t a n m)
 
 -- ---- resolving The column with its bounds compared.
-abbrev pub consistent : q.ColumnConstraints ℕ → q.ColumnConstraints ℕ
-consistent cc = q.setUnsat (cc .unsat || b.crosses payload (cc .lower) (cc .upper)) cc
+abbrev pub consistent : q.ColumnConstraints Lined → q.ColumnConstraints Lined
+consistent cc = q.setUnsat (cc .unsat || b.crosses lined (cc .lower) (cc .upper)) cc
 
-abbrev pub applyBy : ExcludedResolution → ℕ → q.ColumnConstraints ℕ → q.ColumnConstraints ℕ
+abbrev pub applyBy : ExcludedResolution → Lined → q.ColumnConstraints Lined → q.ColumnConstraints Lined
 applyBy Drop v cc = cc
-applyBy Keep v cc = q.put payload (q.Exclude v) cc
-applyBy TightenLower v cc = q.setLower (b.at false v) cc
-applyBy TightenUpper v cc = q.setUpper (b.at false v) cc
+applyBy Keep v cc = q.put lined (q.Exclude v) cc
+applyBy TightenLower v cc = q.setLower (z.openAt lined (cc .lower) v) cc
+applyBy TightenUpper v cc = q.setUpper (z.openAt lined (cc .upper) v) cc
 
-abbrev pub applyExcluded : ℕ → q.ColumnConstraints ℕ → q.ColumnConstraints ℕ
-applyExcluded v cc = applyBy (z.classifyExcluded payload cc v) v cc
+abbrev pub applyExcluded : Lined → q.ColumnConstraints Lined → q.ColumnConstraints Lined
+applyExcluded v cc = applyBy (z.classifyExcluded lined cc v) v cc
 
-abbrev pub stepExcluded : ℕ → q.ColumnConstraints ℕ → q.ColumnConstraints ℕ
+abbrev pub stepExcluded : Lined → q.ColumnConstraints Lined → q.ColumnConstraints Lined
 stepExcluded v cc = cond (cc .unsat) cc (consistent (applyExcluded v cc))
 
-unfoldable pub stepMark : Conjuncts → ℕ → q.ColumnConstraints ℕ → q.ColumnConstraints ℕ
+unfoldable pub stepMark : Conjuncts → ℕ → q.ColumnConstraints Lined → q.ColumnConstraints Lined
 stepMark t j cc =
-    cond (ofKind (t .kinds) 0 j) (stepExcluded (getD (t .values) j 0) cc)
-    (cond (ofKind (t .kinds) 1 j) (q.put payload (q.Allow (listOf (t .starts) (t .counts) (t .pool) j)) cc)
-    (cond (ofKind (t .kinds) 2 j) (q.put payload (q.Disallow false (listOf (t .starts) (t .counts) (t .pool) j)) cc)
+    cond (ofKind (t .kinds) 0 j) (stepExcluded (literalAt (t .values) j) cc)
+    (cond (ofKind (t .kinds) 1 j) (q.put lined (q.Allow (valuesOf (t .starts) (t .counts) (t .pool) j)) cc)
+    (cond (ofKind (t .kinds) 2 j) (q.put lined (q.Disallow false (valuesOf (t .starts) (t .counts) (t .pool) j)) cc)
     cc))
 
-unfoldable pub stepMarks : Conjuncts → List ℕ → ℕ → q.ColumnConstraints ℕ → q.ColumnConstraints ℕ
+unfoldable pub stepMarks : Conjuncts → List ℕ → ℕ → q.ColumnConstraints Lined → q.ColumnConstraints Lined
 stepMarks t a zero cc = cc
 stepMarks t a (suc n) cc = stepMark t (getD a n 0) (stepMarks t a n cc)
 
 -- Where the walk over the numbers begins: the bounds alone.
-abbrev pub begun : q.ColumnConstraints ℕ → q.ColumnConstraints ℕ
+abbrev pub begun : q.ColumnConstraints Lined → q.ColumnConstraints Lined
 begun cc = q.column (cc .lower) (cc .upper) [] none [] (cc .strict) (cc .nullability) false
 
 -- ---- what is written out, by places: 0 the lower bound or the fixed value, 1 the upper bound, 2 + i the number i
-abbrev pub placedMark : List ℕ → List ℕ → ℕ → List (e.ColumnComparison ℕ)
-placedMark kinds values j = cond (ofKind kinds 0 j) (e.IsNotEq (getD values j 0) ∷ []) []
+abbrev pub placedMark : List ℕ → List ℕ → ℕ → List (e.ColumnComparison Lined)
+placedMark kinds values j = cond (ofKind kinds 0 j) (e.IsNotEq (literalAt values j) ∷ []) []
 
-abbrev pub placedFree : Conjuncts → Numbered → ℕ → List (e.ColumnComparison ℕ)
+abbrev pub placedFree : Conjuncts → Numbered → ℕ → List (e.ColumnComparison Lined)
 placedFree t c p =
     cond (eqb p 0) (ofBound e.IsLower (boundOf (c .lower)))
     (cond (eqb p 1) (ofBound e.IsUpper (boundOf (c .upper)))
     (placedMark (t .kinds) (t .values) (getD (c .marks) (p - 2) 0)))
 
-abbrev pub placedPoint : ℕ → ℕ → List (e.ColumnComparison ℕ)
+abbrev pub placedPoint : Lined → ℕ → List (e.ColumnComparison Lined)
 placedPoint v p = cond (eqb p 0) (e.IsEq v ∷ []) []
 
-abbrev pub placedBy : Option ℕ → Conjuncts → Numbered → ℕ → List (e.ColumnComparison ℕ)
+abbrev pub placedBy : Option Lined → Conjuncts → Numbered → ℕ → List (e.ColumnComparison Lined)
 placedBy none t c p = placedFree t c p
 placedBy (some v) t c p = placedPoint v p
 
-unfoldable pub placed : Conjuncts → Numbered → ℕ → List (e.ColumnComparison ℕ)
-placed t c p = placedBy (z.fixedAt payload (boundOf (c .lower)) (boundOf (c .upper))) t c p
+unfoldable pub placed : Conjuncts → Numbered → ℕ → List (e.ColumnComparison Lined)
+placed t c p = placedBy (z.fixedAt lined (boundOf (c .lower)) (boundOf (c .upper))) t c p
 
 -- The comparisons at the places below p.
-unfoldable pub placedTo : Conjuncts → Numbered → ℕ → List (e.ColumnComparison ℕ)
+unfoldable pub placedTo : Conjuncts → Numbered → ℕ → List (e.ColumnComparison Lined)
 placedTo t c zero = []
 placedTo t c (suc p) = placedTo t c p ++ placed t c p

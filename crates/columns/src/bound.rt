@@ -6,18 +6,25 @@ ghost use Rattle.constraints.specs.Scalars.{opposite, scalarCmp};
 ghost use Rattle.constraints.specs.Bound.{at, isAbsent, tightened, openedBy, tightenBy, tighten, isChange};
 ghost use Rattle.constraints.specs.Bound.{crossesBy, crosses, clears};
 ghost use Rattle.constraints.specs.Payload.{payload};
-ghost use Rattle.columns.specs.Abstraction.{boundOf, tightenedOf};
+ghost use Rattle.constraints.specs.Lined.{lined};
+ghost use Rattle.columns.specs.Abstraction.{limitOf, boundOf, tightenedOf};
 ghost use Rattle.constraints.specs.declared.column.BoundChange.the-variants.{NewValue};
 use constraints::column::BoundChange;
 use truth::scalar::Ordering;
 use truth::scalar::Scalar;
 use truth::scalar::scalar_cmp;
 
+/// A value with the number of the conjunct that gave it.
+pub struct Limit {
+    pub value: Scalar,
+    pub line: u64,
+}
+
 /// `Closed` is `>=` or `<=`, `Open` is `>` or `<`.
 pub enum Bound {
     Absent,
-    Open(Scalar),
-    Closed(Scalar),
+    Open(Limit),
+    Closed(Limit),
 }
 
 /// A bound, and what became of it.
@@ -26,16 +33,16 @@ pub struct Tightened {
     pub change: BoundChange,
 }
 
-pub fn compare(v: Scalar, w: Scalar) -> Ordering
-    ensures { λ r. ⌜ r ≡ scalarCmp payload (v .0) (w .0) ⌝ }
+pub fn compare(v: Limit, w: Limit) -> Ordering
+    ensures { λ r. ⌜ r ≡ scalarCmp lined (limitOf v) (limitOf w) ⌝ }
 {
-    scalar_cmp(v, w)
+    scalar_cmp(v.value, w.value)
 }
 
 pub fn same(v: Scalar, w: Scalar) -> bool
     ensures { λ r. ⌜ r ≡ isEqual (scalarCmp payload (v .0) (w .0)) ⌝ }
 {
-    let o = compare(v, w);
+    let o = scalar_cmp(v, w);
     match o {
         Ordering::Less => false,
         Ordering::Equal => true,
@@ -43,8 +50,8 @@ pub fn same(v: Scalar, w: Scalar) -> bool
     }
 }
 
-fn bound_at(v: Scalar, inclusive: bool) -> Bound
-    ensures { λ r. ⌜ boundOf r ≡ at inclusive (v .0) ⌝ }
+fn bound_at(v: Limit, inclusive: bool) -> Bound
+    ensures { λ r. ⌜ boundOf r ≡ at inclusive (limitOf v) ⌝ }
 {
     if inclusive {
         return Bound::Closed(v);
@@ -52,8 +59,8 @@ fn bound_at(v: Scalar, inclusive: bool) -> Bound
     Bound::Open(v)
 }
 
-fn new_value(v: Scalar, inclusive: bool) -> Tightened
-    ensures { λ r. ⌜ tightenedOf r ≡ tightened (at inclusive (v .0)) NewValue ⌝ }
+fn new_value(v: Limit, inclusive: bool) -> Tightened
+    ensures { λ r. ⌜ tightenedOf r ≡ tightened (at inclusive (limitOf v)) NewValue ⌝ }
 {
     Tightened {
         bound: bound_at(v, inclusive),
@@ -71,8 +78,8 @@ fn opened_by(held: bool, inclusive: bool) -> BoundChange
 }
 
 // `Greater` says that the new value is the tighter one. Of two equal ones the held stays, closed only if both are.
-fn tighten(o: Ordering, held: bool, w: Scalar, inclusive: bool, v: Scalar) -> Tightened
-    ensures { λ r. ⌜ tightenedOf r ≡ tightenBy o held (w .0) inclusive (v .0) ⌝ }
+fn tighten(o: Ordering, held: bool, w: Limit, inclusive: bool, v: Limit) -> Tightened
+    ensures { λ r. ⌜ tightenedOf r ≡ tightenBy o held (limitOf w) inclusive (limitOf v) ⌝ }
 {
     match o {
         Ordering::Greater => new_value(v, inclusive),
@@ -87,8 +94,8 @@ fn tighten(o: Ordering, held: bool, w: Scalar, inclusive: bool, v: Scalar) -> Ti
     }
 }
 
-pub fn tighten_lower(held: Bound, v: Scalar, inclusive: bool) -> Tightened
-    ensures { λ r. ⌜ tightenedOf r ≡ tighten payload (boundOf held) inclusive (v .0) ⌝ }
+pub fn tighten_lower(held: Bound, v: Limit, inclusive: bool) -> Tightened
+    ensures { λ r. ⌜ tightenedOf r ≡ tighten lined (boundOf held) inclusive (limitOf v) ⌝ }
 {
     match held {
         Bound::Absent => new_value(v, inclusive),
@@ -103,8 +110,8 @@ pub fn tighten_lower(held: Bound, v: Scalar, inclusive: bool) -> Tightened
     }
 }
 
-pub fn tighten_upper(held: Bound, v: Scalar, inclusive: bool) -> Tightened
-    ensures { λ r. ⌜ tightenedOf r ≡ tighten (opposite payload) (boundOf held) inclusive (v .0) ⌝ }
+pub fn tighten_upper(held: Bound, v: Limit, inclusive: bool) -> Tightened
+    ensures { λ r. ⌜ tightenedOf r ≡ tighten (opposite lined) (boundOf held) inclusive (limitOf v) ⌝ }
 {
     match held {
         Bound::Absent => new_value(v, inclusive),
@@ -140,8 +147,8 @@ fn crosses_by(o: Ordering, c: bool, d: bool) -> bool
     }
 }
 
-fn crosses_at(c: bool, v: Scalar, u: Bound) -> bool
-    ensures { λ r. ⌜ r ≡ crosses payload (at c (v .0)) (boundOf u) ⌝ }
+fn crosses_at(c: bool, v: Limit, u: Bound) -> bool
+    ensures { λ r. ⌜ r ≡ crosses lined (at c (limitOf v)) (boundOf u) ⌝ }
 {
     match u {
         Bound::Absent => false,
@@ -158,7 +165,7 @@ fn crosses_at(c: bool, v: Scalar, u: Bound) -> bool
 
 /// Whether no value lies between the two.
 pub fn crosses(l: Bound, u: Bound) -> bool
-    ensures { λ r. ⌜ r ≡ crosses payload (boundOf l) (boundOf u) ⌝ }
+    ensures { λ r. ⌜ r ≡ crosses lined (boundOf l) (boundOf u) ⌝ }
 {
     match l {
         Bound::Absent => false,
@@ -179,16 +186,16 @@ fn above_by(o: Ordering, inclusive: bool) -> bool
 
 /// Whether the lower bound lets v through.
 pub fn clears_lower(l: Bound, v: Scalar) -> bool
-    ensures { λ r. ⌜ r ≡ clears payload (boundOf l) (payload .key (v .0)) ⌝ }
+    ensures { λ r. ⌜ r ≡ clears lined (boundOf l) (payload .key (v .0)) ⌝ }
 {
     match l {
         Bound::Absent => true,
         Bound::Open(w) => {
-            let o = compare(w, v);
+            let o = scalar_cmp(w.value, v);
             above_by(o, false)
         }
         Bound::Closed(w) => {
-            let o = compare(w, v);
+            let o = scalar_cmp(w.value, v);
             above_by(o, true)
         }
     }
@@ -196,16 +203,16 @@ pub fn clears_lower(l: Bound, v: Scalar) -> bool
 
 /// Whether the upper bound lets v through.
 pub fn clears_upper(u: Bound, v: Scalar) -> bool
-    ensures { λ r. ⌜ r ≡ clears (opposite payload) (boundOf u) (payload .key (v .0)) ⌝ }
+    ensures { λ r. ⌜ r ≡ clears (opposite lined) (boundOf u) (payload .key (v .0)) ⌝ }
 {
     match u {
         Bound::Absent => true,
         Bound::Open(w) => {
-            let o = compare(v, w);
+            let o = scalar_cmp(v, w.value);
             above_by(o, false)
         }
         Bound::Closed(w) => {
-            let o = compare(v, w);
+            let o = scalar_cmp(v, w.value);
             above_by(o, true)
         }
     }

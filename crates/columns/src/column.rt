@@ -4,27 +4,30 @@ ghost use mathlib.Core.List.{List};
 ghost use Prim.Native.Nat.{ℕ};
 ghost use Rattle.constraints.specs.Column as q;
 ghost use Rattle.constraints.specs.Column.{isNullRequired};
-ghost use Rattle.constraints.specs.Payload.{payload};
-ghost use Rattle.columns.specs.Abstraction.{Conjuncts, numbered, columnOf};
+ghost use Rattle.constraints.specs.Lined.{lined};
+ghost use Rattle.columns.specs.Abstraction.{Conjuncts, numbered, columnOf, limitOf};
 ghost use Rattle.columns.specs.Steps.{consistent};
 ghost use Rattle.constraints.specs.declared.column.Nullability.the-variants.{Null};
 use crate::bound::Bound;
+use crate::bound::Limit;
 use crate::bound::crosses;
 use crate::bound::tighten_lower;
 use crate::bound::tighten_upper;
 use constraints::column::BoundChange;
 use constraints::column::Nullability;
-use truth::scalar::Scalar;
 
 /// `len` counts the column's numbers: the conjuncts that gave excluded values and lists, each once, in insertion order. They
 /// stand in the column's row of an array beside the table, so that a column is small; a conjunct's kind says which of the
-/// three sets its values belong to. One row serves all three: a conjunct gives to one only. `strict`: some negated is_in that drops nulls gave a value. `unsat` stays: an impossible column takes nothing.
+/// three sets its values belong to. One row serves all three: a conjunct gives to one only. `strict`: some negated is_in
+/// that drops nulls gave a value. `since` is the conjunct that first required null or not null, where something is
+/// required. `unsat` stays: an impossible column takes nothing.
 pub struct ColumnConstraints {
     pub lower: Bound,
     pub upper: Bound,
     pub len: usize,
     pub strict: bool,
     pub nullability: Nullability,
+    pub since: u64,
     pub unsat: bool,
 }
 
@@ -44,6 +47,7 @@ pub fn empty() -> ColumnConstraints
         len: 0,
         strict: false,
         nullability: Nullability::Unconstrained,
+        since: 0,
         unsat: false,
     }
 }
@@ -62,16 +66,17 @@ pub fn check_bound_consistency(c: ColumnConstraints) -> ColumnConstraints
         len: c.len,
         strict: c.strict,
         nullability: nul,
+        since: c.since,
         unsat: c.unsat | crosses(low, upp),
     }
 }
 
-pub fn add_lower(c: ColumnConstraints, v: Scalar, inclusive: bool) -> Bounded
+pub fn add_lower(c: ColumnConstraints, v: Limit, inclusive: bool) -> Bounded
     ensures { λ r. ⌜ ((t : Conjuncts) (a : List ℕ) → columnOf t (numbered a (r .column)) ≡
-        q.addLower payload (v .0) inclusive (columnOf t (numbered a c))) ⌝ }
+        q.addLower lined (limitOf v) inclusive (columnOf t (numbered a c))) ⌝ }
     ensures { λ r. ⌜ r .column .len ≡ c .len ⌝ }
     ensures { λ r. ⌜ ((t : Conjuncts) (a : List ℕ) → r .change ≡
-        q.lowerChange payload (v .0) inclusive (columnOf t (numbered a c))) ⌝ }
+        q.lowerChange lined (limitOf v) inclusive (columnOf t (numbered a c))) ⌝ }
 {
     if c.unsat {
         return Bounded {
@@ -91,6 +96,7 @@ pub fn add_lower(c: ColumnConstraints, v: Scalar, inclusive: bool) -> Bounded
         len: c.len,
         strict: c.strict,
         nullability: nul,
+        since: c.since,
         unsat: crosses(b, upp),
     };
     Bounded {
@@ -99,12 +105,12 @@ pub fn add_lower(c: ColumnConstraints, v: Scalar, inclusive: bool) -> Bounded
     }
 }
 
-pub fn add_upper(c: ColumnConstraints, v: Scalar, inclusive: bool) -> Bounded
+pub fn add_upper(c: ColumnConstraints, v: Limit, inclusive: bool) -> Bounded
     ensures { λ r. ⌜ ((t : Conjuncts) (a : List ℕ) → columnOf t (numbered a (r .column)) ≡
-        q.addUpper payload (v .0) inclusive (columnOf t (numbered a c))) ⌝ }
+        q.addUpper lined (limitOf v) inclusive (columnOf t (numbered a c))) ⌝ }
     ensures { λ r. ⌜ r .column .len ≡ c .len ⌝ }
     ensures { λ r. ⌜ ((t : Conjuncts) (a : List ℕ) → r .change ≡
-        q.upperChange payload (v .0) inclusive (columnOf t (numbered a c))) ⌝ }
+        q.upperChange lined (limitOf v) inclusive (columnOf t (numbered a c))) ⌝ }
 {
     if c.unsat {
         return Bounded {
@@ -124,6 +130,7 @@ pub fn add_upper(c: ColumnConstraints, v: Scalar, inclusive: bool) -> Bounded
         len: c.len,
         strict: c.strict,
         nullability: nul,
+        since: c.since,
         unsat: crosses(low, b),
     };
     Bounded {
@@ -134,7 +141,7 @@ pub fn add_upper(c: ColumnConstraints, v: Scalar, inclusive: bool) -> Bounded
 
 /// The first requirement stays; the opposite one makes the column impossible.
 pub fn require_nullability(c: ColumnConstraints, n: Nullability) -> ColumnConstraints
-    ensures { λ r. ⌜ ((t : Conjuncts) (a : List ℕ) → columnOf t (numbered a r) ≡ q.requireNullability payload n (columnOf t (numbered a c))) ⌝ }
+    ensures { λ r. ⌜ ((t : Conjuncts) (a : List ℕ) → columnOf t (numbered a r) ≡ q.requireNullability lined n (columnOf t (numbered a c))) ⌝ }
     ensures { λ r. ⌜ r .len ≡ c .len ⌝ }
 {
     if c.unsat {
@@ -149,6 +156,7 @@ pub fn require_nullability(c: ColumnConstraints, n: Nullability) -> ColumnConstr
         len: c.len,
         strict: c.strict,
         nullability: nullability_kept(nul, n),
+        since: c.since,
         unsat: nullability_clashes(nul, n),
     }
 }

@@ -8,27 +8,28 @@ ghost use Prim.Native.Nat.{ℕ, _+_};
 ghost use lib.ListN.{length};
 ghost use Rattle.constraints.specs.Bound.{ofBound};
 ghost use Rattle.constraints.specs.Comparisons.{IsLower, IsUpper, collectColumnComparisons};
-ghost use Rattle.constraints.specs.Payload.{payload};
+ghost use Rattle.constraints.specs.Lined.{lined};
 ghost use Rattle.columns.specs.Abstraction.{Conjuncts, numbered, columnOf, boundOf, excludedBy, comparedOf, Fine};
+ghost use Rattle.columns.specs.Abstraction.{limitOf};
 ghost use Rattle.columns.specs.Steps.{placedMark, placedFree, placedPoint, placed};
 use crate::bound::Bound;
+use crate::bound::Limit;
 use crate::bound::is_absent;
 use crate::column::ColumnConstraints;
-use crate::marks::literal_at;
+use crate::marks::limit_at;
 use crate::resolve::FixedValue;
 use crate::resolve::fixed_value;
 use records::bytes::byte;
-use truth::scalar::Scalar;
 
 /// One place of a column.
 pub enum Compared {
     Vacant,
-    Eq(Scalar),
-    Gt(Scalar),
-    GtEq(Scalar),
-    Lt(Scalar),
-    LtEq(Scalar),
-    NotEq(Scalar),
+    Eq(Limit),
+    Gt(Limit),
+    GtEq(Limit),
+    Lt(Limit),
+    LtEq(Limit),
+    NotEq(Limit),
 }
 
 fn at_lower(l: Bound) -> Compared
@@ -54,7 +55,7 @@ fn at_upper(u: Bound) -> Compared
 fn at_mark(kinds: &[u8], values: &[u64], j: u8) -> Compared
     ensures { λ r. ⌜ comparedOf r ≡ placedMark (now (kinds .entry)) (now (values .entry)) j ⌝ }
 {
-    let v = literal_at(values, j);
+    let v = limit_at(values, j);
     if byte(kinds, j as usize) == 0 {
         return Compared::NotEq(v);
     }
@@ -95,8 +96,8 @@ pub fn comparison_at(
     }
 }
 
-fn at_point(v: Scalar, p: usize) -> Compared
-    ensures { λ r. ⌜ comparedOf r ≡ placedPoint (v .0) p ⌝ }
+fn at_point(v: Limit, p: usize) -> Compared
+    ensures { λ r. ⌜ comparedOf r ≡ placedPoint (limitOf v) p ⌝ }
 {
     if p == 0 {
         return Compared::Eq(v);
@@ -130,7 +131,7 @@ fn counted(b: bool) -> usize
 pub fn comparison_count(kinds: &[u8], marks: &[u8], c: ColumnConstraints) -> usize
     requires { ⌜ Fine 128 (now marks) (c .len) ⌝ }
     ensures { λ r. ⌜ ((t : Conjuncts) → t .kinds ≡ now (kinds .entry) →
-        r ≡ length (collectColumnComparisons payload (columnOf t (numbered (now (marks .entry)) c)))) ⌝ }
+        r ≡ length (collectColumnComparisons lined (columnOf t (numbered (now (marks .entry)) c)))) ⌝ }
 {
     let low = c.lower;
     let upp = c.upper;

@@ -15,10 +15,13 @@ ghost use Rattle.constraints.specs.Values.{contains, subset};
 ghost use Rattle.constraints.specs.Column as q;
 ghost use Rattle.constraints.specs.Resolve.{isAllowed, isFeasible, anyFeasible, allowedFeasible};
 ghost use Rattle.constraints.specs.Payload.{payload};
+ghost use Rattle.constraints.specs.Lined.{lined};
 ghost use Rattle.columns.specs.Abstraction.{Conjuncts, conjuncts, numbered, columnOf, listOf, ofKind};
+ghost use Rattle.columns.specs.Abstraction.{limitOf, literalAt, valuesOf};
 ghost use Rattle.columns.specs.Abstraction.{excludedBy, allowedBy, disallowedBy, marked, Fine, longer};
 ghost use Rattle.columns.specs.Index.{valueIn, Indexed, Low, NumberSet, KindSet};
 ghost use Rattle.columns.specs.Steps.{Lists, outside, anyOf, changesIn, anyOfKind};
+use crate::bound::Limit;
 use crate::bound::clears_lower;
 use crate::bound::clears_upper;
 use crate::bound::same;
@@ -55,6 +58,16 @@ pub fn literal_at(values: &[u64], j: u8) -> Scalar
     Scalar(word_at(values, j as usize))
 }
 
+/// The same, with the number.
+pub fn limit_at(values: &[u64], j: u8) -> Limit
+    ensures { λ r. ⌜ limitOf r ≡ literalAt (now (values .entry)) j ⌝ }
+{
+    Limit {
+        value: literal_at(values, j),
+        line: j as u64,
+    }
+}
+
 // ---- membership
 
 fn is_excluded_by(kinds: &[u8], values: &[u64], j: u8, v: Scalar) -> bool
@@ -67,7 +80,7 @@ fn is_excluded_by(kinds: &[u8], values: &[u64], j: u8, v: Scalar) -> bool
 
 /// Is v an excluded value.
 pub fn excludes(kinds: &[u8], values: &[u64], marks: &[u8], n: usize, v: Scalar) -> bool
-    ensures { λ r. ⌜ r ≡ contains payload (payload .key (v .0)) (excludedBy (now (kinds .entry)) (now (values .entry))
+    ensures { λ r. ⌜ r ≡ contains lined (payload .key (v .0)) (excludedBy (now (kinds .entry)) (now (values .entry))
         (now (marks .entry)) n) ⌝ }
 {
     let mut i: usize = 0;
@@ -132,7 +145,7 @@ pub fn disallows(
     n: usize,
     v: Scalar,
 ) -> bool
-    ensures { λ r. ⌜ r ≡ contains payload (payload .key (v .0))
+    ensures { λ r. ⌜ r ≡ contains lined (payload .key (v .0))
         (disallowedBy (now (kinds .entry)) (now (starts .entry)) (now (counts .entry)) (now (pool .entry))
         (now (marks .entry)) n) ⌝ }
 {
@@ -165,7 +178,7 @@ pub fn allows(
     n: usize,
     v: Scalar,
 ) -> bool
-    ensures { λ r. ⌜ r ≡ isAllowed payload (allowedBy (now (kinds .entry)) (now (starts .entry)) (now (counts .entry))
+    ensures { λ r. ⌜ r ≡ isAllowed lined (allowedBy (now (kinds .entry)) (now (starts .entry)) (now (counts .entry))
         (now (pool .entry)) (now (marks .entry)) n) (payload .key (v .0)) ⌝ }
 {
     let mut i: usize = 0;
@@ -257,7 +270,7 @@ fn allows_at(
 ) -> bool
     requires { ⌜ Indexed (now starts) (now counts) (now pool) (now index) × (p < 2 ^ 34) ⌝ }
     requires { ⌜ Low (now marks) n × KindSet (now kinds) 1 (now marks) n (now allowed) ⌝ }
-    ensures { λ r. ⌜ r ≡ isAllowed payload (allowedBy (now (kinds .entry)) (now (starts .entry)) (now (counts .entry))
+    ensures { λ r. ⌜ r ≡ isAllowed lined (allowedBy (now (kinds .entry)) (now (starts .entry)) (now (counts .entry))
         (now (pool .entry)) (now (marks .entry)) n) (payload .key (valueAt (now (pool .entry)) p)) ⌝ }
 {
     if p < index.len() / 3 {
@@ -281,7 +294,7 @@ fn disallows_at(
 ) -> bool
     requires { ⌜ Indexed (now starts) (now counts) (now pool) (now index) × (p < 2 ^ 34) ⌝ }
     requires { ⌜ Low (now marks) n × KindSet (now kinds) 2 (now marks) n (now disallowed) ⌝ }
-    ensures { λ r. ⌜ r ≡ valueIn (now (pool .entry)) p (disallowedBy (now (kinds .entry)) (now (starts .entry))
+    ensures { λ r. ⌜ r ≡ contains lined (payload .key (valueAt (now (pool .entry)) p)) (disallowedBy (now (kinds .entry)) (now (starts .entry))
         (now (counts .entry)) (now (pool .entry)) (now (marks .entry)) n) ⌝ }
 {
     if p < index.len() / 3 {
@@ -328,7 +341,7 @@ pub fn insert_excluded(
 ) -> ColumnConstraints
     requires { ⌜ Fine (length (now marks)) (now marks) (c .len) × (j < length (now marks)) × (getD (now kinds) j 0 ≡ 0) ⌝ }
     ensures { λ r. ⌜ ((t : Conjuncts) → t .kinds ≡ now (kinds .entry) → t .values ≡ now (values .entry) →
-        columnOf t (numbered (now (marks .exit)) r) ≡ q.put payload (q.Exclude (getD (now (values .entry)) j 0)) (columnOf t (numbered (now (marks .entry)) c))) ⌝ }
+        columnOf t (numbered (now (marks .exit)) r) ≡ q.put lined (q.Exclude (literalAt (now (values .entry)) j)) (columnOf t (numbered (now (marks .entry)) c))) ⌝ }
     ensures { λ r. ⌜ Fine (length (now (marks .entry))) (now (marks .exit)) (r .len) ⌝ }
 {
     let v = literal_at(values, j);
@@ -347,7 +360,7 @@ pub fn add_excluded(
 ) -> ColumnConstraints
     requires { ⌜ Fine (length (now marks)) (now marks) (c .len) × (j < length (now marks)) × (getD (now kinds) j 0 ≡ 0) ⌝ }
     ensures { λ r. ⌜ ((t : Conjuncts) → t .kinds ≡ now (kinds .entry) → t .values ≡ now (values .entry) →
-        columnOf t (numbered (now (marks .exit)) r) ≡ q.addExcluded payload (getD (now (values .entry)) j 0) (columnOf t (numbered (now (marks .entry)) c))) ⌝ }
+        columnOf t (numbered (now (marks .exit)) r) ≡ q.addExcluded lined (literalAt (now (values .entry)) j) (columnOf t (numbered (now (marks .entry)) c))) ⌝ }
     ensures { λ r. ⌜ Fine (length (now (marks .entry))) (now (marks .exit)) (r .len) ⌝ }
 {
     if c.unsat {
@@ -360,9 +373,9 @@ pub fn add_excluded(
 pub fn insert_list(marks: &mut [u8], c: ColumnConstraints, j: u8) -> ColumnConstraints
     requires { ⌜ Fine (length (now marks)) (now marks) (c .len) × (j < length (now marks)) ⌝ }
     ensures { λ r. ⌜ ((t : Conjuncts) → getD (t .kinds) j 0 ≡ 1 →
-        columnOf t (numbered (now (marks .exit)) r) ≡ q.put payload (q.Allow (listOf (t .starts) (t .counts) (t .pool) j)) (columnOf t (numbered (now (marks .entry)) c))) ⌝ }
+        columnOf t (numbered (now (marks .exit)) r) ≡ q.put lined (q.Allow (valuesOf (t .starts) (t .counts) (t .pool) j)) (columnOf t (numbered (now (marks .entry)) c))) ⌝ }
     ensures { λ r. ⌜ ((t : Conjuncts) → getD (t .kinds) j 0 ≡ 2 →
-        columnOf t (numbered (now (marks .exit)) r) ≡ q.put payload (q.Disallow false (listOf (t .starts) (t .counts) (t .pool) j))
+        columnOf t (numbered (now (marks .exit)) r) ≡ q.put lined (q.Disallow false (valuesOf (t .starts) (t .counts) (t .pool) j))
         (columnOf t (numbered (now (marks .entry)) c))) ⌝ }
     ensures { λ r. ⌜ Fine (length (now (marks .entry))) (now (marks .exit)) (r .len) ⌝ }
 {
@@ -375,7 +388,7 @@ pub fn insert_list(marks: &mut [u8], c: ColumnConstraints, j: u8) -> ColumnConst
 pub fn add_allowed(marks: &mut [u8], c: ColumnConstraints, j: u8) -> ColumnConstraints
     requires { ⌜ Fine (length (now marks)) (now marks) (c .len) × (j < length (now marks)) ⌝ }
     ensures { λ r. ⌜ ((t : Conjuncts) → getD (t .kinds) j 0 ≡ 1 →
-        columnOf t (numbered (now (marks .exit)) r) ≡ q.addAllowed payload (listOf (t .starts) (t .counts) (t .pool) j) (columnOf t (numbered (now (marks .entry)) c))) ⌝ }
+        columnOf t (numbered (now (marks .exit)) r) ≡ q.addAllowed lined (valuesOf (t .starts) (t .counts) (t .pool) j) (columnOf t (numbered (now (marks .entry)) c))) ⌝ }
     ensures { λ r. ⌜ Fine (length (now (marks .entry))) (now (marks .exit)) (r .len) ⌝ }
 {
     if c.unsat {
@@ -394,7 +407,7 @@ pub fn add_disallowed(
 ) -> ColumnConstraints
     requires { ⌜ Fine (length (now marks)) (now marks) (c .len) × (j < length (now marks)) ⌝ }
     ensures { λ r. ⌜ ((t : Conjuncts) → t .counts ≡ now (counts .entry) → getD (t .kinds) j 0 ≡ 2 →
-        columnOf t (numbered (now (marks .exit)) r) ≡ q.addDisallowed payload strict (listOf (t .starts) (t .counts) (t .pool) j) (columnOf t (numbered (now (marks .entry)) c))) ⌝ }
+        columnOf t (numbered (now (marks .exit)) r) ≡ q.addDisallowed lined strict (valuesOf (t .starts) (t .counts) (t .pool) j) (columnOf t (numbered (now (marks .entry)) c))) ⌝ }
     ensures { λ r. ⌜ Fine (length (now (marks .entry))) (now (marks .exit)) (r .len) ⌝ }
 {
     if c.unsat {
@@ -415,7 +428,7 @@ pub fn excluded_changes(
     j: u8,
 ) -> bool
     ensures { λ r. ⌜ ((t : Conjuncts) → t .kinds ≡ now (kinds .entry) → t .values ≡ now (values .entry) →
-        r ≡ changesIn (q.Exclude (getD (now (values .entry)) j 0)) (columnOf t (numbered (now (marks .entry)) c))) ⌝ }
+        r ≡ changesIn (q.Exclude (literalAt (now (values .entry)) j)) (columnOf t (numbered (now (marks .entry)) c))) ⌝ }
 {
     if c.unsat {
         return false;
@@ -439,7 +452,7 @@ fn is_outside(
     requires { ⌜ Indexed (now starts) (now counts) (now pool) (now index) × (p < 2 ^ 34) ⌝ }
     requires { ⌜ Low (now marks) n × KindSet (now kinds) 1 (now marks) n (now allowed) ⌝ }
     ensures { λ r. ⌜ r ≡ outside (allowedBy (now (kinds .entry)) (now (starts .entry)) (now (counts .entry))
-        (now (pool .entry)) (now (marks .entry)) n) (listOf (now (starts .entry)) (now (counts .entry))
+        (now (pool .entry)) (now (marks .entry)) n) (valuesOf (now (starts .entry)) (now (counts .entry))
         (now (pool .entry)) j) (valueAt (now (pool .entry)) p) ⌝ }
 {
     if listed_at(index, starts, counts, pool, j, p) {
@@ -465,7 +478,7 @@ fn any_outside(
     requires { ⌜ Low (now marks) n × KindSet (now kinds) 1 (now marks) n (now allowed) ⌝ }
     ensures { λ r. ⌜ r ≡ anyOf (λ (v : ℕ). outside (allowedBy (now (kinds .entry)) (now (starts .entry))
         (now (counts .entry)) (now (pool .entry)) (now (marks .entry)) n)
-        (listOf (now (starts .entry)) (now (counts .entry)) (now (pool .entry)) j) v)
+        (valuesOf (now (starts .entry)) (now (counts .entry)) (now (pool .entry)) j) v)
         (listOf (now (starts .entry)) (now (counts .entry)) (now (pool .entry)) f) ⌝ }
 {
     let s = number_at(starts, f as usize) as usize;
@@ -503,9 +516,9 @@ fn allowed_narrows(
     j: u8,
 ) -> bool
     requires { ⌜ Indexed (now starts) (now counts) (now pool) (now index) × Low (now marks) n ⌝ }
-    ensures { λ r. ⌜ r ≡ q.allowedChanges payload (allowedBy (now (kinds .entry)) (now (starts .entry))
+    ensures { λ r. ⌜ r ≡ q.allowedChanges lined (allowedBy (now (kinds .entry)) (now (starts .entry))
         (now (counts .entry)) (now (pool .entry)) (now (marks .entry)) n)
-        (listOf (now (starts .entry)) (now (counts .entry)) (now (pool .entry)) j) ⌝ }
+        (valuesOf (now (starts .entry)) (now (counts .entry)) (now (pool .entry)) j) ⌝ }
 {
     let mut i: usize = 0;
     while i < n {
@@ -532,7 +545,7 @@ pub fn allowed_changes(
     requires { ⌜ getD (now kinds) j 0 ≡ 1 ⌝ }
     requires { ⌜ Indexed (now starts) (now counts) (now pool) (now index) × Low (now marks) (c .len) ⌝ }
     ensures { λ r. ⌜ ((t : Conjuncts) → Lists t (now (kinds .entry)) (now (starts .entry)) (now (counts .entry))
-        (now (pool .entry)) → r ≡ changesIn (q.Allow (listOf (t .starts) (t .counts) (t .pool) j)) (columnOf t (numbered (now (marks .entry)) c))) ⌝ }
+        (now (pool .entry)) → r ≡ changesIn (q.Allow (valuesOf (t .starts) (t .counts) (t .pool) j)) (columnOf t (numbered (now (marks .entry)) c))) ⌝ }
 {
     if c.unsat {
         return false;
@@ -555,7 +568,7 @@ fn disallowed_widens(
     j: u8,
 ) -> bool
     requires { ⌜ Indexed (now starts) (now counts) (now pool) (now index) × Low (now marks) n ⌝ }
-    ensures { λ r. ⌜ r ≡ not (subset payload (listOf (now (starts .entry)) (now (counts .entry)) (now (pool .entry))
+    ensures { λ r. ⌜ r ≡ not (subset lined (valuesOf (now (starts .entry)) (now (counts .entry)) (now (pool .entry))
         j) (disallowedBy (now (kinds .entry)) (now (starts .entry)) (now (counts .entry)) (now (pool .entry))
         (now (marks .entry)) n)) ⌝ }
 {
@@ -595,7 +608,7 @@ pub fn disallowed_changes(
     requires { ⌜ getD (now kinds) j 0 ≡ 2 ⌝ }
     requires { ⌜ Indexed (now starts) (now counts) (now pool) (now index) × Low (now marks) (c .len) ⌝ }
     ensures { λ r. ⌜ ((t : Conjuncts) → Lists t (now (kinds .entry)) (now (starts .entry)) (now (counts .entry))
-        (now (pool .entry)) → r ≡ changesIn (q.Disallow false (listOf (t .starts) (t .counts) (t .pool) j))
+        (now (pool .entry)) → r ≡ changesIn (q.Disallow false (valuesOf (t .starts) (t .counts) (t .pool) j))
         (columnOf t (numbered (now (marks .entry)) c))) ⌝ }
 {
     if c.unsat {
@@ -626,7 +639,7 @@ fn is_feasible(
     requires { ⌜ Indexed (now starts) (now counts) (now pool) (now index) × (p < 2 ^ 34) ⌝ }
     requires { ⌜ Low (now marks) (c .len) × KindSet (now kinds) 1 (now marks) (c .len) (now allowed)
         × KindSet (now kinds) 2 (now marks) (c .len) (now disallowed) ⌝ }
-    ensures { λ r. ⌜ r ≡ isFeasible payload (columnOf (conjuncts (now (kinds .entry)) (now (values .entry))
+    ensures { λ r. ⌜ r ≡ isFeasible lined (columnOf (conjuncts (now (kinds .entry)) (now (values .entry))
         (now (starts .entry)) (now (counts .entry)) (now (pool .entry))) (numbered (now (marks .entry)) c))
         (payload .key (valueAt (now (pool .entry)) p)) ⌝ }
 {
@@ -671,9 +684,9 @@ fn any_feasible(
     f: u8,
 ) -> bool
     requires { ⌜ Indexed (now starts) (now counts) (now pool) (now index) × Low (now marks) (c .len) ⌝ }
-    ensures { λ r. ⌜ r ≡ anyFeasible payload (columnOf (conjuncts (now (kinds .entry)) (now (values .entry))
+    ensures { λ r. ⌜ r ≡ anyFeasible lined (columnOf (conjuncts (now (kinds .entry)) (now (values .entry))
         (now (starts .entry)) (now (counts .entry)) (now (pool .entry))) (numbered (now (marks .entry)) c))
-        (listOf (now (starts .entry)) (now (counts .entry)) (now (pool .entry)) f) ⌝ }
+        (valuesOf (now (starts .entry)) (now (counts .entry)) (now (pool .entry)) f) ⌝ }
 {
     let allowed = kind_set(kinds, marks, c.len, 1);
     let disallowed = kind_set(kinds, marks, c.len, 2);
@@ -714,7 +727,7 @@ pub fn any_allowed(
 ) -> bool
     requires { ⌜ Indexed (now starts) (now counts) (now pool) (now index) × Low (now marks) (c .len) ⌝ }
     ensures { λ r. ⌜ (let t = conjuncts (now (kinds .entry)) (now (values .entry)) (now (starts .entry))
-        (now (counts .entry)) (now (pool .entry)) in r ≡ allowedFeasible payload (columnOf t (numbered (now (marks .entry)) c))
+        (now (counts .entry)) (now (pool .entry)) in r ≡ allowedFeasible lined (columnOf t (numbered (now (marks .entry)) c))
         (columnOf t (numbered (now (marks .entry)) c) .allowed)) ⌝ }
 {
     let n = c.len;

@@ -5,12 +5,14 @@ ghost use mathlib.Core.List.{List};
 ghost use Prim.Native.Nat.{ℕ, _<_, _≤_};
 ghost use lib.ListN.{length, getD};
 ghost use Rattle.constraints.specs.Column as q;
-ghost use Rattle.constraints.specs.Payload.{payload};
-ghost use Rattle.columns.specs.Abstraction.{Conjuncts, conjuncts, numbered, columnOf, boundOf, listOf, Fine};
+ghost use Rattle.constraints.specs.Lined.{lined};
+ghost use Rattle.columns.specs.Abstraction.{Conjuncts, conjuncts, numbered, columnOf, boundOf, valuesOf, Fine};
+ghost use Rattle.columns.specs.Abstraction.{limitOf, literalAt};
 ghost use Rattle.columns.specs.Index.{Indexed};
 ghost use Rattle.columns.specs.Steps.{Lists, mergingOf, emitting, recording};
 ghost use Rattle.columns.specs.Steps.{takeLower, takeUpper, takeMark, takeMarks};
 use crate::bound::Bound;
+use crate::bound::Limit;
 use crate::bound::is_change;
 use crate::column::ColumnConstraints;
 use crate::column::add_lower;
@@ -24,7 +26,6 @@ use crate::marks::excluded_changes;
 use crate::marks::number_set;
 use records::bytes::byte;
 use sorted::bits::has;
-use truth::scalar::Scalar;
 
 /// A column after a merge. `emitted`: something that is written out again changed; `any`: something changed.
 pub struct Merged {
@@ -33,8 +34,8 @@ pub struct Merged {
     pub any: bool,
 }
 
-fn merge_lower_at(m: Merged, v: Scalar, inclusive: bool) -> Merged
-    ensures { λ r. ⌜ ((t : Conjuncts) (a : List ℕ) → mergingOf t a r ≡ emitting (q.Lower inclusive (v .0)) (mergingOf t a m)) ⌝ }
+fn merge_lower_at(m: Merged, v: Limit, inclusive: bool) -> Merged
+    ensures { λ r. ⌜ ((t : Conjuncts) (a : List ℕ) → mergingOf t a r ≡ emitting (q.Lower inclusive (limitOf v)) (mergingOf t a m)) ⌝ }
     ensures { λ r. ⌜ r .column .len ≡ m .column .len ⌝ }
 {
     let c = m.column;
@@ -48,8 +49,8 @@ fn merge_lower_at(m: Merged, v: Scalar, inclusive: bool) -> Merged
     }
 }
 
-fn merge_upper_at(m: Merged, v: Scalar, inclusive: bool) -> Merged
-    ensures { λ r. ⌜ ((t : Conjuncts) (a : List ℕ) → mergingOf t a r ≡ emitting (q.Upper inclusive (v .0)) (mergingOf t a m)) ⌝ }
+fn merge_upper_at(m: Merged, v: Limit, inclusive: bool) -> Merged
+    ensures { λ r. ⌜ ((t : Conjuncts) (a : List ℕ) → mergingOf t a r ≡ emitting (q.Upper inclusive (limitOf v)) (mergingOf t a m)) ⌝ }
     ensures { λ r. ⌜ r .column .len ≡ m .column .len ⌝ }
 {
     let c = m.column;
@@ -88,7 +89,7 @@ fn merge_upper(m: Merged, b: Bound) -> Merged
 fn merge_excluded(kinds: &[u8], values: &[u64], own: &mut [u8], m: Merged, j: u8) -> Merged
     requires { ⌜ Fine (length (now own)) (now own) (m .column .len) × (j < length (now own)) × (getD (now kinds) j 0 ≡ 0) ⌝ }
     ensures { λ r. ⌜ ((t : Conjuncts) → t .kinds ≡ now (kinds .entry) → t .values ≡ now (values .entry) →
-        mergingOf t (now (own .exit)) r ≡ emitting (q.Exclude (getD (now (values .entry)) j 0)) (mergingOf t (now (own .entry)) m)) ⌝ }
+        mergingOf t (now (own .exit)) r ≡ emitting (q.Exclude (literalAt (now (values .entry)) j)) (mergingOf t (now (own .entry)) m)) ⌝ }
     ensures { λ r. ⌜ Fine (length (now (own .entry))) (now (own .exit)) (r .column .len) ⌝ }
 {
     let c = m.column;
@@ -114,7 +115,7 @@ fn merge_allowed(
     requires { ⌜ Fine (length (now own)) (now own) (m .column .len) × (j < length (now own)) × (getD (now kinds) j 0 ≡ 1) ⌝ }
     requires { ⌜ Indexed (now starts) (now counts) (now pool) (now index) × (length (now own) ≤ 128) ⌝ }
     ensures { λ r. ⌜ ((t : Conjuncts) → Lists t (now (kinds .entry)) (now (starts .entry)) (now (counts .entry))
-        (now (pool .entry)) → mergingOf t (now (own .exit)) r ≡ recording (q.Allow (listOf (t .starts) (t .counts) (t .pool) j))
+        (now (pool .entry)) → mergingOf t (now (own .exit)) r ≡ recording (q.Allow (valuesOf (t .starts) (t .counts) (t .pool) j))
         (mergingOf t (now (own .entry)) m)) ⌝ }
     ensures { λ r. ⌜ Fine (length (now (own .entry))) (now (own .exit)) (r .column .len) ⌝ }
 {
@@ -150,7 +151,7 @@ fn merge_disallowed(
     requires { ⌜ Indexed (now starts) (now counts) (now pool) (now index) × (length (now own) ≤ 128) ⌝ }
     ensures { λ r. ⌜ ((t : Conjuncts) → Lists t (now (kinds .entry)) (now (starts .entry)) (now (counts .entry))
         (now (pool .entry)) → mergingOf t (now (own .exit)) r ≡ recording
-        (q.Disallow false (listOf (t .starts) (t .counts) (t .pool) j)) (mergingOf t (now (own .entry)) m)) ⌝ }
+        (q.Disallow false (valuesOf (t .starts) (t .counts) (t .pool) j)) (mergingOf t (now (own .entry)) m)) ⌝ }
     ensures { λ r. ⌜ Fine (length (now (own .entry))) (now (own .exit)) (r .column .len) ⌝ }
 {
     let c = m.column;
@@ -252,9 +253,9 @@ pub fn merge_from(
     requires { ⌜ Indexed (now starts) (now counts) (now pool) (now index) × (length (now own) ≤ 128) ⌝ }
     ensures { λ r. ⌜ (let t = conjuncts (now (kinds .entry)) (now (values .entry)) (now (starts .entry))
         (now (counts .entry)) (now (pool .entry)) in
-        (columnOf t (numbered (now (own .exit)) (r .column)) ≡ q.mergeFrom payload (columnOf t (numbered (now (own .entry)) c)) (columnOf t (numbered (now (marks .entry)) d))) ×
-        (r .emitted ≡ q.mergeEmitted payload (columnOf t (numbered (now (own .entry)) c)) (columnOf t (numbered (now (marks .entry)) d))) ×
-        (r .any ≡ q.mergeAny payload (columnOf t (numbered (now (own .entry)) c)) (columnOf t (numbered (now (marks .entry)) d)))) ⌝ }
+        (columnOf t (numbered (now (own .exit)) (r .column)) ≡ q.mergeFrom lined (columnOf t (numbered (now (own .entry)) c)) (columnOf t (numbered (now (marks .entry)) d))) ×
+        (r .emitted ≡ q.mergeEmitted lined (columnOf t (numbered (now (own .entry)) c)) (columnOf t (numbered (now (marks .entry)) d))) ×
+        (r .any ≡ q.mergeAny lined (columnOf t (numbered (now (own .entry)) c)) (columnOf t (numbered (now (marks .entry)) d)))) ⌝ }
     ensures { λ r. ⌜ Fine (length (now (own .entry))) (now (own .exit)) (r .column .len) ⌝ }
 {
     let low = d.lower;

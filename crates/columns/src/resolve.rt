@@ -9,14 +9,16 @@ ghost use Rattle.truth.specs.Order.{isEqual};
 ghost use Rattle.constraints.specs.Bound.{at};
 ghost use Rattle.constraints.specs.Column as q;
 ghost use Rattle.constraints.specs.Resolve as z;
-ghost use Rattle.constraints.specs.Payload.{payload};
+ghost use Rattle.constraints.specs.Lined.{lined};
 ghost use Rattle.columns.specs.Abstraction.{Conjuncts, conjuncts, numbered, columnOf, boundOf, fixedOf, Fine};
+ghost use Rattle.columns.specs.Abstraction.{limitOf, literalAt};
 ghost use Rattle.columns.specs.Index.{Indexed, Low};
 ghost use Rattle.columns.specs.Steps.{Lists, applyExcluded, stepExcluded, stepMark, stepMarks, begun};
 ghost use Rattle.constraints.specs.declared.column.ExcludedResolution.the-variants.{Keep};
 ghost use Rattle.constraints.specs.declared.column.ExcludedResolution.the-variants.{TightenLower};
 ghost use Rattle.constraints.specs.declared.column.ExcludedResolution.the-variants.{TightenUpper};
 use crate::bound::Bound;
+use crate::bound::Limit;
 use crate::bound::compare;
 use crate::bound::is_absent;
 use crate::column::ColumnConstraints;
@@ -28,16 +30,15 @@ use crate::marks::disallows;
 use crate::marks::has_kind;
 use crate::marks::insert_excluded;
 use crate::marks::insert_list;
-use crate::marks::literal_at;
+use crate::marks::limit_at;
 use constraints::column::ExcludedResolution;
 use records::bytes::byte;
 use truth::scalar::Ordering;
-use truth::scalar::Scalar;
 
 /// The single value of a closed range that is a point, if the range is one.
 pub enum FixedValue {
     Nothing,
-    At(Scalar),
+    At(Limit),
 }
 
 fn classify_upper_by(o: Ordering, inclusive: bool) -> ExcludedResolution
@@ -54,8 +55,8 @@ fn classify_upper_by(o: Ordering, inclusive: bool) -> ExcludedResolution
     }
 }
 
-fn classify_upper(u: Bound, e: Scalar) -> ExcludedResolution
-    ensures { λ r. ⌜ r ≡ z.classifyUpper payload (boundOf u) (e .0) ⌝ }
+fn classify_upper(u: Bound, e: Limit) -> ExcludedResolution
+    ensures { λ r. ⌜ r ≡ z.classifyUpper lined (boundOf u) (limitOf e) ⌝ }
 {
     match u {
         Bound::Absent => ExcludedResolution::Keep,
@@ -70,8 +71,8 @@ fn classify_upper(u: Bound, e: Scalar) -> ExcludedResolution
     }
 }
 
-fn classify_lower_by(o: Ordering, inclusive: bool, u: Bound, e: Scalar) -> ExcludedResolution
-    ensures { λ r. ⌜ r ≡ z.classifyBy o inclusive TightenLower (z.classifyUpper payload (boundOf u) (e .0)) ⌝ }
+fn classify_lower_by(o: Ordering, inclusive: bool, u: Bound, e: Limit) -> ExcludedResolution
+    ensures { λ r. ⌜ r ≡ z.classifyBy o inclusive TightenLower (z.classifyUpper lined (boundOf u) (limitOf e)) ⌝ }
 {
     match o {
         Ordering::Less => ExcludedResolution::Drop,
@@ -84,8 +85,8 @@ fn classify_lower_by(o: Ordering, inclusive: bool, u: Bound, e: Scalar) -> Exclu
     }
 }
 
-fn classify_at(l: Bound, u: Bound, e: Scalar) -> ExcludedResolution
-    ensures { λ r. ⌜ r ≡ z.classifyAt payload (boundOf l) (boundOf u) (e .0) ⌝ }
+fn classify_at(l: Bound, u: Bound, e: Limit) -> ExcludedResolution
+    ensures { λ r. ⌜ r ≡ z.classifyAt lined (boundOf l) (boundOf u) (limitOf e) ⌝ }
 {
     match l {
         Bound::Absent => classify_upper(u, e),
@@ -100,8 +101,8 @@ fn classify_at(l: Bound, u: Bound, e: Scalar) -> ExcludedResolution
     }
 }
 
-fn fixed_by(o: Ordering, v: Scalar) -> FixedValue
-    ensures { λ r. ⌜ fixedOf r ≡ cond (isEqual o) (some (v .0)) none ⌝ }
+fn fixed_by(o: Ordering, v: Limit) -> FixedValue
+    ensures { λ r. ⌜ fixedOf r ≡ cond (isEqual o) (some (limitOf v)) none ⌝ }
 {
     match o {
         Ordering::Less => FixedValue::Nothing,
@@ -110,8 +111,8 @@ fn fixed_by(o: Ordering, v: Scalar) -> FixedValue
     }
 }
 
-fn fixed_upper(v: Scalar, u: Bound) -> FixedValue
-    ensures { λ r. ⌜ fixedOf r ≡ z.fixedAt payload (at true (v .0)) (boundOf u) ⌝ }
+fn fixed_upper(v: Limit, u: Bound) -> FixedValue
+    ensures { λ r. ⌜ fixedOf r ≡ z.fixedAt lined (at true (limitOf v)) (boundOf u) ⌝ }
 {
     match u {
         Bound::Absent => FixedValue::Nothing,
@@ -124,7 +125,7 @@ fn fixed_upper(v: Scalar, u: Bound) -> FixedValue
 }
 
 fn fixed_at(l: Bound, u: Bound) -> FixedValue
-    ensures { λ r. ⌜ fixedOf r ≡ z.fixedAt payload (boundOf l) (boundOf u) ⌝ }
+    ensures { λ r. ⌜ fixedOf r ≡ z.fixedAt lined (boundOf l) (boundOf u) ⌝ }
 {
     match l {
         Bound::Absent => FixedValue::Nothing,
@@ -135,7 +136,7 @@ fn fixed_at(l: Bound, u: Bound) -> FixedValue
 
 /// The value that the bounds pin the column to.
 pub fn fixed_value(c: ColumnConstraints) -> FixedValue
-    ensures { λ r. ⌜ ((t : Conjuncts) (a : List ℕ) → fixedOf r ≡ z.fixedValue payload (columnOf t (numbered a c))) ⌝ }
+    ensures { λ r. ⌜ ((t : Conjuncts) (a : List ℕ) → fixedOf r ≡ z.fixedValue lined (columnOf t (numbered a c))) ⌝ }
 {
     let low = c.lower;
     let upp = c.upper;
@@ -143,42 +144,68 @@ pub fn fixed_value(c: ColumnConstraints) -> FixedValue
 }
 
 /// What becomes of the excluded value e under the column's bounds.
-pub fn classify_excluded(c: ColumnConstraints, e: Scalar) -> ExcludedResolution
-    ensures { λ r. ⌜ ((t : Conjuncts) (a : List ℕ) → r ≡ z.classifyExcluded payload (columnOf t (numbered a c)) (e .0)) ⌝ }
+pub fn classify_excluded(c: ColumnConstraints, e: Limit) -> ExcludedResolution
+    ensures { λ r. ⌜ ((t : Conjuncts) (a : List ℕ) → r ≡ z.classifyExcluded lined (columnOf t (numbered a c)) (limitOf e)) ⌝ }
 {
     let low = c.lower;
     let upp = c.upper;
     classify_at(low, upp, e)
 }
 
-fn open_lower(c: ColumnConstraints, v: Scalar) -> ColumnConstraints
-    ensures { λ r. ⌜ ((t : Conjuncts) (a : List ℕ) → columnOf t (numbered a r) ≡ q.setLower (at false (v .0)) (columnOf t (numbered a c))) ⌝ }
+fn open_at(w: Limit, v: Limit) -> Bound
+    ensures { λ r. ⌜ boundOf r ≡ at false (lined .opened (limitOf w) (limitOf v)) ⌝ }
+{
+    let value = v.value;
+    let limit = Limit {
+        value: value,
+        line: w.line,
+    };
+    Bound::Open(limit)
+}
+
+// The end on which the excluded value v lies becomes exclusive. It keeps the number of the conjunct that gave it.
+fn opened(b: Bound, v: Limit) -> Bound
+    ensures { λ r. ⌜ boundOf r ≡ z.openAt lined (boundOf b) (limitOf v) ⌝ }
+{
+    match b {
+        Bound::Absent => Bound::Open(v),
+        Bound::Open(w) => open_at(w, v),
+        Bound::Closed(w) => open_at(w, v),
+    }
+}
+
+fn open_lower(c: ColumnConstraints, v: Limit) -> ColumnConstraints
+    ensures { λ r. ⌜ ((t : Conjuncts) (a : List ℕ) → columnOf t (numbered a r) ≡ q.setLower (z.openAt lined (boundOf (c .lower)) (limitOf v)) (columnOf t (numbered a c))) ⌝ }
     ensures { λ r. ⌜ r .len ≡ c .len ⌝ }
 {
+    let low = c.lower;
     let upp = c.upper;
     let nul = c.nullability;
     ColumnConstraints {
-        lower: Bound::Open(v),
+        lower: opened(low, v),
         upper: upp,
         len: c.len,
         strict: c.strict,
         nullability: nul,
+        since: c.since,
         unsat: c.unsat,
     }
 }
 
-fn open_upper(c: ColumnConstraints, v: Scalar) -> ColumnConstraints
-    ensures { λ r. ⌜ ((t : Conjuncts) (a : List ℕ) → columnOf t (numbered a r) ≡ q.setUpper (at false (v .0)) (columnOf t (numbered a c))) ⌝ }
+fn open_upper(c: ColumnConstraints, v: Limit) -> ColumnConstraints
+    ensures { λ r. ⌜ ((t : Conjuncts) (a : List ℕ) → columnOf t (numbered a r) ≡ q.setUpper (z.openAt lined (boundOf (c .upper)) (limitOf v)) (columnOf t (numbered a c))) ⌝ }
     ensures { λ r. ⌜ r .len ≡ c .len ⌝ }
 {
     let low = c.lower;
+    let upp = c.upper;
     let nul = c.nullability;
     ColumnConstraints {
         lower: low,
-        upper: Bound::Open(v),
+        upper: opened(upp, v),
         len: c.len,
         strict: c.strict,
         nullability: nul,
+        since: c.since,
         unsat: c.unsat,
     }
 }
@@ -192,10 +219,10 @@ fn apply_excluded(
 ) -> ColumnConstraints
     requires { ⌜ Fine (length (now own)) (now own) (c .len) × (j < length (now own)) × (getD (now kinds) j 0 ≡ 0) ⌝ }
     ensures { λ r. ⌜ ((t : Conjuncts) → t .kinds ≡ now (kinds .entry) → t .values ≡ now (values .entry) →
-        columnOf t (numbered (now (own .exit)) r) ≡ applyExcluded (getD (now (values .entry)) j 0) (columnOf t (numbered (now (own .entry)) c))) ⌝ }
+        columnOf t (numbered (now (own .exit)) r) ≡ applyExcluded (literalAt (now (values .entry)) j) (columnOf t (numbered (now (own .entry)) c))) ⌝ }
     ensures { λ r. ⌜ Fine (length (now (own .entry))) (now (own .exit)) (r .len) ⌝ }
 {
-    let v = literal_at(values, j);
+    let v = limit_at(values, j);
     let f = classify_excluded(c, v);
     match f {
         ExcludedResolution::Drop => c,
@@ -215,7 +242,7 @@ fn step_excluded(
 ) -> ColumnConstraints
     requires { ⌜ Fine (length (now own)) (now own) (c .len) × (j < length (now own)) × (getD (now kinds) j 0 ≡ 0) ⌝ }
     ensures { λ r. ⌜ ((t : Conjuncts) → t .kinds ≡ now (kinds .entry) → t .values ≡ now (values .entry) →
-        columnOf t (numbered (now (own .exit)) r) ≡ stepExcluded (getD (now (values .entry)) j 0) (columnOf t (numbered (now (own .entry)) c))) ⌝ }
+        columnOf t (numbered (now (own .exit)) r) ≡ stepExcluded (literalAt (now (values .entry)) j) (columnOf t (numbered (now (own .entry)) c))) ⌝ }
     ensures { λ r. ⌜ Fine (length (now (own .entry))) (now (own .exit)) (r .len) ⌝ }
 {
     if c.unsat {
@@ -263,6 +290,7 @@ fn begin_walk(c: ColumnConstraints) -> ColumnConstraints
         len: 0,
         strict: c.strict,
         nullability: nul,
+        since: c.since,
         unsat: false,
     }
 }
@@ -330,12 +358,12 @@ fn fixed_disallowed(
     c: ColumnConstraints,
 ) -> bool
     ensures { λ r. ⌜ ((t : Conjuncts) → Lists t (now (kinds .entry)) (now (starts .entry)) (now (counts .entry))
-        (now (pool .entry)) → r ≡ z.fixedDisallowed payload (columnOf t (numbered (now (marks .entry)) c)) (z.fixedValue payload (columnOf t (numbered (now (marks .entry)) c)))) ⌝ }
+        (now (pool .entry)) → r ≡ z.fixedDisallowed lined (columnOf t (numbered (now (marks .entry)) c)) (z.fixedValue lined (columnOf t (numbered (now (marks .entry)) c)))) ⌝ }
 {
     let f = fixed_value(c);
     match f {
         FixedValue::Nothing => false,
-        FixedValue::At(v) => disallows(kinds, starts, counts, pool, marks, c.len, v),
+        FixedValue::At(v) => disallows(kinds, starts, counts, pool, marks, c.len, v.value),
     }
 }
 
@@ -352,7 +380,7 @@ fn with_lists(
 ) -> ColumnConstraints
     requires { ⌜ Indexed (now starts) (now counts) (now pool) (now index) × Low (now marks) (c .len) ⌝ }
     ensures { λ r. ⌜ (let t = conjuncts (now (kinds .entry)) (now (values .entry)) (now (starts .entry))
-        (now (counts .entry)) (now (pool .entry)) in columnOf t (numbered (now (marks .entry)) r) ≡ z.withLists payload (columnOf t (numbered (now (marks .entry)) c))) ⌝ }
+        (now (counts .entry)) (now (pool .entry)) in columnOf t (numbered (now (marks .entry)) r) ≡ z.withLists lined (columnOf t (numbered (now (marks .entry)) c))) ⌝ }
     ensures { λ r. ⌜ r .len ≡ c .len ⌝ }
 {
     if c.unsat {
@@ -377,7 +405,7 @@ pub fn resolve_deferred(
     requires { ⌜ Fine (length (now own)) (now own) (c .len) × (length (now own) ≤ 128) ⌝ }
     requires { ⌜ Indexed (now starts) (now counts) (now pool) (now index) ⌝ }
     ensures { λ r. ⌜ (let t = conjuncts (now (kinds .entry)) (now (values .entry)) (now (starts .entry))
-        (now (counts .entry)) (now (pool .entry)) in columnOf t (numbered (now (own .exit)) r) ≡ z.resolveDeferred payload (columnOf t (numbered (now (own .entry)) c))) ⌝ }
+        (now (counts .entry)) (now (pool .entry)) in columnOf t (numbered (now (own .exit)) r) ≡ z.resolveDeferred lined (columnOf t (numbered (now (own .entry)) c))) ⌝ }
     ensures { λ r. ⌜ Fine (length (now (own .entry))) (now (own .exit)) (r .len) ⌝ }
 {
     let conflict = null_conflict(kinds, own, c);

@@ -7,3 +7,6 @@ pub mod Resolves
 pub mod Resolved
 pub mod Facts
 pub mod Cases
+pub mod Carried
+pub mod LineKept
+pub mod HoldsFirst

@@ -6,3 +6,6 @@ pub mod Column
 pub mod Resolve
 pub mod Comparisons
 pub mod Payload
+pub mod Lined
+pub mod Mapped
+pub mod LineKept

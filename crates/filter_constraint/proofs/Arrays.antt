@@ -11,6 +11,7 @@ use lib.Dec.{eqb}
 use borrow.Author.Tests.{eqb-true, eqb-false, ne-eqb}
 use Rattle.records.proofs.Laws.{by-test, cond-yes}
 use Rattle.constraints.specs.Column as q
+use Rattle.constraints.specs.Lined.{Lined}
 use Rattle.columns.specs.Abstraction.{Conjuncts, numbered, columnOf, Fine}
 use Rattle.columns.specs.declared.column.ColumnConstraints.{ColumnConstraints}
 use Rattle.merge.specs.Collect.{isIn, enter, update}
@@ -122,8 +123,8 @@ module _ (order : List ℕ) (columns : ℕ) (seen : List Bool) (l : List ℕ) (a
 
 -- ---- a column stored
 pub shows-set :
-    (t : Conjuncts) (table : List ColumnConstraints) (ms ms′ : List ℕ) (T : ℕ → q.ColumnConstraints ℕ) (a : ℕ)
-    (c : ColumnConstraints) (x : q.ColumnConstraints ℕ) → Shows t table ms T → a < 64 → RowsKept ms ms′ a
+    (t : Conjuncts) (table : List ColumnConstraints) (ms ms′ : List ℕ) (T : ℕ → q.ColumnConstraints Lined) (a : ℕ)
+    (c : ColumnConstraints) (x : q.ColumnConstraints Lined) → Shows t table ms T → a < 64 → RowsKept ms ms′ a
     → columnOf t (numbered (rowOf ms′ a) c) ≡ x → Fine (stride ms′) (rowOf ms′ a) (c .len)
     → Shows t (set table a c) ms′ (update T a x)
 shows-set t table ms ms′ T a c x S la K e f =

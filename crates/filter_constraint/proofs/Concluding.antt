@@ -12,6 +12,7 @@ use Rattle.truth.specs.AExpr.{AExpr}
 use Rattle.constraints.specs.Column as q
 use Rattle.constraints.specs.Comparisons.{ColumnComparison, collectColumnComparisons}
 use Rattle.constraints.specs.Payload.{payload}
+use Rattle.constraints.specs.Lined.{Lined, lined}
 use Rattle.constraints.specs.Resolve.{resolveDeferred}
 use Rattle.constraints.specs.Values.{isEmpty}
 use Rattle.columns.specs.Abstraction.{Conjuncts, columnOf, Fine}
@@ -26,7 +27,6 @@ use Rattle.merge.specs.Write.{writeComparisons, outcomeBytes}
 use Rattle.merge.specs.Rewrite.{writtenIf}
 use Rattle.merge.specs.declared.answer.RewriteAnswer.{RewriteAnswer}
 use Rattle.merge.specs.declared.answer.RewriteAnswer.the-variants as answer
-use Rattle.merge.specs.declared.answer.Rewriting.{Rewriting}
 use Rattle.reading.specs.Walk.{firstOf}
 use Rattle.rewrite.specs.Written.{chainAt, andsTo}
 use Rattle.stages.specs.Reckon.{reckoned, reckonedAnswer}
@@ -34,14 +34,17 @@ use Rattle.stages.specs.Rewritten.{isRewritten}
 use Rattle.stages.specs.Rows.{stride, rowOf}
 use Rattle.filter_constraint.specs.State.{columnAt, ColumnTable, Shows, Entered, Keeps, Edges, edgesOf, Collects, collectTo}
 use Rattle.filter_constraint.specs.Words.{pastColumn}
-use Rattle.filter_constraint.specs.State.{Spread, Kept, resolveAll, resolvedIn, Resolved, shown, Written}
+use Rattle.filter_constraint.specs.State.{Spread, Kept, resolveAll, resolvedIn, Resolved, shown, bitsOf, Written}
 use Rattle.stages.proofs.Answers.{chain-written, chain-unwritten}
+use Rattle.merge.specs.Lines.{mapOutcome}
 use Rattle.merge.proofs.Compared.{rebuilt-compares}
+use Rattle.merge.proofs.Carried.{carried, carried-passes}
 use Rattle.reading.proofs.Walks.{first-length}
 use Rattle.filter_constraint.proofs.Arrays.{low-slot}
 use Rattle.stages.proofs.Chains.{chain-bytes, chain-not-empty}
 use Rattle.stages.proofs.Reckons.{ChainRoom, rewritten-room}
 use Rattle.filter_constraint.proofs.Resolving.{comparisons-more, comparisons-upto, comparisons-agree, in-first, same-comparisons}
+use Rattle.filter_constraint.proofs.Resolving.{bits-length}
 
 -- The outcome for the first n nodes of an array.
 abbrev pub outcomeTo : (ℕ → AExpr ℕ) → List ℕ → ℕ → Outcome ℕ
@@ -60,51 +63,44 @@ answered-as t rs trees used o o′ r out e h = subst (λ x. Answered t rs trees 
 abbrev pub passesTo : (ℕ → AExpr ℕ) → List ℕ → ℕ → ℕ
 passesTo R nodes n = mergePasses payload (map (classify R) (firstOf nodes n))
 
--- The answer and the passes as one.
-pub answered-with : (t rs trees : List ℕ) (used : ℕ) (o : Outcome ℕ) (a : RewriteAnswer) (k n : ℕ) (r : Rewriting) (out : List ℕ)
-    → r .answer ≡ a → r .passes ≡ k → Answered t rs trees used o a out → k ≡ n
-    → (r .answer ≡ reckonedAnswer (length rs) trees used o)
-    × ((out ≡ writtenIf (r .answer) rs (outcomeBytes t rs used o)) × (r .passes ≡ n))
-answered-with t rs trees used o a k n r out ea ek h p = (
-  ea ∙ h .0,
-  (h .1 ∙ ap (λ x. writtenIf x rs (outcomeBytes t rs used o)) (sym ea), ek ∙ p),
-)
+-- ---- The lines change neither the outcome nor the passes.
+abbrev pub withoutLines : Outcome Lined → Outcome ℕ
+withoutLines o = mapOutcome (λ (v : Lined). v .bits) o
 
-outcome-by : (s : Collected ℕ) (x y : Bool) → (s .unsat || anyUnsat (s .order) (resolved payload s)) ≡ x
-    → rewrites payload s ≡ y → conclude payload s ≡ cond x NothingPasses (cond y (rebuilt payload s) Unchanged)
+pub passes-is : (R : ℕ → AExpr ℕ) (nodes : List ℕ) (n : ℕ) → passesOf lined (collectTo R nodes n) ≡ passesTo R nodes n
+unfolding collectTo
+passes-is R nodes n = carried-passes (map (classify R) (firstOf nodes n))
+
+pub outcome-is : (R : ℕ → AExpr ℕ) (nodes : List ℕ) (n : ℕ)
+    → outcomeTo R nodes n ≡ withoutLines (conclude lined (collectTo R nodes n))
+unfolding collectTo
+outcome-is R nodes n = sym (carried (map (classify R) (firstOf nodes n)))
+
+outcome-by : (s : Collected Lined) (x y : Bool) → (s .unsat || anyUnsat (s .order) (resolved lined s)) ≡ x
+    → rewrites lined s ≡ y → conclude lined s ≡ cond x NothingPasses (cond y (rebuilt lined s) Unchanged)
 outcome-by s x y ex ey =
-    ap (λ b. cond b NothingPasses (cond (rewrites payload s) (rebuilt payload s) Unchanged)) ex ∙
-    ap (λ b. cond x NothingPasses (cond b (rebuilt payload s) Unchanged)) ey
+    ap (λ b. cond b NothingPasses (cond (rewrites lined s) (rebuilt lined s) Unchanged)) ex ∙
+    ap (λ b. cond x NothingPasses (cond b (rebuilt lined s) Unchanged)) ey
 
 pub conclude-stopped : (R : ℕ → AExpr ℕ) (nodes : List ℕ) (n : ℕ) (b : Bool) → b ≡ collectTo R nodes n .unsat → b ≡ true
     → outcomeTo R nodes n ≡ NothingPasses
-unfolding collectTo
-conclude-stopped R nodes n b e h = stopped (collectTo R nodes n) (sym e ∙ h)
+conclude-stopped R nodes n b e h = outcome-is R nodes n ∙ ap withoutLines (stopped (collectTo R nodes n) (sym e ∙ h))
   where
-    stopped : (s : Collected ℕ) → s .unsat ≡ true → conclude payload s ≡ NothingPasses
+    stopped : (s : Collected Lined) → s .unsat ≡ true → conclude lined s ≡ NothingPasses
     stopped s h =
-        outcome-by s true (rewrites payload s) (ap (λ b. b || anyUnsat (s .order) (resolved payload s)) h) refl
+        outcome-by s true (rewrites lined s) (ap (λ b. b || anyUnsat (s .order) (resolved lined s)) h) refl
 
 pub passes-stopped : (R : ℕ → AExpr ℕ) (nodes : List ℕ) (n : ℕ) (b : Bool) → b ≡ collectTo R nodes n .unsat → b ≡ true
     → 0 ≡ passesTo R nodes n
-unfolding collectTo
-passes-stopped R nodes n b e h = stopped (collectTo R nodes n) (sym e ∙ h)
+passes-stopped R nodes n b e h = stopped (collectTo R nodes n) (sym e ∙ h) ∙ passes-is R nodes n
   where
-    stopped : (s : Collected ℕ) → s .unsat ≡ true → 0 ≡ passesOf payload s
-    stopped s h = sym (ap (λ b. cond b 0 (passesMade payload (length (s .order)) (s .edges) (s .constraints))) h)
-
-pub passes-is : (R : ℕ → AExpr ℕ) (nodes : List ℕ) (n : ℕ) → passesOf payload (collectTo R nodes n) ≡ passesTo R nodes n
-unfolding collectTo
-passes-is R nodes n = refl
-
-pub outcome-is : (R : ℕ → AExpr ℕ) (nodes : List ℕ) (n : ℕ) → outcomeTo R nodes n ≡ conclude payload (collectTo R nodes n)
-unfolding collectTo
-outcome-is R nodes n = refl
+    stopped : (s : Collected Lined) → s .unsat ≡ true → 0 ≡ passesOf lined s
+    stopped s h = sym (ap (λ b. cond b 0 (passesMade lined (length (s .order)) (s .edges) (s .constraints))) h)
 
 -- ---- The ends of the loops behind collecting.
 module _ (t : Conjuncts) (table₁ table₂ table₃ : List ColumnConstraints) (ms₁ ms₂ ms₃ : List ℕ) (seen : List Bool) (order : List ℕ)
     (columns : ℕ) (kept₁ : List ℕ) (keeps₁ : ℕ) (kept : List ℕ) (keeps : ℕ) (lefts rights equals : List ℕ)
-    (edges bounds : ℕ) (normalized stop : Bool) (s : Collected ℕ)
+    (edges bounds : ℕ) (normalized stop : Bool) (s : Collected Lined)
     (C : Collects t table₁ ms₁ seen order columns kept₁ keeps₁ lefts rights equals edges bounds normalized stop s)
     (live : stop ≡ false) (emitted : Bool) (passes : ℕ)
     (spread : (T : ColumnTable) (equals : List ℕ) → Shows t table₁ ms₁ T
@@ -120,30 +116,30 @@ module _ (t : Conjuncts) (table₁ table₂ table₃ : List ColumnConstraints) (
   at-end : Spread t table₂ ms₂ (edgesOf lefts rights equals edges) columns emitted passes (s .constraints)
   at-end = spread (s .constraints) equals (C .shows)
 
-  spread-shown : Shows t table₂ ms₂ (propagated payload s)
+  spread-shown : Shows t table₂ ms₂ (propagated lined s)
   spread-shown =
       subst (Shows t table₂ ms₂)
-      (ap (λ k. propagate payload k (edgesOf lefts rights equals edges) (s .constraints)) columns-are
-      ∙ ap (λ es. propagate payload (length (s .order)) es (s .constraints)) (C .linked .listed)) (at-end .shows)
+      (ap (λ k. propagate lined k (edgesOf lefts rights equals edges) (s .constraints)) columns-are
+      ∙ ap (λ es. propagate lined (length (s .order)) es (s .constraints)) (C .linked .listed)) (at-end .shows)
 
-  spread-emitted : emitted ≡ propagateEmitted payload (length (s .order)) (s .edges) (s .constraints)
+  spread-emitted : emitted ≡ propagateEmitted lined (length (s .order)) (s .edges) (s .constraints)
   spread-emitted =
       at-end .emits
-      ∙ ap (λ k. propagateEmitted payload k (edgesOf lefts rights equals edges) (s .constraints)) columns-are
-      ∙ ap (λ es. propagateEmitted payload (length (s .order)) es (s .constraints)) (C .linked .listed)
+      ∙ ap (λ k. propagateEmitted lined k (edgesOf lefts rights equals edges) (s .constraints)) columns-are
+      ∙ ap (λ es. propagateEmitted lined (length (s .order)) es (s .constraints)) (C .linked .listed)
 
-  pub passes-are : passes ≡ passesOf payload s
+  pub passes-are : passes ≡ passesOf lined s
   passes-are =
       at-end .counts
-      ∙ ap (λ k. passesMade payload k (edgesOf lefts rights equals edges) (s .constraints)) columns-are
-      ∙ ap (λ es. passesMade payload (length (s .order)) es (s .constraints)) (C .linked .listed)
-      ∙ ap (λ b. cond b 0 (passesMade payload (length (s .order)) (s .edges) (s .constraints))) (sym live ∙ C .stops)
+      ∙ ap (λ k. passesMade lined k (edgesOf lefts rights equals edges) (s .constraints)) columns-are
+      ∙ ap (λ es. passesMade lined (length (s .order)) es (s .constraints)) (C .linked .listed)
+      ∙ ap (λ b. cond b 0 (passesMade lined (length (s .order)) (s .edges) (s .constraints))) (sym live ∙ C .stops)
 
-  K : Kept (propagated payload s) (edgesOf lefts rights equals edges) kept keeps dropped (s .opaque)
-  K = keeping t ms₂ (propagated payload s) (s .opaque) rights spread-shown (C .keeping)
+  K : Kept (propagated lined s) (edgesOf lefts rights equals edges) kept keeps dropped (s .opaque)
+  K = keeping t ms₂ (propagated lined s) (s .opaque) rights spread-shown (C .keeping)
 
-  Q : Resolved t table₃ ms₃ (firstOf order columns) false unsat total (propagated payload s)
-  Q = resolving (propagated payload s) spread-shown
+  Q : Resolved t table₃ ms₃ (firstOf order columns) false unsat total (propagated lined s)
+  Q = resolving (propagated lined s) spread-shown
 
   edges-are : edgesOf lefts rights equals edges ≡ s .edges
   edges-are = C .linked .listed
@@ -151,90 +147,100 @@ module _ (t : Conjuncts) (table₁ table₂ table₃ : List ColumnConstraints) (
   order-is : firstOf order columns ≡ s .order
   order-is = C .entered .listed
 
-  kept-are : firstOf kept keeps ≡ s .opaque ++ keptEqualities payload (propagated payload s) (s .edges)
-  kept-are = K .keeping .listed ∙ ap (λ es. s .opaque ++ keptEqualities payload (propagated payload s) es) edges-are
+  kept-are : firstOf kept keeps ≡ s .opaque ++ keptEqualities lined (propagated lined s) (s .edges)
+  kept-are = K .keeping .listed ∙ ap (λ es. s .opaque ++ keptEqualities lined (propagated lined s) es) edges-are
 
-  dropped-is : dropped ≡ droppedEquality payload (propagated payload s) (s .edges)
-  dropped-is = K .drops ∙ ap (droppedEquality payload (propagated payload s)) edges-are
+  dropped-is : dropped ≡ droppedEquality lined (propagated lined s) (s .edges)
+  dropped-is = K .drops ∙ ap (droppedEquality lined (propagated lined s)) edges-are
 
-  unsat-is : unsat ≡ (s .unsat || anyUnsat (s .order) (resolved payload s))
+  unsat-is : unsat ≡ (s .unsat || anyUnsat (s .order) (resolved lined s))
   unsat-is =
-      Q .stops ∙ ap (λ l. anyUnsat l (resolved payload s)) order-is
-      ∙ ap (λ b. b || anyUnsat (s .order) (resolved payload s)) (sym live ∙ C .stops)
+      Q .stops ∙ ap (λ l. anyUnsat l (resolved lined s)) order-is
+      ∙ ap (λ b. b || anyUnsat (s .order) (resolved lined s)) (sym live ∙ C .stops)
 
   -- what the array of resolved columns is written out as
   written-comparisons :
-      comparisons payload (firstOf order columns) (shown t table₃ ms₃) ≡
-      comparisons payload (s .order) (resolved payload s)
+      comparisons lined (firstOf order columns) (shown t table₃ ms₃) ≡
+      comparisons lined (s .order) (resolved lined s)
   written-comparisons =
-      comparisons-agree order (shown t table₃ ms₃) (resolved payload s) columns
+      comparisons-agree order (shown t table₃ ms₃) (resolved lined s) columns
       (λ w h. Q .shows .column (getD order w 0) (C .entered .low w h)
-      ∙ ap (λ b. cond b (resolved payload s (getD order w 0)) (propagated payload s (getD order w 0)))
+      ∙ ap (λ b. cond b (resolved lined s (getD order w 0)) (propagated lined s (getD order w 0)))
       (in-first order w columns h))
-      ∙ ap (λ l. comparisons payload l (resolved payload s)) (C .entered .listed)
+      ∙ ap (λ l. comparisons lined l (resolved lined s)) (C .entered .listed)
 
-  resolved-count : total ≡ length (comparisons payload (s .order) (resolved payload s))
-  resolved-count = Q .counted ∙ ap (λ l. length (comparisons payload l (resolved payload s))) order-is
+  resolved-count : total ≡ length (comparisons lined (s .order) (resolved lined s))
+  resolved-count = Q .counted ∙ ap (λ l. length (comparisons lined l (resolved lined s))) order-is
 
-  pub total-is : total ≡ length (comparisons payload (firstOf order columns) (shown t table₃ ms₃))
+  pub total-is : total ≡ length (comparisons lined (firstOf order columns) (shown t table₃ ms₃))
   total-is = resolved-count ∙ ap length (sym written-comparisons)
 
   pub resolved-fine : (a : ℕ) → a < 64 → Fine (stride ms₃) (rowOf ms₃ a) (getD table₃ a pastColumn .len)
   resolved-fine = Q .shows .fine
 
-  rewrites-is : (ltb total bounds || (normalized || (emitted || dropped))) ≡ rewrites payload s
+  rewrites-is : (ltb total bounds || (normalized || (emitted || dropped))) ≡ rewrites lined s
   rewrites-is =
-      let n = length (comparisons payload (s .order) (resolved payload s)) in
+      let n = length (comparisons lined (s .order) (resolved lined s)) in
       ap (λ k. ltb k bounds || (normalized || (emitted || dropped))) resolved-count
       ∙ ap (λ k. ltb n k || (normalized || (emitted || dropped))) (C .bounded)
       ∙ ap (λ b. ltb n (s .boundConjuncts) || (b || (emitted || dropped))) (C .turned)
       ∙ ap (λ b. ltb n (s .boundConjuncts) || (s .normalized || (b || dropped))) spread-emitted
       ∙ ap (λ b. ltb n (s .boundConjuncts)
-      || (s .normalized || (propagateEmitted payload (length (s .order)) (s .edges) (s .constraints) || b))) dropped-is
+      || (s .normalized || (propagateEmitted lined (length (s .order)) (s .edges) (s .constraints) || b))) dropped-is
 
-  pub conclude-dead : unsat ≡ true → conclude payload s ≡ NothingPasses
-  conclude-dead h = outcome-by s true (rewrites payload s) (sym unsat-is ∙ h) refl
+  pub conclude-dead : unsat ≡ true → withoutLines (conclude lined s) ≡ NothingPasses
+  conclude-dead h = ap withoutLines (outcome-by s true (rewrites lined s) (sym unsat-is ∙ h) refl)
 
   pub conclude-same : unsat ≡ false → not (ltb total bounds || (normalized || (emitted || dropped))) ≡ true
-      → conclude payload s ≡ Unchanged
+      → withoutLines (conclude lined s) ≡ Unchanged
   conclude-same h r =
-      outcome-by s false false (sym unsat-is ∙ h)
-      (sym rewrites-is ∙ not-true (ltb total bounds || (normalized || (emitted || dropped))) r)
+      ap withoutLines (outcome-by s false false (sym unsat-is ∙ h)
+      (sym rewrites-is ∙ not-true (ltb total bounds || (normalized || (emitted || dropped))) r))
 
-  pub conclude-rebuilt : unsat ≡ false → not (ltb total bounds || (normalized || (emitted || dropped))) ≡ false
-      → conclude payload s ≡
-      Rebuilt (firstOf kept keeps) (comparisons payload (firstOf order columns) (shown t table₃ ms₃))
-  conclude-rebuilt h r =
+  pub conclude-lined : unsat ≡ false → not (ltb total bounds || (normalized || (emitted || dropped))) ≡ false
+      → conclude lined s ≡
+      Rebuilt (firstOf kept keeps) (comparisons lined (firstOf order columns) (shown t table₃ ms₃))
+  conclude-lined h r =
       outcome-by s false true (sym unsat-is ∙ h)
       (sym rewrites-is ∙ not-false (ltb total bounds || (normalized || (emitted || dropped))) r)
-      ∙ ap (λ l. Rebuilt l (comparisons payload (s .order) (resolved payload s))) (sym kept-are)
+      ∙ ap (λ l. Rebuilt l (comparisons lined (s .order) (resolved lined s))) (sym kept-are)
       ∙ ap (Rebuilt (firstOf kept keeps)) (sym written-comparisons)
 
+  pub conclude-rebuilt : unsat ≡ false → not (ltb total bounds || (normalized || (emitted || dropped))) ≡ false
+      → withoutLines (conclude lined s) ≡
+      Rebuilt (firstOf kept keeps) (bitsOf (comparisons lined (firstOf order columns) (shown t table₃ ms₃)))
+  conclude-rebuilt h r = ap withoutLines (conclude-lined h r)
+
 -- A rebuilt chain has a comparison.
-pub compared-some : (R : ℕ → AExpr ℕ) (nodes : List ℕ) (n : ℕ) (ns : List ℕ) (cs : List (ℕ × ColumnComparison ℕ))
-    (total : ℕ) → outcomeTo R nodes n ≡ Rebuilt ns cs → total ≡ length cs → 0 < total
-compared-some R nodes n ns cs total e et = go cs (rebuilt-compares payload R (firstOf nodes n) ns cs e) et
+pub compared-some : (R : ℕ → AExpr ℕ) (nodes : List ℕ) (n : ℕ) (ns : List ℕ) (cs : List (ℕ × ColumnComparison Lined))
+    (total : ℕ) → conclude lined (collectTo R nodes n) ≡ Rebuilt ns cs → total ≡ length cs → 0 < total
+compared-some R nodes n ns cs total e et =
+    go (bitsOf cs) (rebuilt-compares payload R (firstOf nodes n) ns (bitsOf cs)
+    (outcome-is R nodes n ∙ ap withoutLines e)) (et ∙ sym (bits-length cs))
   where
     go : (l : List (ℕ × ColumnComparison ℕ)) → isEmpty l ≡ false → total ≡ length l → 0 < total
     go [] f q = absurd (true≢false f)
     go (x ∷ l) f q = omega (arith, q)
 
 -- ---- The answers for a rebuilt chain: refused, or written.
-module _ (t rs trees : List ℕ) (used : ℕ) (kept : List ℕ) (keeps total : ℕ) (cs : List (ℕ × ColumnComparison ℕ))
+module _ (t rs trees : List ℕ) (used : ℕ) (kept : List ℕ) (keeps total : ℕ) (cs : List (ℕ × ColumnComparison Lined))
     (r : RewriteAnswer) (er : r ≡ reckoned (length rs) trees used (firstOf kept keeps) total) (et : total ≡ length cs)
     (b : Bool) (eb : b ≡ isRewritten r) where
-  answer-is : r ≡ reckoned (length rs) trees used (firstOf kept keeps) (length cs)
-  answer-is = er ∙ ap (reckoned (length rs) trees used (firstOf kept keeps)) et
+  count-is : total ≡ length (bitsOf cs)
+  count-is = et ∙ sym (bits-length cs)
+
+  answer-is : r ≡ reckoned (length rs) trees used (firstOf kept keeps) (length (bitsOf cs))
+  answer-is = er ∙ ap (reckoned (length rs) trees used (firstOf kept keeps)) count-is
 
   flag-is : b ≡ isRewritten (reckoned (length rs) trees used (firstOf kept keeps) total)
   flag-is = eb ∙ ap isRewritten er
 
-  pub chain-refused : not b ≡ true → Answered t rs trees used (Rebuilt (firstOf kept keeps) cs) r rs
+  pub chain-refused : not b ≡ true → Answered t rs trees used (Rebuilt (firstOf kept keeps) (bitsOf cs)) r rs
   chain-refused h = (
     answer-is,
-    sym (ap (λ x. writtenIf x rs (outcomeBytes t rs used (Rebuilt (firstOf kept keeps) cs))) er
+    sym (ap (λ x. writtenIf x rs (outcomeBytes t rs used (Rebuilt (firstOf kept keeps) (bitsOf cs)))) er
         ∙ chain-unwritten (length rs) trees used (firstOf kept keeps) total rs
-        (outcomeBytes t rs used (Rebuilt (firstOf kept keeps) cs)) (sym flag-is ∙ not-true b h)),
+        (outcomeBytes t rs used (Rebuilt (firstOf kept keeps) (bitsOf cs))) (sym flag-is ∙ not-true b h)),
   )
 
   module _ (h : not b ≡ false) (some : 0 < total) where
@@ -251,47 +257,44 @@ module _ (t rs trees : List ℕ) (used : ℕ) (kept : List ℕ) (keeps total : �
 
     pub chain-answered : (u : ℕ) (written out : List ℕ) → Written t used rs cs u written
         → out ≡ andsTo (chainAt kept keeps used) u (keeps + total - 1) written
-        → Answered t rs trees used (Rebuilt (firstOf kept keeps) cs) r out
+        → Answered t rs trees used (Rebuilt (firstOf kept keeps) (bitsOf cs)) r out
     chain-answered u written out W eo = (
       answer-is,
       eo
-          ∙ ap (λ v. andsTo (chainAt kept keeps used) v (keeps + total - 1) written) (W .end)
-          ∙ ap (andsTo (chainAt kept keeps used) (used + 3 * length cs) (keeps + total - 1)) (W .bytes)
-          ∙ ap (λ m. andsTo (chainAt kept keeps used) (used + 3 * length cs) (keeps + m - 1) (writeComparisons t used cs rs)) et
-          ∙ chain-bytes t rs kept keeps used (firstOf kept keeps) cs refl
-          (chain-not-empty used (firstOf kept keeps) cs full)
-          ∙ sym (ap (λ x. writtenIf x rs (outcomeBytes t rs used (Rebuilt (firstOf kept keeps) cs))) er
+          ∙ ap (λ v. andsTo (chainAt kept keeps used) v (keeps + total - 1) written)
+          (W .end ∙ ap (λ k. used + 3 * k) (sym (bits-length cs)))
+          ∙ ap (andsTo (chainAt kept keeps used) (used + 3 * length (bitsOf cs)) (keeps + total - 1)) (W .bytes)
+          ∙ ap (λ m. andsTo (chainAt kept keeps used) (used + 3 * length (bitsOf cs)) (keeps + m - 1)
+          (writeComparisons t used (bitsOf cs) rs)) count-is
+          ∙ chain-bytes t rs kept keeps used (firstOf kept keeps) (bitsOf cs) refl
+          (chain-not-empty used (firstOf kept keeps) (bitsOf cs) full)
+          ∙ sym (ap (λ x. writtenIf x rs (outcomeBytes t rs used (Rebuilt (firstOf kept keeps) (bitsOf cs)))) er
           ∙ chain-written (length rs) trees used (firstOf kept keeps) total rs
-          (outcomeBytes t rs used (Rebuilt (firstOf kept keeps) cs)) (sym flag-is ∙ not-false b h)),
+          (outcomeBytes t rs used (Rebuilt (firstOf kept keeps) (bitsOf cs))) (sym flag-is ∙ not-false b h)),
     )
       where
-        full : 0 < length (firstOf kept keeps) + length cs
-        full = rw (← et) (omega (arith, some))
+        full : 0 < length (firstOf kept keeps) + length (bitsOf cs)
+        full = rw (← count-is) (omega (arith, some))
 
 -- The comparisons read kinds and values only.
 comparisons-same : (s s′ : Conjuncts) (table : List ColumnConstraints) (ms : List ℕ) (l : List ℕ) → s .kinds ≡ s′ .kinds
-    → s .values ≡ s′ .values → comparisons payload l (shown s table ms) ≡ comparisons payload l (shown s′ table ms)
+    → s .values ≡ s′ .values → comparisons lined l (shown s table ms) ≡ comparisons lined l (shown s′ table ms)
 comparisons-same s s′ table ms [] ek ev = refl
 comparisons-same s s′ table ms (a ∷ l) ek ev =
-    ap (λ k. ofColumn a k ++ comparisons payload l (shown s table ms)) (same-comparisons s s′ (columnAt table ms a) ek ev)
-    ∙ ap (λ k. ofColumn a (collectColumnComparisons payload (shown s′ table ms a)) ++ k) (comparisons-same s s′ table ms l ek ev)
+    ap (λ k. ofColumn a k ++ comparisons lined l (shown s table ms)) (same-comparisons s s′ (columnAt table ms a) ek ev)
+    ∙ ap (λ k. ofColumn a (collectColumnComparisons lined (shown s′ table ms a)) ++ k) (comparisons-same s s′ table ms l ek ev)
 
--- What `write_comparisons` asks.
-pub room-asked : (s s′ : Conjuncts) (table : List ColumnConstraints) (ms order : List ℕ) (columns used total keeps len : ℕ)
-    → total ≡ length (comparisons payload (firstOf order columns) (shown s table ms))
-    → (used + 3 * total + (keeps + total - 1) ≤ 4096) × (16 * (used + 3 * total + (keeps + total - 1)) ≤ len)
-    × (0 < keeps + total) → s′ .kinds ≡ s .kinds → s′ .values ≡ s .values
-    → (used + 3 * length (comparisons payload (firstOf order columns) (shown s′ table ms)) ≤ 4096)
-    × (16 * (used + 3 * length (comparisons payload (firstOf order columns) (shown s′ table ms))) ≤ len)
-room-asked s s′ table ms order columns used total keeps len et room ek ev =
-    let e : total ≡ length (comparisons payload (firstOf order columns) (shown s′ table ms)) =
-    et ∙ ap length (sym (comparisons-same s′ s table ms (firstOf order columns) ek ev)) in
-    let a = room .0 in
-    let b = room .1 in (omega (arith, e, a), omega (arith, e, b))
+-- The count of the comparisons, under any conjuncts of the same kinds and values.
+pub total-same : (s s′ : Conjuncts) (table : List ColumnConstraints) (ms order : List ℕ) (columns total : ℕ)
+    → total ≡ length (comparisons lined (firstOf order columns) (shown s table ms))
+    → s′ .kinds ≡ s .kinds → s′ .values ≡ s .values
+    → total ≡ length (comparisons lined (firstOf order columns) (shown s′ table ms))
+total-same s s′ table ms order columns total et ek ev =
+    et ∙ ap length (sym (comparisons-same s′ s table ms (firstOf order columns) ek ev))
 
 -- What `write_ands` asks.
 pub ands-asked :
-    (t : List ℕ) (used : ℕ) (cs : List (ℕ × ColumnComparison ℕ)) (sent rs : List ℕ) (u total keeps : ℕ)
+    (t : List ℕ) (used : ℕ) (cs : List (ℕ × ColumnComparison Lined)) (sent rs : List ℕ) (u total keeps : ℕ)
     → Written t used sent cs u rs → total ≡ length cs
     → (used + 3 * total + (keeps + total - 1) ≤ 4096) × (16 * (used + 3 * total + (keeps + total - 1)) ≤ length sent)
     × (0 < keeps + total)

@@ -15,11 +15,11 @@ use Rattle.columns.specs.declared.bound.Bound.{Bound}
 use Rattle.columns.specs.declared.bound.Bound.the-variants.{Absent, Open, Closed}
 use Rattle.columns.specs.declared.column.ColumnConstraints.{ColumnConstraints}
 use Rattle.stages.specs.Rows.{stride, rowOf, RowsKept}
-use Rattle.filter_constraint.specs.Words.{pastColumn, kindWord, valueWord, nullWord, flagWord, boundFrom, nullFrom}
+use Rattle.filter_constraint.specs.Words.{pastColumn, kindWord, valueWord, lineWord, nullWord, flagWord, boundFrom, nullFrom}
 use Rattle.filter_constraint.specs.Words.{columnFrom, wordsOf, columnsTo, columnsOf}
 
 -- ---- a column and its words
-bound-back : (b : Bound) → boundFrom (kindWord b) (valueWord b) ≡ b
+bound-back : (b : Bound) → boundFrom (kindWord b) (valueWord b) (lineWord b) ≡ b
 bound-back Absent = refl
 bound-back (Open s) = refl
 bound-back (Closed s) = refl
@@ -92,7 +92,7 @@ column-stored ws ws′ x c h K e = ext-getD pastColumn (columnsOf ws′) (set (c
         ∙ sym (getD-set-other (columnsOf ws) x i c pastColumn d))
 
 -- A table of zeros holds empty columns.
-pub columns-empty : columnsOf (replicate 512 0) ≡ replicate 64 pastColumn
+pub columns-empty : columnsOf (replicate 704 0) ≡ replicate 64 pastColumn
 unfolding columnsOf columnsTo columnFrom rowOf
 columns-empty = refl
 
@@ -106,20 +106,23 @@ pub loads-other : (ws ws′ : List ℕ) (x y : ℕ) (c : ColumnConstraints) → 
     → getD (columnsOf ws′) y pastColumn ≡ getD (columnsOf ws) y pastColumn
 loads-other ws ws′ x y c d e = ap (λ t. getD t y pastColumn) e ∙ getD-set-other (columnsOf ws) x y c pastColumn d
 
-pub loads-empty : (x : ℕ) → x < 64 → getD (columnsOf (replicate 512 0)) x pastColumn ≡ pastColumn
+pub loads-empty : (x : ℕ) → x < 64 → getD (columnsOf (replicate 704 0)) x pastColumn ≡ pastColumn
 loads-empty x h = ap (λ t. getD t x pastColumn) columns-empty ∙ getD-replicate 64 x pastColumn pastColumn h
 
--- ---- eight words written
-pub eight-set : (l : List ℕ) (a b c d e f g h : ℕ) → length l ≡ 8
-    → set (set (set (set (set (set (set (set l 0 a) 1 b) 2 c) 3 d) 4 e) 5 f) 6 g) 7 h
-    ≡ (a ∷ b ∷ c ∷ d ∷ e ∷ f ∷ g ∷ h ∷ [])
-eight-set [] a b c d e f g h p = absurd (omega (arith, p))
-eight-set (x0 ∷ []) a b c d e f g h p = absurd (omega (arith, p))
-eight-set (x0 ∷ x1 ∷ []) a b c d e f g h p = absurd (omega (arith, p))
-eight-set (x0 ∷ x1 ∷ x2 ∷ []) a b c d e f g h p = absurd (omega (arith, p))
-eight-set (x0 ∷ x1 ∷ x2 ∷ x3 ∷ []) a b c d e f g h p = absurd (omega (arith, p))
-eight-set (x0 ∷ x1 ∷ x2 ∷ x3 ∷ x4 ∷ []) a b c d e f g h p = absurd (omega (arith, p))
-eight-set (x0 ∷ x1 ∷ x2 ∷ x3 ∷ x4 ∷ x5 ∷ []) a b c d e f g h p = absurd (omega (arith, p))
-eight-set (x0 ∷ x1 ∷ x2 ∷ x3 ∷ x4 ∷ x5 ∷ x6 ∷ []) a b c d e f g h p = absurd (omega (arith, p))
-eight-set (x0 ∷ x1 ∷ x2 ∷ x3 ∷ x4 ∷ x5 ∷ x6 ∷ x7 ∷ []) a b c d e f g h p = refl
-eight-set (x0 ∷ x1 ∷ x2 ∷ x3 ∷ x4 ∷ x5 ∷ x6 ∷ x7 ∷ x8 ∷ l) a b c d e f g h p = absurd (omega (arith, p))
+-- ---- eleven words written
+pub eleven-set : (l : List ℕ) (a b c d e f g h i j k : ℕ) → length l ≡ 11
+    → set (set (set (set (set (set (set (set (set (set (set l 0 a) 1 b) 2 c) 3 d) 4 e) 5 f) 6 g) 7 h) 8 i) 9 j) 10 k
+    ≡ (a ∷ b ∷ c ∷ d ∷ e ∷ f ∷ g ∷ h ∷ i ∷ j ∷ k ∷ [])
+eleven-set [] a b c d e f g h i j k p = absurd (omega (arith, p))
+eleven-set (x0 ∷ []) a b c d e f g h i j k p = absurd (omega (arith, p))
+eleven-set (x0 ∷ x1 ∷ []) a b c d e f g h i j k p = absurd (omega (arith, p))
+eleven-set (x0 ∷ x1 ∷ x2 ∷ []) a b c d e f g h i j k p = absurd (omega (arith, p))
+eleven-set (x0 ∷ x1 ∷ x2 ∷ x3 ∷ []) a b c d e f g h i j k p = absurd (omega (arith, p))
+eleven-set (x0 ∷ x1 ∷ x2 ∷ x3 ∷ x4 ∷ []) a b c d e f g h i j k p = absurd (omega (arith, p))
+eleven-set (x0 ∷ x1 ∷ x2 ∷ x3 ∷ x4 ∷ x5 ∷ []) a b c d e f g h i j k p = absurd (omega (arith, p))
+eleven-set (x0 ∷ x1 ∷ x2 ∷ x3 ∷ x4 ∷ x5 ∷ x6 ∷ []) a b c d e f g h i j k p = absurd (omega (arith, p))
+eleven-set (x0 ∷ x1 ∷ x2 ∷ x3 ∷ x4 ∷ x5 ∷ x6 ∷ x7 ∷ []) a b c d e f g h i j k p = absurd (omega (arith, p))
+eleven-set (x0 ∷ x1 ∷ x2 ∷ x3 ∷ x4 ∷ x5 ∷ x6 ∷ x7 ∷ x8 ∷ []) a b c d e f g h i j k p = absurd (omega (arith, p))
+eleven-set (x0 ∷ x1 ∷ x2 ∷ x3 ∷ x4 ∷ x5 ∷ x6 ∷ x7 ∷ x8 ∷ x9 ∷ []) a b c d e f g h i j k p = absurd (omega (arith, p))
+eleven-set (x0 ∷ x1 ∷ x2 ∷ x3 ∷ x4 ∷ x5 ∷ x6 ∷ x7 ∷ x8 ∷ x9 ∷ x10 ∷ []) a b c d e f g h i j k p = refl
+eleven-set (x0 ∷ x1 ∷ x2 ∷ x3 ∷ x4 ∷ x5 ∷ x6 ∷ x7 ∷ x8 ∷ x9 ∷ x10 ∷ x11 ∷ l) a b c d e f g h i j k p = absurd (omega (arith, p))

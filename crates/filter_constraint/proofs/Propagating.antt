@@ -14,7 +14,7 @@ use borrow.Author.Tests.{eq-eqb, ne-eqb, eqb-true, eqb-false, lt-ltb, ltb-false}
 use Rattle.records.proofs.Laws.{by-test, cond-yes}
 use Rattle.constraints.specs.Column as q
 use Rattle.constraints.specs.Column.{mergeFrom, mergeEmitted, mergeAny}
-use Rattle.constraints.specs.Payload.{payload}
+use Rattle.constraints.specs.Lined.{Lined, lined}
 use Rattle.constraints.specs.Values.{isEmpty}
 use Rattle.columns.specs.Abstraction.{Conjuncts, numbered, columnOf, Fine}
 use Rattle.columns.specs.declared.column.ColumnConstraints.{ColumnConstraints}
@@ -32,23 +32,23 @@ pub edge-self : (t : Conjuncts) (table : List ColumnConstraints) (ms : List ℕ)
 edge-self t table ms T a b x y S la lb ex ey h =
     let e : eqb a b ≡ true = eq-eqb a b (sym (low-slot a x la ex) ∙ h ∙ low-slot b y lb ey) in
     record {
-      shows = subst (λ o. Shows t table ms (mergeEdgeIf payload o a b T)) (sym e) S;
-      emits = sym (ap (λ o. edgeEmittedIf payload o a b T) e);
-      changes = sym (ap (λ o. edgeAnyIf payload o a b T) e);
+      shows = subst (λ o. Shows t table ms (mergeEdgeIf lined o a b T)) (sym e) S;
+      emits = sym (ap (λ o. edgeEmittedIf lined o a b T) e);
+      changes = sym (ap (λ o. edgeAnyIf lined o a b T) e);
     }
 
 -- the two columns merged both ways: f is the right one as it becomes, g the left one; the tables and rows then
 at-two : (t : Conjuncts) (table : List ColumnConstraints) (ms ms₁ ms₂ : List ℕ) (T : ColumnTable) (a b : ℕ)
     (f g : ColumnConstraints) (em en an ao : Bool) → Shows t table ms T → a < 64 → b < 64 → (a ≡ b → ⊥)
     → columnOf t (numbered (rowOf ms₁ b) f) ≡
-    mergeFrom payload (columnOf t (columnAt table ms b)) (columnOf t (columnAt table ms a))
-    → em ≡ mergeEmitted payload (columnOf t (columnAt table ms b)) (columnOf t (columnAt table ms a))
-    → an ≡ mergeAny payload (columnOf t (columnAt table ms b)) (columnOf t (columnAt table ms a))
+    mergeFrom lined (columnOf t (columnAt table ms b)) (columnOf t (columnAt table ms a))
+    → em ≡ mergeEmitted lined (columnOf t (columnAt table ms b)) (columnOf t (columnAt table ms a))
+    → an ≡ mergeAny lined (columnOf t (columnAt table ms b)) (columnOf t (columnAt table ms a))
     → Fine (stride ms₁) (rowOf ms₁ b) (f .len) → RowsKept ms ms₁ b
     → columnOf t (numbered (rowOf ms₂ a) g) ≡
-    mergeFrom payload (columnOf t (columnAt table ms₁ a)) (columnOf t (numbered (rowOf ms₁ b) f))
-    → en ≡ mergeEmitted payload (columnOf t (columnAt table ms₁ a)) (columnOf t (numbered (rowOf ms₁ b) f))
-    → ao ≡ mergeAny payload (columnOf t (columnAt table ms₁ a)) (columnOf t (numbered (rowOf ms₁ b) f))
+    mergeFrom lined (columnOf t (columnAt table ms₁ a)) (columnOf t (numbered (rowOf ms₁ b) f))
+    → en ≡ mergeEmitted lined (columnOf t (columnAt table ms₁ a)) (columnOf t (numbered (rowOf ms₁ b) f))
+    → ao ≡ mergeAny lined (columnOf t (columnAt table ms₁ a)) (columnOf t (numbered (rowOf ms₁ b) f))
     → Fine (stride ms₂) (rowOf ms₂ a) (g .len) → RowsKept ms₁ ms₂ a
     → EdgeMerged t (set (set table b f) a g) ms₂ a b (em || en) (an || ao) T
 at-two t table ms ms₁ ms₂ T a b f g em en an ao S la lb h ec fe fa fc K ed ge ga fd L =
@@ -57,29 +57,29 @@ at-two t table ms ms₁ ms₂ T a b f g em en an ao S la lb h ec fe fa fc K ed g
     let sb : columnOf t (columnAt table ms b) ≡ T b = S .column b lb in
     let sc : columnOf t (columnAt table ms₁ a) ≡ T a =
     ap (λ r. columnOf t (numbered r (getD table a pastColumn))) (K .others a la (ne-eqb b a n)) ∙ sa in
-    let right : columnOf t (numbered (rowOf ms₁ b) f) ≡ mergedRight payload a b T =
-    ec ∙ ap (λ x. mergeFrom payload x (columnOf t (columnAt table ms a))) sb
-    ∙ ap (mergeFrom payload (T b)) sa in
-    let left : columnOf t (numbered (rowOf ms₂ a) g) ≡ mergedLeft payload a b T =
-    ed ∙ ap (λ x. mergeFrom payload x (columnOf t (numbered (rowOf ms₁ b) f))) sc
-    ∙ ap (mergeFrom payload (T a)) right in
+    let right : columnOf t (numbered (rowOf ms₁ b) f) ≡ mergedRight lined a b T =
+    ec ∙ ap (λ x. mergeFrom lined x (columnOf t (columnAt table ms a))) sb
+    ∙ ap (mergeFrom lined (T b)) sa in
+    let left : columnOf t (numbered (rowOf ms₂ a) g) ≡ mergedLeft lined a b T =
+    ed ∙ ap (λ x. mergeFrom lined x (columnOf t (numbered (rowOf ms₁ b) f))) sc
+    ∙ ap (mergeFrom lined (T a)) right in
     let e : eqb a b ≡ false = ne-eqb a b h in
     record {
-      shows = subst (λ o. Shows t (set (set table b f) a g) ms₂ (mergeEdgeIf payload o a b T)) (sym e)
-          (shows-set t (set table b f) ms₁ ms₂ (update T b (mergedRight payload a b T)) a g (mergedLeft payload a b T)
-          (shows-set t table ms ms₁ T b f (mergedRight payload a b T) S lb K right fc) la L left fd);
-      emits = ap (λ x. x || en) (fe ∙ ap (λ x. mergeEmitted payload x (columnOf t (columnAt table ms a))) sb
-          ∙ ap (mergeEmitted payload (T b)) sa)
-          ∙ ap (λ x. mergeEmitted payload (T b) (T a) || x)
-          (ge ∙ ap (λ x. mergeEmitted payload x (columnOf t (numbered (rowOf ms₁ b) f))) sc
-          ∙ ap (mergeEmitted payload (T a)) right)
-          ∙ sym (ap (λ o. edgeEmittedIf payload o a b T) e);
-      changes = ap (λ x. x || ao) (fa ∙ ap (λ x. mergeAny payload x (columnOf t (columnAt table ms a))) sb
-          ∙ ap (mergeAny payload (T b)) sa)
-          ∙ ap (λ x. mergeAny payload (T b) (T a) || x)
-          (ga ∙ ap (λ x. mergeAny payload x (columnOf t (numbered (rowOf ms₁ b) f))) sc
-          ∙ ap (mergeAny payload (T a)) right)
-          ∙ sym (ap (λ o. edgeAnyIf payload o a b T) e);
+      shows = subst (λ o. Shows t (set (set table b f) a g) ms₂ (mergeEdgeIf lined o a b T)) (sym e)
+          (shows-set t (set table b f) ms₁ ms₂ (update T b (mergedRight lined a b T)) a g (mergedLeft lined a b T)
+          (shows-set t table ms ms₁ T b f (mergedRight lined a b T) S lb K right fc) la L left fd);
+      emits = ap (λ x. x || en) (fe ∙ ap (λ x. mergeEmitted lined x (columnOf t (columnAt table ms a))) sb
+          ∙ ap (mergeEmitted lined (T b)) sa)
+          ∙ ap (λ x. mergeEmitted lined (T b) (T a) || x)
+          (ge ∙ ap (λ x. mergeEmitted lined x (columnOf t (numbered (rowOf ms₁ b) f))) sc
+          ∙ ap (mergeEmitted lined (T a)) right)
+          ∙ sym (ap (λ o. edgeEmittedIf lined o a b T) e);
+      changes = ap (λ x. x || ao) (fa ∙ ap (λ x. mergeAny lined x (columnOf t (columnAt table ms a))) sb
+          ∙ ap (mergeAny lined (T b)) sa)
+          ∙ ap (λ x. mergeAny lined (T b) (T a) || x)
+          (ga ∙ ap (λ x. mergeAny lined x (columnOf t (numbered (rowOf ms₁ b) f))) sc
+          ∙ ap (mergeAny lined (T a)) right)
+          ∙ sym (ap (λ o. edgeAnyIf lined o a b T) e);
     }
 
 -- the same, as the code has it: x and y are the places, c and d the columns loaded, table₁ and table₂ what is stored
@@ -87,14 +87,14 @@ pub edge-two : (t : Conjuncts) (table table₁ table₂ : List ColumnConstraints
     (a b x y : ℕ) (c d f g : ColumnConstraints) (em en an ao : Bool) → Shows t table ms T → a < 64 → b < 64
     → x ≡ a % 64 → y ≡ b % 64 → (x ≡ y → ⊥) → c ≡ getD table x pastColumn → d ≡ getD table y pastColumn
     → (columnOf t (numbered (rowOf ms₁ y) f) ≡
-    mergeFrom payload (columnOf t (numbered (rowOf ms y) d)) (columnOf t (numbered (rowOf ms x) c)))
-    × (em ≡ mergeEmitted payload (columnOf t (numbered (rowOf ms y) d)) (columnOf t (numbered (rowOf ms x) c)))
-    × (an ≡ mergeAny payload (columnOf t (numbered (rowOf ms y) d)) (columnOf t (numbered (rowOf ms x) c)))
+    mergeFrom lined (columnOf t (numbered (rowOf ms y) d)) (columnOf t (numbered (rowOf ms x) c)))
+    × (em ≡ mergeEmitted lined (columnOf t (numbered (rowOf ms y) d)) (columnOf t (numbered (rowOf ms x) c)))
+    × (an ≡ mergeAny lined (columnOf t (numbered (rowOf ms y) d)) (columnOf t (numbered (rowOf ms x) c)))
     → Fine (stride ms₁) (rowOf ms₁ y) (f .len) → RowsKept ms ms₁ y → table₁ ≡ set table y f
     → (columnOf t (numbered (rowOf ms₂ x) g) ≡
-    mergeFrom payload (columnOf t (numbered (rowOf ms₁ x) c)) (columnOf t (numbered (rowOf ms₁ y) f)))
-    × (en ≡ mergeEmitted payload (columnOf t (numbered (rowOf ms₁ x) c)) (columnOf t (numbered (rowOf ms₁ y) f)))
-    × (ao ≡ mergeAny payload (columnOf t (numbered (rowOf ms₁ x) c)) (columnOf t (numbered (rowOf ms₁ y) f)))
+    mergeFrom lined (columnOf t (numbered (rowOf ms₁ x) c)) (columnOf t (numbered (rowOf ms₁ y) f)))
+    × (en ≡ mergeEmitted lined (columnOf t (numbered (rowOf ms₁ x) c)) (columnOf t (numbered (rowOf ms₁ y) f)))
+    × (ao ≡ mergeAny lined (columnOf t (numbered (rowOf ms₁ x) c)) (columnOf t (numbered (rowOf ms₁ y) f)))
     → Fine (stride ms₂) (rowOf ms₂ x) (g .len) → RowsKept ms₁ ms₂ x → table₂ ≡ set table₁ x g
     → EdgeMerged t table₂ ms₂ a b (em || en) (an || ao) T
 edge-two t table table₁ table₂ ms ms₁ ms₂ T a b x y c d f g em en an ao S la lb ex ey h hc hd ec fc K h₁ ed fd L h₂ =
@@ -114,33 +114,33 @@ or-assoc true y z = refl
 or-assoc false y z = refl
 
 pass-snoc : (es : List (ℕ × ℕ × ℕ)) (e : ℕ × ℕ × ℕ) (T : ColumnTable)
-    → pass payload (es ++ (e ∷ [])) T ≡ mergeEdge payload (e .0) (e .1) (pass payload es T)
+    → pass lined (es ++ (e ∷ [])) T ≡ mergeEdge lined (e .0) (e .1) (pass lined es T)
 pass-snoc [] e T = refl
-pass-snoc (f ∷ es) e T = pass-snoc es e (mergeEdge payload (f .0) (f .1) T)
+pass-snoc (f ∷ es) e T = pass-snoc es e (mergeEdge lined (f .0) (f .1) T)
 
 any-snoc : (es : List (ℕ × ℕ × ℕ)) (e : ℕ × ℕ × ℕ) (T : ColumnTable)
-    → passAny payload (es ++ (e ∷ [])) T ≡
-    (passAny payload es T || edgeAny payload (e .0) (e .1) (pass payload es T))
-any-snoc [] e T = or-false (edgeAny payload (e .0) (e .1) T)
+    → passAny lined (es ++ (e ∷ [])) T ≡
+    (passAny lined es T || edgeAny lined (e .0) (e .1) (pass lined es T))
+any-snoc [] e T = or-false (edgeAny lined (e .0) (e .1) T)
 any-snoc (f ∷ es) e T =
-    ap (λ b. edgeAny payload (f .0) (f .1) T || b)
-    (any-snoc es e (mergeEdge payload (f .0) (f .1) T))
-    ∙ or-assoc (edgeAny payload (f .0) (f .1) T)
-    (passAny payload es (mergeEdge payload (f .0) (f .1) T))
-    (edgeAny payload (e .0) (e .1)
-    (pass payload es (mergeEdge payload (f .0) (f .1) T)))
+    ap (λ b. edgeAny lined (f .0) (f .1) T || b)
+    (any-snoc es e (mergeEdge lined (f .0) (f .1) T))
+    ∙ or-assoc (edgeAny lined (f .0) (f .1) T)
+    (passAny lined es (mergeEdge lined (f .0) (f .1) T))
+    (edgeAny lined (e .0) (e .1)
+    (pass lined es (mergeEdge lined (f .0) (f .1) T)))
 
 emitted-snoc : (es : List (ℕ × ℕ × ℕ)) (e : ℕ × ℕ × ℕ) (T : ColumnTable)
-    → passEmitted payload (es ++ (e ∷ [])) T ≡
-    (passEmitted payload es T || edgeEmitted payload (e .0) (e .1) (pass payload es T))
-emitted-snoc [] e T = or-false (edgeEmitted payload (e .0) (e .1) T)
+    → passEmitted lined (es ++ (e ∷ [])) T ≡
+    (passEmitted lined es T || edgeEmitted lined (e .0) (e .1) (pass lined es T))
+emitted-snoc [] e T = or-false (edgeEmitted lined (e .0) (e .1) T)
 emitted-snoc (f ∷ es) e T =
-    ap (λ b. edgeEmitted payload (f .0) (f .1) T || b)
-    (emitted-snoc es e (mergeEdge payload (f .0) (f .1) T))
-    ∙ or-assoc (edgeEmitted payload (f .0) (f .1) T)
-    (passEmitted payload es (mergeEdge payload (f .0) (f .1) T))
-    (edgeEmitted payload (e .0) (e .1)
-    (pass payload es (mergeEdge payload (f .0) (f .1) T)))
+    ap (λ b. edgeEmitted lined (f .0) (f .1) T || b)
+    (emitted-snoc es e (mergeEdge lined (f .0) (f .1) T))
+    ∙ or-assoc (edgeEmitted lined (f .0) (f .1) T)
+    (passEmitted lined es (mergeEdge lined (f .0) (f .1) T))
+    (edgeEmitted lined (e .0) (e .1)
+    (pass lined es (mergeEdge lined (f .0) (f .1) T)))
 
 -- ---- a pass, edge by edge
 pub merged-none : (t : Conjuncts) (table : List ColumnConstraints) (ms : List ℕ) (lefts rights equals : List ℕ)
@@ -156,41 +156,41 @@ unfolding edgesOf
 merged-more t table table′ ms ms′ lefts rights equals e emitted any em an T M E =
     let es : List (ℕ × ℕ × ℕ) = edgesOf lefts rights equals e in
     let k : ℕ × ℕ × ℕ = (getD lefts e 0, getD rights e 0, getD equals e 0) in
-    let U : ColumnTable = pass payload es T in
+    let U : ColumnTable = pass lined es T in
     let X = E U (M .shows) in
     rw (add-one)
     (record {
       shows = subst (Shows t table′ ms′) (sym (pass-snoc es k T)) (X .shows);
-      emits = ap (λ b. b || em) (M .emits) ∙ ap (λ b. passEmitted payload es T || b) (X .emits) ∙ sym (emitted-snoc es k T);
-      changes = ap (λ b. b || an) (M .changes) ∙ ap (λ b. passAny payload es T || b) (X .changes) ∙ sym (any-snoc es k T);
+      emits = ap (λ b. b || em) (M .emits) ∙ ap (λ b. passEmitted lined es T || b) (X .emits) ∙ sym (emitted-snoc es k T);
+      changes = ap (λ b. b || an) (M .changes) ∙ ap (λ b. passAny lined es T || b) (X .changes) ∙ sym (any-snoc es k T);
     })
 
 -- ---- the passes
 times-snoc : (p : ℕ) (es : List (ℕ × ℕ × ℕ)) (T : ColumnTable)
-    → passTimes payload (suc p) es T ≡ pass payload es (passTimes payload p es T)
+    → passTimes lined (suc p) es T ≡ pass lined es (passTimes lined p es T)
 times-snoc zero es T = refl
-times-snoc (suc p) es T = times-snoc p es (pass payload es T)
+times-snoc (suc p) es T = times-snoc p es (pass lined es T)
 
 -- without equalities no pass is made, and none would change anything
 passed-some : (t : Conjuncts) (table : List ColumnConstraints) (ms : List ℕ) (es : List (ℕ × ℕ × ℕ)) (n : ℕ) (T : ColumnTable)
     → Shows t table ms T → Passed t table ms es n 0 false (not (isEmpty es)) T
 passed-some t table ms [] n T S = record { shows = S; left = still n; emits = quiet n; counts = refl }
   where
-    still : (n : ℕ) → T ≡ propagate payload n [] T
+    still : (n : ℕ) → T ≡ propagate lined n [] T
     still zero = refl
     still (suc n) = refl
 
-    quiet : (n : ℕ) → false ≡ propagateEmitted payload n [] T
+    quiet : (n : ℕ) → false ≡ propagateEmitted lined n [] T
     quiet zero = refl
     quiet (suc n) = refl
 passed-some t table ms (e ∷ es) n T S =
     let z : n - 0 ≡ n = omega arith in
-    let c : 0 + passCount payload (n - 0) (e ∷ es) T ≡ passCount payload (n - 0) (e ∷ es) T = omega arith in
+    let c : 0 + passCount lined (n - 0) (e ∷ es) T ≡ passCount lined (n - 0) (e ∷ es) T = omega arith in
     record {
       shows = S;
-      left = ap (λ k. propagate payload k (e ∷ es) T) z;
-      emits = ap (λ k. propagateEmitted payload k (e ∷ es) T) z;
-      counts = c ∙ ap (λ k. passCount payload k (e ∷ es) T) z;
+      left = ap (λ k. propagate lined k (e ∷ es) T) z;
+      emits = ap (λ k. propagateEmitted lined k (e ∷ es) T) z;
+      counts = c ∙ ap (λ k. passCount lined k (e ∷ es) T) z;
     }
 
 edges-some : (lefts rights equals : List ℕ) (edges : ℕ) → ltb 0 edges ≡ not (isEmpty (edgesOf lefts rights equals edges))
@@ -211,19 +211,19 @@ passed-none t table ms lefts rights equals edges n T S =
     (sym (edges-some lefts rights equals edges)) (passed-some t table ms (edgesOf lefts rights equals edges) n T S)
 
 -- a pass that is not the last
-propagate-by : (b : Bool) (m : ℕ) (es : List (ℕ × ℕ × ℕ)) (T : ColumnTable) → passAny payload es T ≡ b
-    → propagate payload (suc m) es T ≡ cond b (propagate payload m es (pass payload es T)) (pass payload es T)
-propagate-by b m es T e = ap (λ x. cond x (propagate payload m es (pass payload es T)) (pass payload es T)) e
+propagate-by : (b : Bool) (m : ℕ) (es : List (ℕ × ℕ × ℕ)) (T : ColumnTable) → passAny lined es T ≡ b
+    → propagate lined (suc m) es T ≡ cond b (propagate lined m es (pass lined es T)) (pass lined es T)
+propagate-by b m es T e = ap (λ x. cond x (propagate lined m es (pass lined es T)) (pass lined es T)) e
 
-emitted-by : (b : Bool) (m : ℕ) (es : List (ℕ × ℕ × ℕ)) (T : ColumnTable) → passAny payload es T ≡ b
-    → propagateEmitted payload (suc m) es T ≡
-    (passEmitted payload es T || cond b (propagateEmitted payload m es (pass payload es T)) false)
+emitted-by : (b : Bool) (m : ℕ) (es : List (ℕ × ℕ × ℕ)) (T : ColumnTable) → passAny lined es T ≡ b
+    → propagateEmitted lined (suc m) es T ≡
+    (passEmitted lined es T || cond b (propagateEmitted lined m es (pass lined es T)) false)
 emitted-by b m es T e =
-    ap (λ x. passEmitted payload es T || cond x (propagateEmitted payload m es (pass payload es T)) false) e
+    ap (λ x. passEmitted lined es T || cond x (propagateEmitted lined m es (pass lined es T)) false) e
 
-count-by : (b : Bool) (m : ℕ) (es : List (ℕ × ℕ × ℕ)) (T : ColumnTable) → passAny payload es T ≡ b
-    → passCount payload (suc m) es T ≡ suc (cond b (passCount payload m es (pass payload es T)) 0)
-count-by b m es T e = ap (λ x. suc (cond x (passCount payload m es (pass payload es T)) 0)) e
+count-by : (b : Bool) (m : ℕ) (es : List (ℕ × ℕ × ℕ)) (T : ColumnTable) → passAny lined es T ≡ b
+    → passCount lined (suc m) es T ≡ suc (cond b (passCount lined m es (pass lined es T)) 0)
+count-by b m es T e = ap (λ x. suc (cond x (passCount lined m es (pass lined es T)) 0)) e
 
 pub passed-more :
     (t : Conjuncts) (table table′ : List ColumnConstraints) (ms ms′ : List ℕ) (es : List (ℕ × ℕ × ℕ)) (n p : ℕ)
@@ -232,41 +232,41 @@ pub passed-more :
     → ((U : ColumnTable) → Shows t table ms U → EdgesMerged t table′ ms′ es em any U)
     → Passed t table′ ms′ es n (p + 1) (emitted || em) any T
 passed-more t table table′ ms ms′ es n p emitted going em any T l eg P N =
-    let U : ColumnTable = passTimes payload p es T in
+    let U : ColumnTable = passTimes lined p es T in
     let M : EdgesMerged t table′ ms′ es em any U = N U (P .shows) in
     let m : ℕ = n - suc p in
     let en : n - p ≡ suc m = omega arith in
-    let left : propagate payload (n - p) es U ≡ propagate payload n es T =
-    sym (ap (λ b. cond b (propagate payload (n - p) es U) U) eg) ∙ P .left in
-    let emits : (emitted || propagateEmitted payload (n - p) es U) ≡ propagateEmitted payload n es T =
-    sym (ap (λ b. emitted || cond b (propagateEmitted payload (n - p) es U) false) eg) ∙ P .emits in
-    let counts : p + passCount payload (n - p) es U ≡ passesMade payload n es T =
-    sym (ap (λ b. p + cond b (passCount payload (n - p) es U) 0) eg) ∙ P .counts in
-    let step : suc p + cond any (passCount payload m es (pass payload es U)) 0 ≡
-    p + suc (cond any (passCount payload m es (pass payload es U)) 0) = omega arith in
+    let left : propagate lined (n - p) es U ≡ propagate lined n es T =
+    sym (ap (λ b. cond b (propagate lined (n - p) es U) U) eg) ∙ P .left in
+    let emits : (emitted || propagateEmitted lined (n - p) es U) ≡ propagateEmitted lined n es T =
+    sym (ap (λ b. emitted || cond b (propagateEmitted lined (n - p) es U) false) eg) ∙ P .emits in
+    let counts : p + passCount lined (n - p) es U ≡ passesMade lined n es T =
+    sym (ap (λ b. p + cond b (passCount lined (n - p) es U) 0) eg) ∙ P .counts in
+    let step : suc p + cond any (passCount lined m es (pass lined es U)) 0 ≡
+    p + suc (cond any (passCount lined m es (pass lined es U)) 0) = omega arith in
     rw (add-one)
     (record {
       shows = subst (Shows t table′ ms′) (sym (times-snoc p es T)) (M .shows);
       left =
-          ap (λ X. cond any (propagate payload m es X) X) (times-snoc p es T)
+          ap (λ X. cond any (propagate lined m es X) X) (times-snoc p es T)
           ∙ sym (propagate-by any m es U (sym (M .changes)))
-          ∙ ap (λ k. propagate payload k es U) (sym en)
+          ∙ ap (λ k. propagate lined k es U) (sym en)
           ∙ left;
       emits =
-          ap (λ x. (emitted || x) || cond any (propagateEmitted payload m es (passTimes payload (suc p) es T)) false)
+          ap (λ x. (emitted || x) || cond any (propagateEmitted lined m es (passTimes lined (suc p) es T)) false)
           (M .emits)
-          ∙ sym (or-assoc emitted (passEmitted payload es U)
-          (cond any (propagateEmitted payload m es (passTimes payload (suc p) es T)) false))
-          ∙ ap (λ X. emitted || (passEmitted payload es U || cond any (propagateEmitted payload m es X) false))
+          ∙ sym (or-assoc emitted (passEmitted lined es U)
+          (cond any (propagateEmitted lined m es (passTimes lined (suc p) es T)) false))
+          ∙ ap (λ X. emitted || (passEmitted lined es U || cond any (propagateEmitted lined m es X) false))
           (times-snoc p es T)
           ∙ ap (λ x. emitted || x) (sym (emitted-by any m es U (sym (M .changes))))
-          ∙ ap (λ k. emitted || propagateEmitted payload k es U) (sym en)
+          ∙ ap (λ k. emitted || propagateEmitted lined k es U) (sym en)
           ∙ emits;
       counts =
-          ap (λ X. suc p + cond any (passCount payload m es X) 0) (times-snoc p es T)
+          ap (λ X. suc p + cond any (passCount lined m es X) 0) (times-snoc p es T)
           ∙ step
           ∙ ap (λ k. p + k) (sym (count-by any m es U (sym (M .changes))))
-          ∙ ap (λ k. p + passCount payload k es U) (sym en)
+          ∙ ap (λ k. p + passCount lined k es U) (sym en)
           ∙ counts;
     })
 
@@ -282,7 +282,7 @@ passed-end t table ms es n p emitted going T l h P = go going refl
     last false q r = ltb-false p n q
 
     U : ColumnTable
-    U = passTimes payload p es T
+    U = passTimes lined p es T
 
     go : (g : Bool) → going ≡ g → Spread t table ms es n emitted p T
     go true e =
@@ -291,20 +291,20 @@ passed-end t table ms es n p emitted going T l h P = go going refl
         let w : p ≡ p + 0 = omega arith in
         record {
           shows = subst (Shows t table ms)
-              (sym (ap (λ k. propagate payload k es U) z)
-              ∙ sym (ap (λ b. cond b (propagate payload (n - p) es U) U) e) ∙ P .left) (P .shows);
+              (sym (ap (λ k. propagate lined k es U) z)
+              ∙ sym (ap (λ b. cond b (propagate lined (n - p) es U) U) e) ∙ P .left) (P .shows);
           emits = sym (or-false emitted)
-              ∙ ap (λ k. emitted || propagateEmitted payload k es U) (sym z)
-              ∙ sym (ap (λ b. emitted || cond b (propagateEmitted payload (n - p) es U) false) e) ∙ P .emits;
+              ∙ ap (λ k. emitted || propagateEmitted lined k es U) (sym z)
+              ∙ sym (ap (λ b. emitted || cond b (propagateEmitted lined (n - p) es U) false) e) ∙ P .emits;
           counts = w
-              ∙ ap (λ k. p + passCount payload k es U) (sym z)
-              ∙ sym (ap (λ b. p + cond b (passCount payload (n - p) es U) 0) e) ∙ P .counts;
+              ∙ ap (λ k. p + passCount lined k es U) (sym z)
+              ∙ sym (ap (λ b. p + cond b (passCount lined (n - p) es U) 0) e) ∙ P .counts;
         }
     go false e =
         let w : p ≡ p + 0 = omega arith in
         record {
-          shows = subst (Shows t table ms) (sym (ap (λ b. cond b (propagate payload (n - p) es U) U) e) ∙ P .left) (P .shows);
+          shows = subst (Shows t table ms) (sym (ap (λ b. cond b (propagate lined (n - p) es U) U) e) ∙ P .left) (P .shows);
           emits = sym (or-false emitted)
-              ∙ sym (ap (λ b. emitted || cond b (propagateEmitted payload (n - p) es U) false) e) ∙ P .emits;
-          counts = w ∙ sym (ap (λ b. p + cond b (passCount payload (n - p) es U) 0) e) ∙ P .counts;
+              ∙ sym (ap (λ b. emitted || cond b (propagateEmitted lined (n - p) es U) false) e) ∙ P .emits;
+          counts = w ∙ sym (ap (λ b. p + cond b (passCount lined (n - p) es U) 0) e) ∙ P .counts;
         }

@@ -15,9 +15,10 @@ use Rattle.constraints.specs.Bound as b
 use Rattle.constraints.specs.Column as q
 use Rattle.constraints.specs.Comparisons.{ColumnComparison, IsLower, IsUpper, IsNotEq}
 use Rattle.constraints.specs.Comparisons.{collectBy, collectColumnComparisons}
-use Rattle.constraints.specs.Payload.{payload}
+use Rattle.constraints.specs.Lined.{Lined, lined}
+use Rattle.constraints.specs.Mapped.{mapComparison}
 use Rattle.constraints.specs.Resolve.{fixedAt, resolveDeferred}
-use Rattle.columns.specs.Abstraction.{Conjuncts, Numbered, numbered, columnOf, excludedBy, gather, ofKind, Fine}
+use Rattle.columns.specs.Abstraction.{Conjuncts, Numbered, numbered, columnOf, excludedBy, gather, ofKind, literalAt, Fine}
 use Rattle.columns.specs.declared.column.ColumnConstraints.{ColumnConstraints}
 use Rattle.columns.proofs.Pigeon.{few}
 use Rattle.merge.specs.Collect.{isIn, update}
@@ -26,7 +27,7 @@ use Rattle.merge.specs.Write.{writeComparison, writeComparisons}
 use Rattle.reading.specs.Walk.{firstOf}
 use Rattle.stages.specs.Rows.{stride, rowOf, RowsKept}
 use Rattle.filter_constraint.specs.Words.{pastColumn}
-use Rattle.filter_constraint.specs.State.{columnAt, ColumnTable, Shows, resolveAll, resolvedIn, Resolved, shown, Written}
+use Rattle.filter_constraint.specs.State.{columnAt, ColumnTable, Shows, resolveAll, resolvedIn, Resolved, shown, bitsOf, Written}
 use Rattle.stages.proofs.Emitting.{of-column-length, write-append}
 use Rattle.filter_constraint.proofs.Arrays.{shows-set, is-in-snoc, low-slot}
 use Rattle.filter_constraint.proofs.Propagating.{or-assoc}
@@ -42,34 +43,34 @@ unsat-snoc [] a T = or-false (T a .unsat)
 unsat-snoc (c ∷ l) a T =
     ap (λ x. T c .unsat || x) (unsat-snoc l a T) ∙ or-assoc (T c .unsat) (anyUnsat l T) (T a .unsat)
 
-append-assoc′ : (x y z : List (ℕ × ColumnComparison ℕ)) → x ++ (y ++ z) ≡ (x ++ y) ++ z
+append-assoc′ : (x y z : List (ℕ × ColumnComparison Lined)) → x ++ (y ++ z) ≡ (x ++ y) ++ z
 append-assoc′ [] y z = refl
 append-assoc′ (c ∷ x) y z = ap (λ l. c ∷ l) (append-assoc′ x y z)
 
 pub comparisons-snoc : (l : List ℕ) (a : ℕ) (T : ColumnTable)
-    → comparisons payload (l ++ (a ∷ [])) T ≡
-    comparisons payload l T ++ ofColumn a (collectColumnComparisons payload (T a))
-comparisons-snoc [] a T = append-nil (ofColumn a (collectColumnComparisons payload (T a)))
+    → comparisons lined (l ++ (a ∷ [])) T ≡
+    comparisons lined l T ++ ofColumn a (collectColumnComparisons lined (T a))
+comparisons-snoc [] a T = append-nil (ofColumn a (collectColumnComparisons lined (T a)))
 comparisons-snoc (c ∷ l) a T =
-    ap (λ x. ofColumn c (collectColumnComparisons payload (T c)) ++ x) (comparisons-snoc l a T)
-    ∙ append-assoc′ (ofColumn c (collectColumnComparisons payload (T c))) (comparisons payload l T)
-    (ofColumn a (collectColumnComparisons payload (T a)))
+    ap (λ x. ofColumn c (collectColumnComparisons lined (T c)) ++ x) (comparisons-snoc l a T)
+    ∙ append-assoc′ (ofColumn c (collectColumnComparisons lined (T c))) (comparisons lined l T)
+    (ofColumn a (collectColumnComparisons lined (T a)))
 
 pub comparisons-more : (order : List ℕ) (o : ℕ) (T : ColumnTable)
-    → length (comparisons payload (firstOf order (o + 1)) T) ≡
-    length (comparisons payload (firstOf order o) T) + length (collectColumnComparisons payload (T (getD order o 0)))
+    → length (comparisons lined (firstOf order (o + 1)) T) ≡
+    length (comparisons lined (firstOf order o) T) + length (collectColumnComparisons lined (T (getD order o 0)))
 unfolding firstOf
 comparisons-more order o T =
     rw (add-one)
     (ap length (comparisons-snoc (firstOf order o) (getD order o 0) T)
-    ∙ length-append (comparisons payload (firstOf order o) T)
-    (ofColumn (getD order o 0) (collectColumnComparisons payload (T (getD order o 0))))
-    ∙ ap (λ k. length (comparisons payload (firstOf order o) T) + k)
-    (of-column-length (getD order o 0) (collectColumnComparisons payload (T (getD order o 0)))))
+    ∙ length-append (comparisons lined (firstOf order o) T)
+    (ofColumn (getD order o 0) (collectColumnComparisons lined (T (getD order o 0))))
+    ∙ ap (λ k. length (comparisons lined (firstOf order o) T) + k)
+    (of-column-length (getD order o 0) (collectColumnComparisons lined (T (getD order o 0)))))
 
 -- fewer columns have no more comparisons
 pub comparisons-upto : (order : List ℕ) (T : ColumnTable) (o d : ℕ)
-    → length (comparisons payload (firstOf order o) T) ≤ length (comparisons payload (firstOf order (o + d)) T)
+    → length (comparisons lined (firstOf order o) T) ≤ length (comparisons lined (firstOf order (o + d)) T)
 comparisons-upto order T o zero =
     let e : o + 0 ≡ o = omega arith in rw e (omega arith)
 comparisons-upto order T o (suc d) =
@@ -99,14 +100,14 @@ in-first order w (suc n) h = by-test (eqb w n)
 
 -- the comparisons depend on the listed columns only
 pub comparisons-agree : (order : List ℕ) (T U : ColumnTable) (n : ℕ) → ((w : ℕ) → w < n → T (getD order w 0) ≡ U (getD order w 0))
-    → comparisons payload (firstOf order n) T ≡ comparisons payload (firstOf order n) U
+    → comparisons lined (firstOf order n) T ≡ comparisons lined (firstOf order n) U
 unfolding firstOf
 comparisons-agree order T U zero e = refl
 comparisons-agree order T U (suc n) e =
     comparisons-snoc (firstOf order n) (getD order n 0) T
-    ∙ ap (λ l. l ++ ofColumn (getD order n 0) (collectColumnComparisons payload (T (getD order n 0))))
+    ∙ ap (λ l. l ++ ofColumn (getD order n 0) (collectColumnComparisons lined (T (getD order n 0))))
     (comparisons-agree order T U n (λ w h. e w (omega (arith, h))))
-    ∙ ap (λ c. comparisons payload (firstOf order n) U ++ ofColumn (getD order n 0) (collectColumnComparisons payload c))
+    ∙ ap (λ c. comparisons lined (firstOf order n) U ++ ofColumn (getD order n 0) (collectColumnComparisons lined c))
     (e n (omega arith))
     ∙ sym (comparisons-snoc (firstOf order n) (getD order n 0) U)
 
@@ -116,29 +117,29 @@ unfolding excludedBy gather
 excluded-few kinds values a zero = omega arith
 excluded-few kinds values a (suc n) = go (excluded-few kinds values a n) (ofKind kinds 0 (getD a n 0))
   where
-    go : length (excludedBy kinds values a n) ≤ n → (x : Bool) → length (cond x (excludedBy kinds values a n ++ (getD values (getD a n 0) 0 ∷ []))
+    go : length (excludedBy kinds values a n) ≤ n → (x : Bool) → length (cond x (excludedBy kinds values a n ++ (literalAt values (getD a n 0) ∷ []))
         (excludedBy kinds values a n)) ≤ suc n
     go ih true =
-        let e = length-append (excludedBy kinds values a n) (getD values (getD a n 0) 0 ∷ []) in omega (arith, e, ih)
+        let e = length-append (excludedBy kinds values a n) (literalAt values (getD a n 0) ∷ []) in omega (arith, e, ih)
     go ih false = omega (arith, ih)
 
-excluded-length : (l : List ℕ) → length (map IsNotEq l) ≡ length l
+excluded-length : (l : List Lined) → length (map IsNotEq l) ≡ length l
 excluded-length [] = refl
 excluded-length (v ∷ l) = ap suc (excluded-length l)
 
-lower-few : (x : b.Bound ℕ) → length (ofBound IsLower x) ≤ 1
+lower-few : (x : b.Bound Lined) → length (ofBound IsLower x) ≤ 1
 lower-few b.absent = omega arith
 lower-few (b.at i v) = omega arith
 
-upper-few : (x : b.Bound ℕ) → length (ofBound IsUpper x) ≤ 1
+upper-few : (x : b.Bound Lined) → length (ofBound IsUpper x) ≤ 1
 upper-few b.absent = omega arith
 upper-few (b.at i v) = omega arith
 
 pub column-few : (t : Conjuncts) (c : Numbered) (k : ℕ) → Fine k (c .marks) (c .len) → k ≤ 128
-    → length (collectColumnComparisons payload (columnOf t c)) ≤ 130
-column-few t c k f l128 = go (fixedAt payload (columnOf t c .lower) (columnOf t c .upper))
+    → length (collectColumnComparisons lined (columnOf t c)) ≤ 130
+column-few t c k f l128 = go (fixedAt lined (columnOf t c .lower) (columnOf t c .upper))
   where
-    go : (o : Option ℕ) → length (collectBy o (columnOf t c)) ≤ 130
+    go : (o : Option Lined) → length (collectBy o (columnOf t c)) ≤ 130
     go (some v) = omega arith
     go none =
         let p = length-append (ofBound IsLower (columnOf t c .lower))
@@ -163,37 +164,37 @@ module _ (t : Conjuncts) (table : List ColumnConstraints) (ms ms′ : List ℕ) 
   a = getD order o 0
 
   at-a : (c : ColumnConstraints) (k : ℕ) → a < 64 → isIn a (firstOf order o) ≡ false
-      → columnOf t (numbered (rowOf ms′ a) c) ≡ resolveDeferred payload (columnOf t (columnAt table ms a))
+      → columnOf t (numbered (rowOf ms′ a) c) ≡ resolveDeferred lined (columnOf t (columnAt table ms a))
       → Fine (stride ms′) (rowOf ms′ a) (c .len) → RowsKept ms ms′ a
-      → k ≡ length (collectColumnComparisons payload (columnOf t (numbered (rowOf ms′ a) c)))
+      → k ≡ length (collectColumnComparisons lined (columnOf t (numbered (rowOf ms′ a) c)))
       → Resolved t (set table a c) ms′ (firstOf order (o + 1)) held (unsat || c .unsat) (total + k) T
   unfolding firstOf
   at-a c k la new ec f K ek =
-      let e : columnOf t (numbered (rowOf ms′ a) c) ≡ resolveDeferred payload (T a) =
-      ec ∙ ap (resolveDeferred payload) (P .shows .column a la
-      ∙ ap (λ x. cond x (resolveDeferred payload (T a)) (T a)) new) in
-      let m : length (comparisons payload (firstOf order (o + 1)) (resolveAll T)) ≡
-      length (comparisons payload (firstOf order o) (resolveAll T))
-      + length (collectColumnComparisons payload (resolveDeferred payload (T a))) =
+      let e : columnOf t (numbered (rowOf ms′ a) c) ≡ resolveDeferred lined (T a) =
+      ec ∙ ap (resolveDeferred lined) (P .shows .column a la
+      ∙ ap (λ x. cond x (resolveDeferred lined (T a)) (T a)) new) in
+      let m : length (comparisons lined (firstOf order (o + 1)) (resolveAll T)) ≡
+      length (comparisons lined (firstOf order o) (resolveAll T))
+      + length (collectColumnComparisons lined (resolveDeferred lined (T a))) =
       comparisons-more order o (resolveAll T) in
-      let k′ : k ≡ length (collectColumnComparisons payload (resolveDeferred payload (T a))) =
-      ek ∙ ap (λ x. length (collectColumnComparisons payload x)) e in
+      let k′ : k ≡ length (collectColumnComparisons lined (resolveDeferred lined (T a))) =
+      ek ∙ ap (λ x. length (collectColumnComparisons lined x)) e in
       let p = P .counted in
       record {
         shows = subst (λ l. Shows t (set table a c) ms′ (resolvedIn l T)) (ap (firstOf order) (sym (add-one o)))
-            (shows-agree t (set table a c) ms′ (update (resolvedIn (firstOf order o) T) a (resolveDeferred payload (T a)))
+            (shows-agree t (set table a c) ms′ (update (resolvedIn (firstOf order o) T) a (resolveDeferred lined (T a)))
             (resolvedIn (firstOf order o ++ (a ∷ [])) T) agree
-            (shows-set t table ms ms′ (resolvedIn (firstOf order o) T) a c (resolveDeferred payload (T a)) (P .shows) la K e f));
+            (shows-set t table ms ms′ (resolvedIn (firstOf order o) T) a c (resolveDeferred lined (T a)) (P .shows) la K e f));
         stops =
             ap (λ x. x || c .unsat) (P .stops)
             ∙ ap (λ x. (held || anyUnsat (firstOf order o) (resolveAll T)) || x) (ap (λ x. x .unsat) e)
-            ∙ sym (or-assoc held (anyUnsat (firstOf order o) (resolveAll T)) (resolveDeferred payload (T a) .unsat))
+            ∙ sym (or-assoc held (anyUnsat (firstOf order o) (resolveAll T)) (resolveDeferred lined (T a) .unsat))
             ∙ ap (λ x. held || x) (sym (unsat-snoc (firstOf order o) a (resolveAll T)))
             ∙ ap (λ n. held || anyUnsat (firstOf order n) (resolveAll T)) (sym (add-one o));
         counted = omega (arith, m, k′, p);
       }
     where
-      agree : (c : ℕ) → update (resolvedIn (firstOf order o) T) a (resolveDeferred payload (T a)) c ≡
+      agree : (c : ℕ) → update (resolvedIn (firstOf order o) T) a (resolveDeferred lined (T a)) c ≡
           resolvedIn (firstOf order o ++ (a ∷ [])) T c
       agree c = by-test (eqb a c)
           (λ h. rw (h, is-in-snoc c a (firstOf order o), ← eqb-true a c h, eq-self a, or-true (isIn a (firstOf order o))))
@@ -208,17 +209,26 @@ module _ (t : Conjuncts) (table : List ColumnConstraints) (ms ms′ : List ℕ) 
           eq-self n = by-test (eqb n n) (λ h. h) (λ h. absurd (eqb-false n n h refl))
 
   pub resolved-more : (x : ℕ) (c : ColumnConstraints) (k : ℕ) → a < 64 → isIn a (firstOf order o) ≡ false → x ≡ a % 64
-      → columnOf t (numbered (rowOf ms′ x) c) ≡ resolveDeferred payload (columnOf t (columnAt table ms x))
+      → columnOf t (numbered (rowOf ms′ x) c) ≡ resolveDeferred lined (columnOf t (columnAt table ms x))
       → Fine (stride ms′) (rowOf ms′ x) (c .len) → RowsKept ms ms′ x
-      → k ≡ length (collectColumnComparisons payload (columnOf t (numbered (rowOf ms′ x) c)))
+      → k ≡ length (collectColumnComparisons lined (columnOf t (numbered (rowOf ms′ x) c)))
       → Resolved t (set table x c) ms′ (firstOf order (o + 1)) held (unsat || c .unsat) (total + k) T
   resolved-more x c k la new ex ec f K ek =
       let p : x ≡ a = low-slot a x la ex in
       rw p (at-a c k la new (rw p at ec) (rw p at f) (rw p at K) (rw p at ek))
 
+-- ---- comparisons without their lines
+pub bits-length : (l : List (ℕ × ColumnComparison Lined)) → length (bitsOf l) ≡ length l
+bits-length [] = refl
+bits-length (x ∷ l) = ap suc (bits-length l)
+
+bits-append : (l m : List (ℕ × ColumnComparison Lined)) → bitsOf (l ++ m) ≡ bitsOf l ++ bitsOf m
+bits-append [] m = refl
+bits-append (x ∷ l) m = ap (λ k. (x .0, mapComparison (λ (v : Lined). v .bits) (x .1)) ∷ k) (bits-append l m)
+
 -- ---- writing, column by column
 pub written-none : (t : List ℕ) (used : ℕ) (order : List ℕ) (T : ColumnTable) (rs : List ℕ)
-    → Written t used rs (comparisons payload (firstOf order 0) T) used rs
+    → Written t used rs (comparisons lined (firstOf order 0) T) used rs
 unfolding firstOf
 written-none t used order T rs = record { end = omega arith; bytes = refl; size = refl }
 
@@ -226,46 +236,49 @@ pub written-more :
     (t : List ℕ) (used : ℕ) (order : List ℕ) (w : ℕ) (s : Conjuncts) (table : List ColumnConstraints) (ms : List ℕ)
     (x u u′ : ℕ)
     (rs₀ rs rs′ : List ℕ)
-    → Written t used rs₀ (comparisons payload (firstOf order w) (shown s table ms)) u rs
+    → Written t used rs₀ (comparisons lined (firstOf order w) (shown s table ms)) u rs
     → getD order w 0 < 64 → x ≡ getD order w 0 % 64
-    → u′ ≡ u + 3 * length (collectColumnComparisons payload (columnOf s (columnAt table ms x)))
-    → rs′ ≡ writeComparisons t u (ofColumn (getD order w 0) (collectColumnComparisons payload
-    (columnOf s (columnAt table ms x)))) rs
+    → u′ ≡ u + 3 * length (collectColumnComparisons lined (columnOf s (columnAt table ms x)))
+    → rs′ ≡ writeComparisons t u (bitsOf (ofColumn (getD order w 0) (collectColumnComparisons lined
+    (columnOf s (columnAt table ms x))))) rs
     → length rs′ ≡ length rs
-    → Written t used rs₀ (comparisons payload (firstOf order (w + 1)) (shown s table ms)) u′ rs′
+    → Written t used rs₀ (comparisons lined (firstOf order (w + 1)) (shown s table ms)) u′ rs′
 unfolding firstOf
 written-more t used order w s table ms x u u′ rs₀ rs rs′ W la ex eu er el =
     let p : x ≡ a = low-slot a x la ex in
     let m = comparisons-more order w (shown s table ms) in
     let e = W .end in
-    let g : u′ ≡ u + 3 * length (collectColumnComparisons payload (shown s table ms a)) = rw p at eu in
+    let g : u′ ≡ u + 3 * length (collectColumnComparisons lined (shown s table ms a)) = rw p at eu in
     record {
       end = omega (arith, m, e, g);
       bytes = (rw p at er)
-          ∙ ap (λ v. writeComparisons t v (ofColumn a (collectColumnComparisons payload (shown s table ms a))) rs) (W .end)
-          ∙ ap (writeComparisons t (used + 3 * length cs) (ofColumn a (collectColumnComparisons payload (shown s table ms a))))
-          (W .bytes)
-          ∙ sym (write-append t used cs (ofColumn a (collectColumnComparisons payload (shown s table ms a))) rs₀)
-          ∙ ap (λ l. writeComparisons t used l rs₀) (sym snoc-at);
+          ∙ ap (λ v. writeComparisons t v new rs) (W .end ∙ ap (λ k. used + 3 * k) (sym (bits-length cs)))
+          ∙ ap (writeComparisons t (used + 3 * length (bitsOf cs)) new) (W .bytes)
+          ∙ sym (write-append t used (bitsOf cs) new rs₀)
+          ∙ ap (λ l. writeComparisons t used l rs₀)
+          (sym (bits-append cs (ofColumn a (collectColumnComparisons lined (shown s table ms a)))) ∙ ap bitsOf (sym snoc-at));
       size = el ∙ W .size;
     }
   where
     a : ℕ
     a = getD order w 0
 
-    cs : List (ℕ × ColumnComparison ℕ)
-    cs = comparisons payload (firstOf order w) (shown s table ms)
+    cs : List (ℕ × ColumnComparison Lined)
+    cs = comparisons lined (firstOf order w) (shown s table ms)
 
-    snoc-at : comparisons payload (firstOf order (w + 1)) (shown s table ms) ≡
-        cs ++ ofColumn a (collectColumnComparisons payload (shown s table ms a))
+    new : List (ℕ × ColumnComparison ℕ)
+    new = bitsOf (ofColumn a (collectColumnComparisons lined (shown s table ms a)))
+
+    snoc-at : comparisons lined (firstOf order (w + 1)) (shown s table ms) ≡
+        cs ++ ofColumn a (collectColumnComparisons lined (shown s table ms a))
     snoc-at = rw (add-one) (comparisons-snoc (firstOf order w) a (shown s table ms))
 
 -- the comparisons read kinds and values only
 pub same-comparisons : (s s′ : Conjuncts) (c : Numbered) → s .kinds ≡ s′ .kinds → s .values ≡ s′ .values
-    → collectColumnComparisons payload (columnOf s c) ≡ collectColumnComparisons payload (columnOf s′ c)
-same-comparisons s s′ c ek ev = go (fixedAt payload (columnOf s c .lower) (columnOf s c .upper))
+    → collectColumnComparisons lined (columnOf s c) ≡ collectColumnComparisons lined (columnOf s′ c)
+same-comparisons s s′ c ek ev = go (fixedAt lined (columnOf s c .lower) (columnOf s c .upper))
   where
-    go : (o : Option ℕ) → collectBy o (columnOf s c) ≡ collectBy o (columnOf s′ c)
+    go : (o : Option Lined) → collectBy o (columnOf s c) ≡ collectBy o (columnOf s′ c)
     go (some v) = refl
     go none = rw (ek, ev)
 
@@ -274,38 +287,38 @@ pub resolved-stored : (t : Conjuncts) (table table′ : List ColumnConstraints) 
     (held unsat : Bool) (total : ℕ) (T : ColumnTable) (x : ℕ) (c₀ c : ColumnConstraints) (k : ℕ)
     → Resolved t table ms (firstOf order o) held unsat total T → getD order o 0 < 64
     → isIn (getD order o 0) (firstOf order o) ≡ false → x ≡ getD order o 0 % 64 → c₀ ≡ getD table x pastColumn
-    → columnOf t (numbered (rowOf ms′ x) c) ≡ resolveDeferred payload (columnOf t (numbered (rowOf ms x) c₀))
+    → columnOf t (numbered (rowOf ms′ x) c) ≡ resolveDeferred lined (columnOf t (numbered (rowOf ms x) c₀))
     → Fine (stride ms′) (rowOf ms′ x) (c .len) → RowsKept ms ms′ x
-    → k ≡ length (collectColumnComparisons payload (columnOf t (numbered (rowOf ms′ x) c))) → table′ ≡ set table x c
+    → k ≡ length (collectColumnComparisons lined (columnOf t (numbered (rowOf ms′ x) c))) → table′ ≡ set table x c
     → Resolved t table′ ms′ (firstOf order (o + 1)) held (unsat || c .unsat) (total + k) T
 resolved-stored t table table′ ms ms′ order o held unsat total T x c₀ c k P la new ex hc ec f K ek et =
     subst (λ u. Resolved t u ms′ (firstOf order (o + 1)) held (unsat || c .unsat) (total + k) T) (sym et)
     (resolved-more t table ms ms′ order o held unsat total T P x c k la new ex
-    (ec ∙ ap (λ d. resolveDeferred payload (columnOf t (numbered (rowOf ms x) d))) hc) f K ek)
+    (ec ∙ ap (λ d. resolveDeferred lined (columnOf t (numbered (rowOf ms x) d))) hc) f K ek)
 
 -- What `write_row` asks of the column loaded from place x.
 pub row-asked :
     (t : List ℕ) (used : ℕ) (order : List ℕ) (w columns : ℕ) (s : Conjuncts) (table : List ColumnConstraints)
     (ms sent rs : List ℕ) (u x : ℕ) (c : ColumnConstraints)
     → w < columns → getD order w 0 < 64 → x ≡ getD order w 0 % 64 → c ≡ getD table x pastColumn
-    → Written t used sent (comparisons payload (firstOf order w) (shown s table ms)) u rs
-    → (used + 3 * length (comparisons payload (firstOf order columns) (shown s table ms)) ≤ 4096)
-    × (16 * (used + 3 * length (comparisons payload (firstOf order columns) (shown s table ms))) ≤ length sent)
+    → Written t used sent (comparisons lined (firstOf order w) (shown s table ms)) u rs
+    → (used + 3 * length (comparisons lined (firstOf order columns) (shown s table ms)) ≤ 4096)
+    × (16 * (used + 3 * length (comparisons lined (firstOf order columns) (shown s table ms))) ≤ length sent)
     → (u ≤ 4096) × ((s′ : Conjuncts) → s′ .kinds ≡ s .kinds → s′ .values ≡ s .values
-    → 16 * (u + 3 * length (collectColumnComparisons payload (columnOf s′ (numbered (rowOf ms x) c)))) ≤ length rs)
+    → 16 * (u + 3 * length (collectColumnComparisons lined (columnOf s′ (numbered (rowOf ms x) c)))) ≤ length rs)
 row-asked t used order w columns s table ms sent rs u x c l la ex hc W room =
     let T : ColumnTable = shown s table ms in
     let d : w + 1 + (columns - (w + 1)) ≡ columns = omega (arith, l) in
     let m = comparisons-more order w T in
-    let n : length (comparisons payload (firstOf order (w + 1)) T) ≤ length (comparisons payload (firstOf order columns) T) =
-    subst (λ k. length (comparisons payload (firstOf order (w + 1)) T) ≤ length (comparisons payload (firstOf order k) T)) d
+    let n : length (comparisons lined (firstOf order (w + 1)) T) ≤ length (comparisons lined (firstOf order columns) T) =
+    subst (λ k. length (comparisons lined (firstOf order (w + 1)) T) ≤ length (comparisons lined (firstOf order k) T)) d
     (comparisons-upto order T (w + 1) (columns - (w + 1))) in
     let e = W .end in
     let z = W .size in
     let a = room .0 in
     let b = room .1 in
     let p : x ≡ getD order w 0 = low-slot (getD order w 0) x la ex in
-    let g : 16 * (u + 3 * length (collectColumnComparisons payload (T (getD order w 0)))) ≤ length rs =
+    let g : 16 * (u + 3 * length (collectColumnComparisons lined (T (getD order w 0)))) ≤ length rs =
     omega (arith, e, z, m, n, b) in
     let h : c ≡ getD table (getD order w 0) pastColumn = hc ∙ ap (λ y. getD table y pastColumn) p in (
       omega (arith, e, m, n, a),
@@ -315,15 +328,15 @@ row-asked t used order w columns s table ms sent rs u x c l la ex hc W room =
 pub written-loaded :
     (t : List ℕ) (used : ℕ) (order : List ℕ) (w : ℕ) (s : Conjuncts) (table : List ColumnConstraints) (ms : List ℕ)
     (x u u′ : ℕ) (rs₀ rs rs′ : List ℕ) (c : ColumnConstraints)
-    → Written t used rs₀ (comparisons payload (firstOf order w) (shown s table ms)) u rs
+    → Written t used rs₀ (comparisons lined (firstOf order w) (shown s table ms)) u rs
     → getD order w 0 < 64 → x ≡ getD order w 0 % 64 → c ≡ getD table x pastColumn
-    → u′ ≡ u + 3 * length (collectColumnComparisons payload (columnOf s (numbered (rowOf ms x) c)))
-    → rs′ ≡ writeComparisons t u (ofColumn (getD order w 0) (collectColumnComparisons payload
-    (columnOf s (numbered (rowOf ms x) c)))) rs
+    → u′ ≡ u + 3 * length (collectColumnComparisons lined (columnOf s (numbered (rowOf ms x) c)))
+    → rs′ ≡ writeComparisons t u (bitsOf (ofColumn (getD order w 0) (collectColumnComparisons lined
+    (columnOf s (numbered (rowOf ms x) c))))) rs
     → length rs′ ≡ length rs
-    → Written t used rs₀ (comparisons payload (firstOf order (w + 1)) (shown s table ms)) u′ rs′
+    → Written t used rs₀ (comparisons lined (firstOf order (w + 1)) (shown s table ms)) u′ rs′
 written-loaded t used order w s table ms x u u′ rs₀ rs rs′ c W la ex hc eu er el =
     written-more t used order w s table ms x u u′ rs₀ rs rs′ W la ex
-    (eu ∙ ap (λ d. u + 3 * length (collectColumnComparisons payload (columnOf s (numbered (rowOf ms x) d)))) hc)
-    (er ∙ ap (λ d. writeComparisons t u (ofColumn (getD order w 0) (collectColumnComparisons payload
-    (columnOf s (numbered (rowOf ms x) d)))) rs) hc) el
+    (eu ∙ ap (λ d. u + 3 * length (collectColumnComparisons lined (columnOf s (numbered (rowOf ms x) d)))) hc)
+    (er ∙ ap (λ d. writeComparisons t u (bitsOf (ofColumn (getD order w 0) (collectColumnComparisons lined
+    (columnOf s (numbered (rowOf ms x) d))))) rs) hc) el

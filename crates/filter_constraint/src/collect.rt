@@ -1,12 +1,13 @@
 // Stage 1 of the merging: what the conjuncts say, into the columns' cells.
 ghost use mathlib.Core.Path.{_≡_};
-ghost use mathlib.Core.Bool.{Bool};
-ghost use mathlib.Core.List.{List};
+ghost use mathlib.Core.Bool.{Bool, cond};
+ghost use mathlib.Core.List.{List, map};
 ghost use Prim.Native.Nat.{ℕ, _+_, _<_, _≤_};
 ghost use lib.ListN.{length, getD, replicate};
 ghost use Rattle.truth.specs.FromBytes.{aexprOf};
-ghost use Rattle.constraints.specs.Payload.{payload};
-ghost use Rattle.columns.specs.Abstraction.{Conjuncts, conjuncts};
+ghost use Rattle.constraints.specs.Lined.{onLine, lined};
+ghost use Rattle.constraints.specs.Mapped.{mapConstraint};
+ghost use Rattle.columns.specs.Abstraction.{Conjuncts, conjuncts, numbered, columnOf};
 ghost use Rattle.merge.specs.Classify as m;
 ghost use Rattle.merge.specs.Collect as d;
 ghost use Rattle.reading.specs.Read.{saysIn};
@@ -14,9 +15,11 @@ ghost use Rattle.rewrite.specs.Told.{Told, ToldConjunct};
 ghost use Rattle.stages.specs.Columns.{ColumnsBelow};
 ghost use Rattle.stages.specs.Rows.{stride};
 ghost use Rattle.filter_constraint.specs.Words.{pastColumn, columnsOf};
+ghost use Rattle.filter_constraint.specs.NullLines.{isRequired, NullLines, NullKept};
 ghost use Rattle.filter_constraint.specs.State.{ColumnTable, Shows, Fits, Entered, Added, Collects, collectTo};
 use crate::cells::load;
 use crate::cells::store;
+use columns::column::ColumnConstraints;
 use columns::column::require_nullability;
 use constraints::column::Nullability;
 use reading::classify::Conjunct;
@@ -53,15 +56,42 @@ fn enter(seen: &mut [bool], order: &mut [u32], columns: usize, a: Column) -> usi
     next
 }
 
-fn require_non_null(cells: &mut [u64], a: Column)
-    requires { ⌜ (a .0 < 64) × (length (now cells) ≡ 512) ⌝ }
+fn is_required(n: Nullability) -> bool
+    ensures { λ r. ⌜ r ≡ isRequired n ⌝ }
+{
+    match n {
+        Nullability::Unconstrained => false,
+        Nullability::Null => true,
+        Nullability::NonNull => true,
+    }
+}
+
+// What the column c became under conjunct j: a null requirement that it had keeps its number, a new one gets j.
+fn with_null_line(mut d: ColumnConstraints, c: ColumnConstraints, j: u8) -> ColumnConstraints
+    ensures { λ r. ⌜ ((t : Conjuncts) (a : List ℕ) → columnOf t (numbered a r) ≡ columnOf t (numbered a d)) ⌝ }
+    ensures { λ r. ⌜ r .len ≡ d .len ⌝ }
+    ensures { λ r. ⌜ r .since ≡ cond (isRequired (c .nullability)) (c .since) j ⌝ }
+{
+    let nul = c.nullability;
+    if is_required(nul) {
+        d.since = c.since;
+        return d;
+    }
+    d.since = j as u64;
+    d
+}
+
+fn require_non_null(cells: &mut [u64], a: Column, j: u8)
+    requires { ⌜ (a .0 < 64) × (length (now cells) ≡ 704) ⌝ }
     ensures { λ _. ⌜ ((t : Conjuncts) (marks : List ℕ) (T : ColumnTable) → Shows t (columnsOf (now (cells .entry))) marks T →
-        Shows t (columnsOf (now (cells .exit))) marks (d.requireNonNull payload (a .0) T)) ⌝ }
+        Shows t (columnsOf (now (cells .exit))) marks (d.requireNonNull lined (a .0) T)) ⌝ }
     ensures { λ _. ⌜ length (now (cells .exit)) ≡ length (now (cells .entry)) ⌝ }
+    ensures { λ _. ⌜ NullKept (columnsOf (now (cells .entry))) (columnsOf (now (cells .exit))) j ⌝ }
 {
     let x = slot(a);
     let c = load(cells, x);
-    let r = require_nullability(c, Nullability::NonNull);
+    let d = require_nullability(c, Nullability::NonNull);
+    let r = with_null_line(d, c, j);
     store(cells, x, r);
 }
 
@@ -83,13 +113,16 @@ fn add_to_column(
     ensures { λ r. ⌜ (let t = conjuncts (now (kinds .entry)) (now (values .entry)) (now (starts .entry))
         (now (counts .entry)) (now (pool .entry)) in (T : ColumnTable) →
         Shows t (columnsOf (now (cells .entry))) (now (marks .entry)) T →
-        Added t (columnsOf (now (cells .exit))) (now (marks .exit)) (a .0) (saysIn (now (pool .entry)) s) r T) ⌝ }
+        Added t (columnsOf (now (cells .exit))) (now (marks .exit)) (a .0)
+        (map (mapConstraint (onLine j)) (saysIn (now (pool .entry)) s)) r T) ⌝ }
     ensures { λ _. ⌜ length (now (cells .exit)) ≡ length (now (cells .entry)) ⌝ }
     ensures { λ _. ⌜ length (now (marks .exit)) ≡ length (now (marks .entry)) ⌝ }
+    ensures { λ _. ⌜ NullKept (columnsOf (now (cells .entry))) (columnsOf (now (cells .exit))) j ⌝ }
 {
     let x = slot(a);
     let c = load(cells, x);
-    let r = add_in_row(kinds, values, starts, counts, pool, marks, x, c, j, s);
+    let d = add_in_row(kinds, values, starts, counts, pool, marks, x, c, j, s);
+    let r = with_null_line(d, c, j);
     store(cells, x, r);
     r.unsat
 }
@@ -113,7 +146,7 @@ pub fn collect(
     equals: &mut [u32],
 ) -> Collection
     requires { ⌜ (n ≤ stride (now marks)) × (stride (now marks) ≤ 128) × (n ≤ length (now nodes))
-        × (length (now cells) ≡ 512) × (columnsOf (now cells) ≡ replicate 64 pastColumn) × (length (now order) ≡ 260)
+        × (length (now cells) ≡ 704) × (columnsOf (now cells) ≡ replicate 64 pastColumn) × (length (now order) ≡ 260)
         × (length (now kept) ≡ 260) × (length (now lefts) ≡ 130) × (length (now rights) ≡ 130)
         × (length (now equals) ≡ 130) ⌝ }
     requires { ⌜ ((i : ℕ) → i < n → ToldConjunct (conjuncts (now kinds) (now values) (now starts) (now counts) (now pool)) i
@@ -125,7 +158,8 @@ pub fn collect(
         (now (equals .exit)) (r .edges) (r .bounds) (r .normalized) (r .unsat)
         (collectTo (aexprOf (now (rs .entry)) (now (pool .entry))) (now (nodes .entry)) n)) ⌝ }
     ensures { λ r. ⌜ (r .columns ≤ n + n) × (r .keeps + r .edges ≤ n) × (r .bounds ≤ n)
-        × (length (now (cells .exit)) ≡ 512) × (length (now (marks .exit)) ≡ length (now (marks .entry))) ⌝ }
+        × (length (now (cells .exit)) ≡ 704) × (length (now (marks .exit)) ≡ length (now (marks .entry)))
+        × NullLines (aexprOf (now (rs .entry)) (now (pool .entry))) (now (nodes .entry)) n (columnsOf (now (cells .exit))) ⌝ }
 {
     let mut seen = [false; 64];
     let mut columns: usize = 0;
@@ -156,9 +190,9 @@ pub fn collect(
             }
             Conjunct::Equality(a, b) => {
                 columns = enter(&mut seen, order, columns, a);
-                require_non_null(cells, a);
+                require_non_null(cells, a, j);
                 columns = enter(&mut seen, order, columns, b);
-                require_non_null(cells, b);
+                require_non_null(cells, b, j);
                 lefts[edges] = a.0;
                 rights[edges] = b.0;
                 equals[edges] = node;
@@ -175,9 +209,9 @@ pub fn collect(
             }
             Conjunct::NonNullPair(a, b) => {
                 columns = enter(&mut seen, order, columns, a);
-                require_non_null(cells, a);
+                require_non_null(cells, a, j);
                 columns = enter(&mut seen, order, columns, b);
-                require_non_null(cells, b);
+                require_non_null(cells, b, j);
                 kept[keeps] = node;
                 keeps += 1;
                 continue;

@@ -4,7 +4,7 @@ ghost use mathlib.Core.List.{List};
 ghost use mathlib.Core.Bool.{false};
 ghost use Prim.Native.Nat.{ℕ, _+_, _*_, _<_, _≤_};
 ghost use lib.ListN.{length, getD};
-ghost use Rattle.constraints.specs.Payload.{payload};
+ghost use Rattle.constraints.specs.Lined.{lined};
 ghost use Rattle.columns.specs.Abstraction.{Conjuncts, conjuncts};
 ghost use Rattle.columns.specs.Index.{Indexed};
 ghost use Rattle.merge.specs.Collect.{isIn};
@@ -41,7 +41,7 @@ pub fn keep_equalities(
     kept: &mut [u32],
     keeps: usize,
 ) -> KeptNodes
-    requires { ⌜ (length (now cells) ≡ 512) × (edges ≤ length (now lefts)) × (edges ≤ length (now equals))
+    requires { ⌜ (length (now cells) ≡ 704) × (edges ≤ length (now lefts)) × (edges ≤ length (now equals))
         × (keeps + edges ≤ 256) × (length (now kept) ≡ 260) ⌝ }
     requires { ⌜ ((e : ℕ) → e < edges → getD (now lefts) e 0 < 64) ⌝ }
     ensures { λ r. ⌜ ((t : Conjuncts) (marks : List ℕ) (T : ColumnTable) (l rights : List ℕ) →
@@ -125,12 +125,12 @@ pub fn write_comparisons(
     requires { ⌜ Fits (now cells) (now marks) × (columns ≤ length (now order)) × (columns ≤ 256) ⌝ }
     requires { ⌜ ((o : ℕ) → o < columns → getD (now order) o 0 < 64) ⌝ }
     requires { ⌜ ((s : Conjuncts) → s .kinds ≡ now kinds → s .values ≡ now values →
-        (used + 3 * length (comparisons payload (firstOf (now order) columns) (shown s (columnsOf (now cells)) (now marks)))
+        (used + 3 * length (comparisons lined (firstOf (now order) columns) (shown s (columnsOf (now cells)) (now marks)))
         ≤ 4096) ×
-        (16 * (used + 3 * length (comparisons payload (firstOf (now order) columns)
+        (16 * (used + 3 * length (comparisons lined (firstOf (now order) columns)
         (shown s (columnsOf (now cells)) (now marks)))) ≤ length (now rs))) ⌝ }
     ensures { λ r. ⌜ ((s : Conjuncts) → s .kinds ≡ now (kinds .entry) → s .values ≡ now (values .entry) →
-        Written (now (t .entry)) used (now (rs .entry)) (comparisons payload (firstOf (now (order .entry)) columns)
+        Written (now (t .entry)) used (now (rs .entry)) (comparisons lined (firstOf (now (order .entry)) columns)
         (shown s (columnsOf (now (cells .entry))) (now (marks .entry)))) r (now (rs .exit))) ⌝ }
 {
     let mut u = used;

@@ -15,28 +15,29 @@ ghost use Rattle.merge.specs.Write.{outcomeBytes};
 ghost use Rattle.merge.specs.Rewrite.{writtenIf};
 ghost use Rattle.reading.specs.Walk.{firstOf};
 ghost use Rattle.rewrite.specs.Told.{ToldConjunct};
+ghost use Rattle.reasons.specs.Explained.{refuseLong, textIf, lengthIf};
 ghost use Rattle.stages.specs.Columns.{ColumnsBelow};
 ghost use Rattle.stages.specs.Reckon.{reckonedAnswer};
 ghost use Rattle.stages.specs.Rows.{stride};
+ghost use Rattle.filter_constraint.specs.Explained.{nodesText};
 use crate::collect::collect;
 use crate::conclude::keep_equalities;
 use crate::conclude::resolve_all;
-use crate::conclude::write_comparisons;
 use crate::propagate::propagate_equalities;
+use crate::rebuild::rebuild;
 use merge::answer::RewriteAnswer;
 use merge::answer::Rewriting;
-use rewrite::write::write_ands;
-use stages::fields::is_rewritten;
 use stages::reckon::nothing_passes;
-use stages::reckon::rebuilt_answer;
 
-fn with_passes(answer: RewriteAnswer, passes: usize) -> Rewriting
+fn with_passes(answer: RewriteAnswer, passes: usize, length: usize) -> Rewriting
     ensures { λ r. ⌜ r .answer ≡ answer ⌝ }
     ensures { λ r. ⌜ r .passes ≡ passes ⌝ }
+    ensures { λ r. ⌜ r .length ≡ length ⌝ }
 {
     Rewriting {
         answer: answer,
         passes: passes as u64,
+        length: length as u64,
     }
 }
 
@@ -57,21 +58,27 @@ pub fn merge_filter_constraints(
     counts: &[u32],
     index: &[u64],
     marks: &mut [u8],
+    reasons: &mut [u8],
 ) -> Rewriting
     requires { ⌜ (n ≤ stride (now marks)) × (stride (now marks) ≤ 128) × (used ≤ 4096) × (n ≤ length (now nodes))
         × Indexed (now starts) (now counts) (now p) (now index) ⌝ }
     requires { ⌜ ((i : ℕ) → i < n → ToldConjunct (conjuncts (now kinds) (now values) (now starts) (now counts) (now p)) i
         (classify (aexprOf (now rs) (now p)) (getD (now nodes) i 0))) ⌝ }
     requires { ⌜ ((i : ℕ) → i < n → ColumnsBelow 64 (classify (aexprOf (now rs) (now p)) (getD (now nodes) i 0))) ⌝ }
-    ensures { λ r. ⌜ r .answer ≡ reckonedAnswer (length (now (rs .entry))) (now (trees .entry)) used (mergeFilterConstraints payload
-        (map (classify (aexprOf (now (rs .entry)) (now (p .entry)))) (firstOf (now (nodes .entry)) n))) ⌝ }
+    ensures { λ r. ⌜ r .answer ≡ refuseLong (length (nodesText (now (rs .entry)) (now (p .entry)) (now (nodes .entry)) n))
+        (length (now (reasons .entry))) (reckonedAnswer (length (now (rs .entry))) (now (trees .entry)) used
+        (mergeFilterConstraints payload (map (classify (aexprOf (now (rs .entry)) (now (p .entry))))
+        (firstOf (now (nodes .entry)) n)))) ⌝ }
     ensures { λ r. ⌜ now (rs .exit) ≡ writtenIf (r .answer) (now (rs .entry)) (outcomeBytes (now (t .entry)) (now (rs .entry))
         used (mergeFilterConstraints payload (map (classify (aexprOf (now (rs .entry)) (now (p .entry))))
         (firstOf (now (nodes .entry)) n)))) ⌝ }
     ensures { λ r. ⌜ r .passes ≡ mergePasses payload (map (classify (aexprOf (now (rs .entry)) (now (p .entry))))
         (firstOf (now (nodes .entry)) n)) ⌝ }
+    ensures { λ r. ⌜ now (reasons .exit) ≡ textIf (r .answer) (now (reasons .entry))
+        (nodesText (now (rs .entry)) (now (p .entry)) (now (nodes .entry)) n) ⌝ }
+    ensures { λ r. ⌜ r .length ≡ lengthIf (r .answer) (nodesText (now (rs .entry)) (now (p .entry)) (now (nodes .entry)) n) ⌝ }
 {
-    let mut cells = [0u64; 512];
+    let mut cells = [0u64; 704];
     let mut order = [0u32; 260];
     let mut kept = [0u32; 260];
     let mut lefts = [0u32; 130];
@@ -95,7 +102,7 @@ pub fn merge_filter_constraints(
         &mut equals,
     );
     if s.unsat {
-        return with_passes(nothing_passes(rs, used), 0);
+        return with_passes(nothing_passes(rs, used), 0, 0);
     }
     let m = propagate_equalities(
         index,
@@ -125,16 +132,27 @@ pub fn merge_filter_constraints(
         s.columns,
     );
     if r.unsat {
-        return with_passes(nothing_passes(rs, used), m.passes);
+        return with_passes(nothing_passes(rs, used), m.passes, 0);
     }
     if !((r.total < s.bounds) | (s.normalized | (m.emitted | k.dropped))) {
-        return with_passes(RewriteAnswer::Unchanged, m.passes);
+        return with_passes(RewriteAnswer::Unchanged, m.passes, 0);
     }
-    let answer = rebuilt_answer(rs.len(), trees, &kept, k.keeps, used, r.total);
-    if !is_rewritten(answer) {
-        return with_passes(answer, m.passes);
-    }
-    let u = write_comparisons(t, rs, used, kinds, values, &cells, marks, &order, s.columns);
-    write_ands(rs, &kept, k.keeps, used, k.keeps + r.total, u);
-    with_passes(answer, m.passes)
+    let b = rebuild(
+        t,
+        rs,
+        used,
+        trees,
+        kinds,
+        values,
+        &cells,
+        marks,
+        &order,
+        s.columns,
+        &kept,
+        k.keeps,
+        r.total,
+        reasons,
+    );
+    let answer = b.answer;
+    with_passes(answer, m.passes, b.length)
 }

@@ -1,9 +1,10 @@
-// A column as eight words: the lower bound's kind and value, the upper bound's, how many numbers, strict, nullability,
-// unsat. Eight zeros are the empty column.
+// A column as eleven words: the lower bound's kind and value, the upper bound's, how many numbers, strict, nullability,
+// unsat, the lower bound's line, the upper bound's, the null requirement's. Eleven zeros are the empty column.
 ghost use mathlib.Core.Path.{_≡_};
 ghost use lib.ListN.{length};
-ghost use Rattle.filter_constraint.specs.Words.{kindWord, valueWord, nullWord, flagWord, boundFrom, nullFrom, columnFrom, wordsOf};
+ghost use Rattle.filter_constraint.specs.Words.{kindWord, valueWord, lineWord, nullWord, flagWord, boundFrom, nullFrom, columnFrom, wordsOf};
 use columns::bound::Bound;
+use columns::bound::Limit;
 use columns::column::ColumnConstraints;
 use constraints::column::Nullability;
 use truth::scalar::Scalar;
@@ -23,21 +24,35 @@ fn bound_value(b: Bound) -> u64
 {
     match b {
         Bound::Absent => 0,
-        Bound::Open(v) => v.0,
-        Bound::Closed(v) => v.0,
+        Bound::Open(v) => v.value.0,
+        Bound::Closed(v) => v.value.0,
     }
 }
 
-fn bound_from(kind: u64, value: u64) -> Bound
-    ensures { λ r. ⌜ r ≡ boundFrom kind value ⌝ }
+fn bound_line(b: Bound) -> u64
+    ensures { λ r. ⌜ r ≡ lineWord b ⌝ }
 {
+    match b {
+        Bound::Absent => 0,
+        Bound::Open(v) => v.line,
+        Bound::Closed(v) => v.line,
+    }
+}
+
+fn bound_from(kind: u64, value: u64, line: u64) -> Bound
+    ensures { λ r. ⌜ r ≡ boundFrom kind value line ⌝ }
+{
+    let limit = Limit {
+        value: Scalar(value),
+        line: line,
+    };
     if kind == 0 {
         return Bound::Absent;
     }
     if kind == 1 {
-        return Bound::Open(Scalar(value));
+        return Bound::Open(limit);
     }
-    Bound::Closed(Scalar(value))
+    Bound::Closed(limit)
 }
 
 fn nullability_word(n: Nullability) -> u64
@@ -84,11 +99,11 @@ fn wide(x: usize) -> u64
 }
 
 pub fn read_words(words: &[u64]) -> ColumnConstraints
-    requires { ⌜ length (now words) ≡ 8 ⌝ }
+    requires { ⌜ length (now words) ≡ 11 ⌝ }
     ensures { λ r. ⌜ r ≡ columnFrom (now (words .entry)) ⌝ }
 {
-    let low = bound_from(words[0], words[1]);
-    let upp = bound_from(words[2], words[3]);
+    let low = bound_from(words[0], words[1], words[8]);
+    let upp = bound_from(words[2], words[3], words[9]);
     let nul = nullability_from(words[6]);
     ColumnConstraints {
         lower: low,
@@ -96,12 +111,13 @@ pub fn read_words(words: &[u64]) -> ColumnConstraints
         len: narrow(words[4]),
         strict: words[5] == 1,
         nullability: nul,
+        since: words[10],
         unsat: words[7] == 1,
     }
 }
 
 pub fn write_words(words: &mut [u64], c: ColumnConstraints)
-    requires { ⌜ length (now words) ≡ 8 ⌝ }
+    requires { ⌜ length (now words) ≡ 11 ⌝ }
     ensures { λ _. ⌜ now (words .exit) ≡ wordsOf c ⌝ }
 {
     let low = c.lower;
@@ -115,4 +131,7 @@ pub fn write_words(words: &mut [u64], c: ColumnConstraints)
     words[5] = flag_word(c.strict);
     words[6] = nullability_word(nul);
     words[7] = flag_word(c.unsat);
+    words[8] = bound_line(low);
+    words[9] = bound_line(upp);
+    words[10] = c.since;
 }

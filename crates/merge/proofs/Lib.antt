@@ -1,5 +1,6 @@
 pub mod Accepted
 pub mod BoundKeys
+pub mod Carried
 pub mod Cases
 pub mod Chains
 pub mod Compared
@@ -9,8 +10,10 @@ pub mod Complete
 pub mod Counting
 pub mod Demand
 pub mod Extended
+pub mod FirstGave
 pub mod Fitting
 pub mod Forms
+pub mod LineBehind
 pub mod Literals
 pub mod Operators
 pub mod Passes
@@ -22,6 +25,7 @@ pub mod Readings
 pub mod Rebuilding
 pub mod RebuiltBytes
 pub mod RebuiltChain
+pub mod ReasonCases
 pub mod Reread
 pub mod Returned
 pub mod Settled

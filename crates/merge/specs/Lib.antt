@@ -3,6 +3,7 @@ pub mod Classify
 pub mod Collect
 pub mod Propagate
 pub mod Emit
+pub mod Lines
 pub mod Plain
 pub mod Rebuild
 pub mod Write
@@ -12,4 +13,6 @@ pub mod Usable
 pub mod Compared
 pub mod Twice
 pub mod Passes
+pub mod Reasons
+pub mod LineBehind
 pub mod Cases

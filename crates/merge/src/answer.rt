@@ -8,8 +8,10 @@ pub enum RewriteAnswer {
     Rewritten(u64, u64),
 }
 
-/// What rewriting gives: the answer, and how many passes over the equalities it made. A refusal says nothing of them.
+/// What rewriting gives: the answer, how many passes over the equalities it made, and how many bytes the text of the
+/// reasons has. A refusal says nothing of the passes.
 pub struct Rewriting {
     pub answer: RewriteAnswer,
     pub passes: u64,
+    pub length: u64,
 }

@@ -157,19 +157,24 @@ fn print_bytes(s: &[u8], from: usize, to: usize) {
     }
 }
 
-// Rewriting, whose out-parameters stand at 7, 9 and 11 before the call; then the records that were added.
+// Rewriting, whose out-parameters stand at 7, 9, 11 and 13 before the call; then the records that were added. There is room
+// for every text of reasons, which is held to a model elsewhere (tools/compare).
 fn rewrite(table: &[u8], records: &mut [u8], pool: &[u8], used: u64, root: u64) {
     let mut new_root: u64 = 7;
     let mut new_used: u64 = 9;
     let mut passes: u64 = 11;
+    let mut reasons_used: u64 = 13;
+    let mut reasons = [0u8; 34816];
     let answer = screen::screen_rewrite(
         table,
         records,
         pool,
         used,
         root,
+        &mut reasons,
         &mut new_root,
         &mut new_used,
+        &mut reasons_used,
         &mut passes,
     );
     print_number(wide(answer));

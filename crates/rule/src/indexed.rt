@@ -17,6 +17,8 @@ ghost use Rattle.rewrite.specs.Told.{ToldConjunct};
 ghost use Rattle.stages.specs.Columns.{ColumnsBelow};
 ghost use Rattle.stages.specs.Reckon.{reckonedAnswer};
 ghost use Rattle.stages.specs.Rows.{stride};
+ghost use Rattle.reasons.specs.Explained.{refuseLong, textIf, lengthIf};
+ghost use Rattle.filter_constraint.specs.Explained.{nodesText};
 use columns::index::make_index;
 use filter_constraint::merging::merge_filter_constraints;
 use merge::answer::Rewriting;
@@ -35,19 +37,25 @@ pub fn merge_indexed(
     starts: &[u32],
     counts: &[u32],
     marks: &mut [u8],
+    reasons: &mut [u8],
 ) -> Rewriting
     requires { ⌜ (n ≤ stride (now marks)) × (stride (now marks) ≤ 128) × (used ≤ 4096) × (n ≤ length (now nodes))
         × ((j : ℕ) → j < 128 → getD (now starts) j 0 + getD (now counts) j 0 ≤ 8192) ⌝ }
     requires { ⌜ ((i : ℕ) → i < n → ToldConjunct (conjuncts (now kinds) (now values) (now starts) (now counts) (now p)) i
         (classify (aexprOf (now rs) (now p)) (getD (now nodes) i 0))) ⌝ }
     requires { ⌜ ((i : ℕ) → i < n → ColumnsBelow 64 (classify (aexprOf (now rs) (now p)) (getD (now nodes) i 0))) ⌝ }
-    ensures { λ r. ⌜ r .answer ≡ reckonedAnswer (length (now (rs .entry))) (now (trees .entry)) used (mergeFilterConstraints payload
-        (map (classify (aexprOf (now (rs .entry)) (now (p .entry)))) (firstOf (now (nodes .entry)) n))) ⌝ }
+    ensures { λ r. ⌜ r .answer ≡ refuseLong (length (nodesText (now (rs .entry)) (now (p .entry)) (now (nodes .entry)) n))
+        (length (now (reasons .entry))) (reckonedAnswer (length (now (rs .entry))) (now (trees .entry)) used
+        (mergeFilterConstraints payload (map (classify (aexprOf (now (rs .entry)) (now (p .entry))))
+        (firstOf (now (nodes .entry)) n)))) ⌝ }
     ensures { λ r. ⌜ now (rs .exit) ≡ writtenIf (r .answer) (now (rs .entry)) (outcomeBytes (now (t .entry)) (now (rs .entry))
         used (mergeFilterConstraints payload (map (classify (aexprOf (now (rs .entry)) (now (p .entry))))
         (firstOf (now (nodes .entry)) n)))) ⌝ }
     ensures { λ r. ⌜ r .passes ≡ mergePasses payload (map (classify (aexprOf (now (rs .entry)) (now (p .entry))))
         (firstOf (now (nodes .entry)) n)) ⌝ }
+    ensures { λ r. ⌜ now (reasons .exit) ≡ textIf (r .answer) (now (reasons .entry))
+        (nodesText (now (rs .entry)) (now (p .entry)) (now (nodes .entry)) n) ⌝ }
+    ensures { λ r. ⌜ r .length ≡ lengthIf (r .answer) (nodesText (now (rs .entry)) (now (p .entry)) (now (nodes .entry)) n) ⌝ }
 {
     let mut index = [0u64; 24576];
     make_index(starts, counts, p, &mut index);
@@ -65,5 +73,6 @@ pub fn merge_indexed(
         counts,
         &index,
         marks,
+        reasons,
     )
 }

@@ -34,7 +34,7 @@ use Rattle.merge.proofs.Written.{length-write}
 use Rattle.merge.proofs.RebuiltBytes.{comparisons-end, ands-end, fold-end}
 use Rattle.screen.specs.Promises.{BytesKept}
 
-kept-all : (rs : List ℕ) (first end : ℕ) → BytesKept rs rs first end
+pub kept-all : (rs : List ℕ) (first end : ℕ) → BytesKept rs rs first end
 kept-all rs first end = record { lent = refl; before = λ i h. refl; behind = λ i h. refl }
 
 kept-then : (rs mid out : List ℕ) (first middle end : ℕ) → first ≤ middle → middle ≤ end

@@ -24,6 +24,7 @@ use Rattle.merge.specs.Emit.{Outcome, Unchanged, NothingPasses, Rebuilt}
 use Rattle.merge.specs.Minterms.{minterms}
 use Rattle.merge.specs.Rewrite.{outcomeOf, chainRoot, chainUsed, hasRoom, chainFits, outcomeAnswer}
 use Rattle.merge.specs.Rewrite.{rewriteIf, rewriteAnswer}
+use Rattle.reasons.specs.Explained.{refuseLong, explainedText, explainedAnswer}
 use Rattle.screen.specs.Answers.{checkNumber, columnsNumber, rowNumber, truthNumber, rewriteNumber}
 use Rattle.screen.specs.Listed.{listed, checkRefusals, checkListed, columnsListed, rowListed, rewriteListed}
 use Rattle.screen.specs.Listed.{saveListed, loadListed}
@@ -122,11 +123,27 @@ module _ (t rs p : List ℕ) (used root : ℕ) where
           → Ok (rewriteIf a (cond (ltb 4096 (treeCount rs root)) (answer.Refused 8)
           (cond (ltb 128 (length (minterms (aexprAt rs p used) root))) (answer.Refused 9)
           (outcomeAnswer t rs used (outcomeOf rs p used root)))))
-      go (check.Refused k) e = refusal-listed (8 ∷ 9 ∷ 11 ∷ 256 ∷ 257 ∷ 258 ∷ []) k e
+      go (check.Refused k) e = refusal-listed (8 ∷ 9 ∷ 11 ∷ 16 ∷ 256 ∷ 257 ∷ 258 ∷ []) k e
       go check.Accepted e =
           pick Ok (ltb 4096 (treeCount rs root)) (answer.Refused 8) _ refl
           (pick Ok (ltb 128 (length (minterms (aexprAt rs p used) root))) (answer.Refused 9) _ refl
           (outcome (outcomeOf rs p used root)))
+
+  pub explained-listed : (len : ℕ) → rewriteListed (rewriteNumber (explainedAnswer t rs p used root len)) ≡ true
+  unfolding explainedAnswer
+  explained-listed len = go (rewriteAnswer t rs p used root) rewrite-listed
+    where
+      size : ℕ
+      size = length (explainedText rs p used root)
+
+      go : (a : RewriteAnswer) → rewriteListed (rewriteNumber a) ≡ true
+          → rewriteListed (rewriteNumber (refuseLong size len a)) ≡ true
+      go (answer.Refused k) h = h
+      go answer.Unchanged h = h
+      go (answer.NothingPasses root′ used′) h = h
+      go (answer.Rewritten root′ used′) h =
+          pick (λ x. rewriteListed (rewriteNumber x) ≡ true) (leb size len) (answer.Rewritten root′ used′) (answer.Refused 16)
+          refl refl
 
   pub save-listed : (room : ℕ) → saveListed (saveNumber (saveAnswer t rs p used root room)) ≡ true
   unfolding saveAnswer

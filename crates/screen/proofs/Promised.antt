@@ -2,10 +2,10 @@
 use mathlib.Core.Path.{_≡_, refl, sym, _∙_, ap, subst}
 use mathlib.Core.Bool.{Bool, true, false, cond, true≢false}
 use mathlib.Core.List.{List}
-use mathlib.Core.Logic.{_↔_}
+use mathlib.Core.Logic.{_↔_, _⊎_, inl, inr}
 use Prim.Native.Nat.{ℕ, suc, _≤_, _<_}
 use native.Mathlib.Omega.{arith}
-use lib.Dec.{ltb}
+use lib.Dec.{leb, ltb}
 use lib.ListN.{length}
 use borrow.Author.Tests.{le-ltb}
 use Rattle.checking.specs.Check.{checkAnswer}
@@ -23,17 +23,19 @@ use Rattle.merge.specs.Minterms.{minterms}
 use Rattle.merge.specs.Passes.{edgeColumns, screenEqualities, rewritePasses}
 use Rattle.merge.specs.Usable.{Usable, SameTests}
 use Rattle.merge.specs.Rewrite.{outcomeOf, chainRoot, chainUsed, hasRoom, chainFits, outcomeAnswer}
-use Rattle.merge.specs.Rewrite.{rewriteIf, rewriteAnswer, rewriteBytes}
+use Rattle.merge.specs.Rewrite.{rewriteIf, rewriteAnswer, rewriteBytes, writtenIf}
+use Rattle.merge.specs.Write.{outcomeBytes}
+use Rattle.reasons.specs.Explained.{refuseLong, explainedText, explainedAnswer, explainedBytes, textIf, lengthIf}
 use Rattle.merge.proofs.Compared.{rewritten-root-is-new}
 use Rattle.merge.proofs.Demand.{demand-3}
 use Rattle.merge.proofs.PassesEnd.{rewrite-passes-at-most}
 use Rattle.merge.proofs.TwiceBytes.{twice-unchanged}
 use Rattle.merge.proofs.Usable.{returned-usable, returned-tests-same}
-use Rattle.screen.specs.Answers.{rewriteNumber, newRootOut, newUsedOut, passesOut}
+use Rattle.screen.specs.Answers.{rewriteNumber, newRootOut, newUsedOut, passesOut, reasonsUsedOut}
 use Rattle.screen.specs.Promises.{returned, BytesKept, RewritePromise}
 use Rattle.screen.specs.Listed.{rewriteListed}
-use Rattle.screen.proofs.Kept.{rewrite-kept}
-use Rattle.screen.proofs.Listed.{rewrite-listed}
+use Rattle.screen.proofs.Kept.{kept-all, rewrite-kept}
+use Rattle.screen.proofs.Listed.{explained-listed}
 
 -- ---- A refusal's number is below 256.
 abbrev SmallRefusal : RewriteAnswer → Type 0
@@ -105,10 +107,6 @@ root-returned answer.Unchanged root old h = refl
 root-returned (answer.NothingPasses root′ used′) root old h = refl
 root-returned (answer.Rewritten root′ used′) root old h = refl
 
--- What is said of the passes, of the answer that a match has told.
-pub counted-as : (x a : RewriteAnswer) (P : Type 0) → x ≡ a → (isRefused x ≡ false → P) → isRefused a ≡ false → P
-counted-as x a P e h k = h (ap isRefused e ∙ k)
-
 passes-written : (a : RewriteAnswer) (made defined old : ℕ) → (isRefused a ≡ false → made ≡ defined)
     → passesOut a made old ≡ passesOut a defined old
 passes-written (answer.Refused k) made defined old h = refl
@@ -122,6 +120,53 @@ passes-small (answer.Refused k) made old most h m n = absurd (omega (arith, h, n
 passes-small answer.Unchanged made old most h m n = m
 passes-small (answer.NothingPasses root used) made old most h m n = m
 passes-small (answer.Rewritten root used) made old most h m n = m
+
+-- ---- The text of the reasons: with room for it the answer is that of rewriting; without, 16.
+module _ (t rs p : List ℕ) (used root len : ℕ) where
+  pub by-room : (a : RewriteAnswer) → explainedAnswer t rs p used root len ≡ a
+      → (rewriteAnswer t rs p used root ≡ a) ⊎ (a ≡ answer.Refused 16)
+  unfolding explainedAnswer
+  by-room a e = go (rewriteAnswer t rs p used root) e
+    where
+      size : ℕ
+      size = length (explainedText rs p used root)
+
+      test : (b : Bool) (root′ used′ : ℕ) → cond b (answer.Rewritten root′ used′) (answer.Refused 16) ≡ a
+          → (answer.Rewritten root′ used′ ≡ a) ⊎ (a ≡ answer.Refused 16)
+      test true root′ used′ h = inl h
+      test false root′ used′ h = inr (sym h)
+
+      go : (x : RewriteAnswer) → refuseLong size len x ≡ a → (x ≡ a) ⊎ (a ≡ answer.Refused 16)
+      go (answer.Refused k) h = inl h
+      go answer.Unchanged h = inl h
+      go (answer.NothingPasses root′ used′) h = inl h
+      go (answer.Rewritten root′ used′) h = test (leb size len) root′ used′ h
+
+  -- The records at exit, where the answer is that of rewriting; and where it is 16.
+  same-bytes : rewriteAnswer t rs p used root ≡ explainedAnswer t rs p used root len
+      → explainedBytes t rs p used root len ≡ rewriteBytes t rs p used root
+  unfolding explainedBytes rewriteBytes
+  same-bytes e = ap (λ a. writtenIf a rs (outcomeBytes t rs used (outcomeOf rs p used root))) (sym e)
+
+  no-bytes : explainedAnswer t rs p used root len ≡ answer.Refused 16 → explainedBytes t rs p used root len ≡ rs
+  unfolding explainedBytes
+  no-bytes e = ap (λ a. writtenIf a rs (outcomeBytes t rs used (outcomeOf rs p used root))) e
+
+  unrefused : 256 ≤ rewriteNumber (explainedAnswer t rs p used root len)
+      → explainedAnswer t rs p used root len ≡ rewriteAnswer t rs p used root
+  unrefused n = go (by-room (explainedAnswer t rs p used root len) refl)
+    where
+      go : (rewriteAnswer t rs p used root ≡ explainedAnswer t rs p used root len)
+          ⊎ (explainedAnswer t rs p used root len ≡ answer.Refused 16)
+          → explainedAnswer t rs p used root len ≡ rewriteAnswer t rs p used root
+      go (inl e) = sym e
+      go (inr e) = let k : rewriteNumber (explainedAnswer t rs p used root len) ≡ 16 = ap rewriteNumber e in absurd (omega (arith, n, k))
+
+length-written : (a : RewriteAnswer) (text : List ℕ) (old : ℕ) → passesOut a (lengthIf a text) old ≡ reasonsUsedOut a text old
+length-written (answer.Refused k) text old = refl
+length-written answer.Unchanged text old = refl
+length-written (answer.NothingPasses root used) text old = refl
+length-written (answer.Rewritten root used) text old = refl
 
 -- ---- The promises of a call that answered a, made so many passes and left out; oldRoot, oldUsed and oldPasses stood in
 -- the out-parameters.
@@ -199,46 +244,115 @@ module _ (t rs p : List ℕ) (used root : ℕ) (a : RewriteAnswer) (is : rewrite
               λ n. moved (SameTests t rs p used root) (returned-tests-same t rs p used root bytes (kept n));
           root-is-new = λ e. new-root a is low e;
           again =
-              λ n. moved (λ o u s. 256 ≤ rewriteNumber (rewriteAnswer t o p u s)
-              → rewriteNumber (rewriteAnswer t o p u s) ≡ 256) (λ m. ap rewriteNumber
-              (twice-unchanged t rs p used root bytes (kept n)
+              λ n len. moved (λ o u s. 256 ≤ rewriteNumber (explainedAnswer t o p u s len)
+              → rewriteNumber (explainedAnswer t o p u s len) ≡ 256) (λ m.
+              let x = unrefused t (rewriteBytes t rs p used root) p (usedAfter (rewriteAnswer t rs p used root) used)
+              (rootAfter (rewriteAnswer t rs p used root) root) len m in ap rewriteNumber
+              (x ∙ twice-unchanged t rs p used root bytes (kept n)
               (accepted (rewriteAnswer t (rewriteBytes t rs p used root) p
               (usedAfter (rewriteAnswer t rs p used root) used) (rootAfter (rewriteAnswer t rs p used root) root))
               (small t (rewriteBytes t rs p used root) p (usedAfter (rewriteAnswer t rs p used root) used)
-              (rootAfter (rewriteAnswer t rs p used root) root)) m)));
+              (rootAfter (rewriteAnswer t rs p used root) root)) (subst (λ y. 256 ≤ rewriteNumber y) x m))));
           ceiling = call-ceiling;
         }
 
-    -- All that the call ensures.
-    pub call-ensures :
-        (rewriteNumber a ≡ rewriteNumber (rewriteAnswer t rs p used root))
-        × ((rewriteListed (rewriteNumber a) ≡ true)
-        × ((newRootOut a oldRoot ≡ newRootOut (rewriteAnswer t rs p used root) oldRoot)
-        × ((newUsedOut a oldUsed ≡ newUsedOut (rewriteAnswer t rs p used root) oldUsed)
-        × ((out ≡ rewriteBytes t rs p used root)
-        × (BytesKept rs out used (returned (rewriteNumber a) used (newUsedOut a oldUsed))
-        × ((passesOut a made oldPasses ≡ passesOut (rewriteAnswer t rs p used root) (rewritePasses rs p used root) oldPasses)
-        × RewritePromise t rs p used root (rewriteNumber a) out (newRootOut a oldRoot) (newUsedOut a oldUsed)
-        (passesOut a made oldPasses)))))))
-    call-ensures = (
-      ap rewriteNumber (sym is),
+-- A call that answered 16 left the records as they were, and promises nothing.
+refused-promise : (t rs p : List ℕ) (used root : ℕ) (newRoot newUsed made : ℕ)
+    → RewritePromise t rs p used root 16 rs newRoot newUsed made
+refused-promise t rs p used root newRoot newUsed made =
+    record {
+      rows = λ n. absurd (omega (arith, n));
+      counts = λ n. absurd (omega (arith, n));
+      nothing = λ e. absurd (omega (arith, e));
+      exactly = λ n. absurd (omega (arith, n));
+      usable = λ n. absurd (omega (arith, n));
+      tests = λ n. absurd (omega (arith, n));
+      root-is-new = λ e. absurd (omega (arith, e));
+      again = λ n. absurd (omega (arith, n));
+      ceiling = λ n. absurd (omega (arith, n));
+    }
+
+-- ---- All that the call ensures. It answered a, which `rewrite_screen` gave as x; `after` stands in the text buffer, z is
+-- the length of the text that it gave.
+module _ (t rs p : List ℕ) (used root : ℕ) (buffer : List ℕ) (x a : RewriteAnswer) (e : x ≡ a)
+    (is : x ≡ explainedAnswer t rs p used root (length buffer)) (out : List ℕ)
+    (written : out ≡ explainedBytes t rs p used root (length buffer)) (made : ℕ)
+    (counted : isRefused x ≡ false → made ≡ rewritePasses rs p used root) (after : List ℕ)
+    (told : after ≡ textIf x buffer (explainedText rs p used root)) (z : ℕ)
+    (sized : z ≡ lengthIf x (explainedText rs p used root)) (oldRoot oldUsed oldLength oldPasses : ℕ)
+    (bytes : AreBytes rs) where
+  answered : explainedAnswer t rs p used root (length buffer) ≡ a
+  answered = sym is ∙ e
+
+  counted-a : isRefused a ≡ false → made ≡ rewritePasses rs p used root
+  counted-a h = counted (ap isRefused e ∙ h)
+
+  abbrev Promised : Type 0
+  Promised =
+      BytesKept rs out used (returned (rewriteNumber a) used (newUsedOut a oldUsed))
+      × RewritePromise t rs p used root (rewriteNumber a) out (newRootOut a oldRoot) (newUsedOut a oldUsed)
+      (passesOut a made oldPasses)
+
+  promised : Promised
+  promised = go (by-room t rs p used root (length buffer) a answered)
+    where
+      go : (rewriteAnswer t rs p used root ≡ a) ⊎ (a ≡ answer.Refused 16) → Promised
+      go (inl r) =
+          let w : out ≡ rewriteBytes t rs p used root =
+          written ∙ same-bytes t rs p used root (length buffer) (r ∙ sym answered) in (
+            call-kept t rs p used root a r out w made counted-a oldRoot oldUsed oldPasses,
+            call-promise t rs p used root a r out w made counted-a oldRoot oldUsed oldPasses bytes,
+          )
+      go (inr r) =
+          let w : rs ≡ out = sym (written ∙ no-bytes t rs p used root (length buffer) (answered ∙ r)) in
+          subst (λ b. BytesKept rs out used (returned (rewriteNumber b) used (newUsedOut b oldUsed))
+          × RewritePromise t rs p used root (rewriteNumber b) out (newRootOut b oldRoot) (newUsedOut b oldUsed)
+          (passesOut b made oldPasses)) (sym r)
+          (subst (λ o. BytesKept rs o used used × RewritePromise t rs p used root 16 o oldRoot oldUsed oldPasses) w
+          (kept-all rs used used, refused-promise t rs p used root oldRoot oldUsed oldPasses))
+
+  pub call-ensures :
+      (rewriteNumber a ≡ rewriteNumber (explainedAnswer t rs p used root (length buffer)))
+      × ((rewriteListed (rewriteNumber a) ≡ true)
+      × ((newRootOut a oldRoot ≡ newRootOut (explainedAnswer t rs p used root (length buffer)) oldRoot)
+      × ((newUsedOut a oldUsed ≡ newUsedOut (explainedAnswer t rs p used root (length buffer)) oldUsed)
+      × ((out ≡ explainedBytes t rs p used root (length buffer))
+      × (BytesKept rs out used (returned (rewriteNumber a) used (newUsedOut a oldUsed))
+      × ((after ≡ textIf (explainedAnswer t rs p used root (length buffer)) buffer (explainedText rs p used root))
+      × ((passesOut a z oldLength ≡ reasonsUsedOut (explainedAnswer t rs p used root (length buffer))
+      (explainedText rs p used root) oldLength)
+      × ((passesOut a made oldPasses ≡
+      passesOut (explainedAnswer t rs p used root (length buffer)) (rewritePasses rs p used root) oldPasses)
+      × RewritePromise t rs p used root (rewriteNumber a) out (newRootOut a oldRoot) (newUsedOut a oldUsed)
+      (passesOut a made oldPasses)))))))))
+  call-ensures = (
+    ap rewriteNumber (sym answered),
+    (
+      subst (λ y. rewriteListed (rewriteNumber y) ≡ true) answered (explained-listed t rs p used root (length buffer)),
       (
-        subst (λ x. rewriteListed (rewriteNumber x) ≡ true) is (rewrite-listed t rs p used root),
+        ap (λ y. newRootOut y oldRoot) (sym answered),
         (
-          ap (λ x. newRootOut x oldRoot) (sym is),
+          ap (λ y. newUsedOut y oldUsed) (sym answered),
           (
-            ap (λ x. newUsedOut x oldUsed) (sym is),
+            written,
             (
-              written,
+              promised .0,
               (
-                call-kept,
+                told ∙ ap (λ y. textIf y buffer (explainedText rs p used root)) is,
                 (
-                  call-passes ∙ ap (λ x. passesOut x (rewritePasses rs p used root) oldPasses) (sym is),
-                  call-promise,
+                  ap (λ n. passesOut a n oldLength) (sized ∙ ap (λ y. lengthIf y (explainedText rs p used root)) e)
+                      ∙ length-written a (explainedText rs p used root) oldLength
+                      ∙ ap (λ y. reasonsUsedOut y (explainedText rs p used root) oldLength) (sym answered),
+                  (
+                    passes-written a made (rewritePasses rs p used root) oldPasses counted-a
+                        ∙ ap (λ y. passesOut y (rewritePasses rs p used root) oldPasses) (sym answered),
+                    promised .1,
+                  ),
                 ),
               ),
             ),
           ),
         ),
       ),
-    )
+    ),
+  )

@@ -1,6 +1,8 @@
 -- The numbers and values that the C interface gives for each answer. An answer below 256 is a refusal with 01's number;
 -- 256 and up is an answer. An out-parameter that an answer does not set keeps its value.
 use Prim.Native.Nat.{ℕ}
+use mathlib.Core.List.{List}
+use lib.ListN.{length}
 use Rattle.checking.specs.declared.check.CheckAnswer.{CheckAnswer}
 use Rattle.checking.specs.declared.check.CheckAnswer.the-variants as check
 use Rattle.checking.specs.declared.reads.ColumnsAnswer.{ColumnsAnswer}
@@ -70,3 +72,10 @@ passesOut (rewrite.Refused k) made old = old
 passesOut rewrite.Unchanged made old = made
 passesOut (rewrite.NothingPasses root used) made old = made
 passesOut (rewrite.Rewritten root used) made old = made
+
+-- the same of `reasons_used`: the length of the text, which is empty unless the screen was rewritten
+abbrev pub reasonsUsedOut : RewriteAnswer → List ℕ → ℕ → ℕ
+reasonsUsedOut (rewrite.Refused k) text old = old
+reasonsUsedOut rewrite.Unchanged text old = 0
+reasonsUsedOut (rewrite.NothingPasses root used) text old = 0
+reasonsUsedOut (rewrite.Rewritten root used) text old = length text

@@ -25,9 +25,10 @@ columnsListed r = listed (checkRefusals ++ (256 ∷ [])) r
 abbrev pub rowListed : ℕ → Bool
 rowListed r = listed (checkRefusals ++ (8 ∷ 12 ∷ 13 ∷ 256 ∷ 257 ∷ 258 ∷ [])) r
 
--- "Rewriting: as checking; 8 ..; 9 ..; 11 .. Else unchanged, nothing passes, or rewritten"; 10 is unused (2.11)
+-- "Rewriting: as checking; 8 ..; 9 ..; 11 .. Else unchanged, nothing passes, or rewritten"; 10 is unused (2.11), and 16
+-- comes after 11 (2.6)
 abbrev pub rewriteListed : ℕ → Bool
-rewriteListed r = listed (checkRefusals ++ (8 ∷ 9 ∷ 11 ∷ 256 ∷ 257 ∷ 258 ∷ [])) r
+rewriteListed r = listed (checkRefusals ++ (8 ∷ 9 ∷ 11 ∷ 16 ∷ 256 ∷ 257 ∷ 258 ∷ [])) r
 
 -- 02, 2.3: saving is refused with 1 to 7, then 14; loading with 15, 14, then 1 to 7 of the screen held
 abbrev pub saveListed : ℕ → Bool

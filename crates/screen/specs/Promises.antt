@@ -13,7 +13,7 @@ use Rattle.merge.specs.Plain.{plainScreen}
 use Rattle.merge.specs.Demand.{Row, IsRow, IsChain, passes, rowsPassing}
 use Rattle.merge.specs.Usable.{Usable, SameTests}
 use Rattle.merge.specs.Passes.{edgeColumns, screenEqualities}
-use Rattle.merge.specs.Rewrite.{rewriteAnswer}
+use Rattle.reasons.specs.Explained.{explainedAnswer}
 use Rattle.screen.specs.Answers.{rewriteNumber}
 
 -- columns read answered 256: bit c of the word is set exactly if the root reaches column c, and the count is the number of
@@ -39,7 +39,7 @@ pub record BytesKept (rs out : List ℕ) (first end : ℕ) : Type 0 where
 -- accepted by checking, with a tree of at most 4,096 records; so testing a row, whatever its bytes and null marks,
 -- refuses it under both screens with the same number or under neither, and it passes under both or under neither. The
 -- root of a rewritten screen is one of the records added, so the screen sent still stands under its old root.
--- Rewriting the screen returned, unless that is refused, answers unchanged. No more passes are made over the equalities
+-- Rewriting the screen returned, in any text buffer, unless that is refused, answers unchanged. No more passes are made over the equalities
 -- than they have different columns (02, 2.13).
 pub record RewritePromise (t rs p : List ℕ) (used root answer : ℕ) (out : List ℕ) (newRoot newUsed made : ℕ) : Type 0 where
   pub rows : 256 ≤ answer → (row : Row) → IsRow t (aexprAt rs p used) root row
@@ -55,7 +55,7 @@ pub record RewritePromise (t rs p : List ℕ) (used root answer : ℕ) (out : Li
   pub tests : 256 ≤ answer
       → SameTests t rs p used root out (returned answer used newUsed) (returned answer root newRoot)
   pub root-is-new : answer ≡ 258 → (root < used) × (used ≤ newRoot) × (newRoot < newUsed)
-  pub again : 256 ≤ answer
-      → 256 ≤ rewriteNumber (rewriteAnswer t out p (returned answer used newUsed) (returned answer root newRoot))
-      → rewriteNumber (rewriteAnswer t out p (returned answer used newUsed) (returned answer root newRoot)) ≡ 256
+  pub again : 256 ≤ answer → (len : ℕ)
+      → 256 ≤ rewriteNumber (explainedAnswer t out p (returned answer used newUsed) (returned answer root newRoot) len)
+      → rewriteNumber (explainedAnswer t out p (returned answer used newUsed) (returned answer root newRoot) len) ≡ 256
   pub ceiling : 256 ≤ answer → made ≤ length (edgeColumns (screenEqualities rs p used root))

@@ -5,10 +5,10 @@ ghost use mathlib.Core.Bool.{true};
 ghost use Rattle.checking.specs.Check.{checkAnswer};
 ghost use Rattle.checking.specs.Columns.{columnsAnswer};
 ghost use Rattle.screen.specs.Answers.{checkNumber, columnsNumber, columnsOut, countOut, rowNumber, truthNumber};
-ghost use Rattle.screen.specs.Answers.{rewriteNumber, newRootOut, newUsedOut, passesOut};
+ghost use Rattle.screen.specs.Answers.{rewriteNumber, newRootOut, newUsedOut, passesOut, reasonsUsedOut};
 ghost use Rattle.row_test.specs.RowTest.{testRowAnswer};
 ghost use Rattle.merge.specs.Passes.{rewritePasses};
-ghost use Rattle.merge.specs.Rewrite.{rewriteAnswer, rewriteBytes};
+ghost use Rattle.reasons.specs.Explained.{explainedAnswer, explainedBytes, explainedText, textIf};
 ghost use Rattle.screen.specs.Listed.{checkListed, columnsListed, rowListed, rewriteListed};
 ghost use Rattle.screen.specs.Listed.{saveListed, loadListed, slowestListed};
 ghost use Rattle.screen.specs.Promises.{ColumnsPromise, returned, BytesKept, RewritePromise};
@@ -114,7 +114,8 @@ pub extern "C" fn screen_test_row(
 
 // Below 256: the refusal's number, and nothing is written. 256: unchanged, the screen returned is the one sent. 257:
 // nothing passes, 258: rewritten; the records added stand behind the used ones, and `new_root` and `new_used` have the
-// root and the used count of the screen returned. With all three `passes` has the number of passes over the equalities.
+// root and the used count of the screen returned. With 258 the front of `reasons` is the text of the reasons. With all
+// three `reasons_used` has the length of the text and `passes` the number of passes over the equalities.
 #[no_mangle]
 pub extern "C" fn screen_rewrite(
     table: &[u8],
@@ -122,44 +123,55 @@ pub extern "C" fn screen_rewrite(
     pool: &[u8],
     used: u64,
     root: u64,
+    reasons: &mut [u8],
     new_root: &mut u64,
     new_used: &mut u64,
+    reasons_used: &mut u64,
     passes: &mut u64,
 ) -> u32
-    ensures answer { λ r. ⌜ r ≡ rewriteNumber (rewriteAnswer (now (table .entry)) (now (records .entry))
-        (now (pool .entry)) used root) ⌝ }
+    ensures answer { λ r. ⌜ r ≡ rewriteNumber (explainedAnswer (now (table .entry)) (now (records .entry))
+        (now (pool .entry)) used root (length (now (reasons .entry)))) ⌝ }
     ensures listed { λ r. ⌜ rewriteListed r ≡ true ⌝ }
-    ensures root { λ _. ⌜ now («new_root» .exit) ≡ newRootOut (rewriteAnswer (now (table .entry)) (now (records .entry))
-        (now (pool .entry)) used root) (now («new_root» .entry)) ⌝ }
-    ensures used { λ _. ⌜ now («new_used» .exit) ≡ newUsedOut (rewriteAnswer (now (table .entry)) (now (records .entry))
-        (now (pool .entry)) used root) (now («new_used» .entry)) ⌝ }
-    ensures bytes { λ _. ⌜ now (records .exit) ≡ rewriteBytes (now (table .entry)) (now (records .entry))
-        (now (pool .entry)) used root ⌝ }
+    ensures root { λ _. ⌜ now («new_root» .exit) ≡ newRootOut (explainedAnswer (now (table .entry)) (now (records .entry))
+        (now (pool .entry)) used root (length (now (reasons .entry)))) (now («new_root» .entry)) ⌝ }
+    ensures used { λ _. ⌜ now («new_used» .exit) ≡ newUsedOut (explainedAnswer (now (table .entry)) (now (records .entry))
+        (now (pool .entry)) used root (length (now (reasons .entry)))) (now («new_used» .entry)) ⌝ }
+    ensures bytes { λ _. ⌜ now (records .exit) ≡ explainedBytes (now (table .entry)) (now (records .entry))
+        (now (pool .entry)) used root (length (now (reasons .entry))) ⌝ }
     ensures kept { λ r. ⌜ BytesKept (now (records .entry)) (now (records .exit)) used
         (returned r used (now («new_used» .exit))) ⌝ }
-    ensures passes { λ _. ⌜ now (passes .exit) ≡ passesOut (rewriteAnswer (now (table .entry)) (now (records .entry))
-        (now (pool .entry)) used root) (rewritePasses (now (records .entry)) (now (pool .entry)) used root)
-        (now (passes .entry)) ⌝ }
+    ensures text { λ _. ⌜ now (reasons .exit) ≡ textIf (explainedAnswer (now (table .entry)) (now (records .entry))
+        (now (pool .entry)) used root (length (now (reasons .entry)))) (now (reasons .entry))
+        (explainedText (now (records .entry)) (now (pool .entry)) used root) ⌝ }
+    ensures length { λ _. ⌜ now («reasons_used» .exit) ≡ reasonsUsedOut (explainedAnswer (now (table .entry))
+        (now (records .entry)) (now (pool .entry)) used root (length (now (reasons .entry))))
+        (explainedText (now (records .entry)) (now (pool .entry)) used root) (now («reasons_used» .entry)) ⌝ }
+    ensures passes { λ _. ⌜ now (passes .exit) ≡ passesOut (explainedAnswer (now (table .entry)) (now (records .entry))
+        (now (pool .entry)) used root (length (now (reasons .entry)))) (rewritePasses (now (records .entry))
+        (now (pool .entry)) used root) (now (passes .entry)) ⌝ }
     ensures promise { λ r. ⌜ RewritePromise (now (table .entry)) (now (records .entry)) (now (pool .entry)) used root r
         (now (records .exit)) (now («new_root» .exit)) (now («new_used» .exit)) (now (passes .exit)) ⌝ }
 {
-    let rewriting = rewrite_screen(table, records, pool, used, root);
+    let rewriting = rewrite_screen(table, records, pool, used, root, reasons);
     let answer = rewriting.answer;
     match answer {
         RewriteAnswer::Refused(k) => k,
         RewriteAnswer::Unchanged => {
+            *reasons_used = rewriting.length;
             *passes = rewriting.passes;
             256
         }
         RewriteAnswer::NothingPasses(literal, behind) => {
             *new_root = literal;
             *new_used = behind;
+            *reasons_used = rewriting.length;
             *passes = rewriting.passes;
             257
         }
         RewriteAnswer::Rewritten(node, count) => {
             *new_root = node;
             *new_used = count;
+            *reasons_used = rewriting.length;
             *passes = rewriting.passes;
             258
         }

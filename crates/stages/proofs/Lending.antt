@@ -13,9 +13,9 @@ use lib.Dec.{eqb, ltb}
 use borrow.Author.Tests.{eqb-false, ltb-true, ltb-false}
 use Rattle.constraints.specs.Column.{common, mergeFrom, mergeEmitted, mergeAny}
 use Rattle.constraints.specs.Column as q
-use Rattle.constraints.specs.Payload.{payload}
+use Rattle.constraints.specs.Lined.{Lined, lined}
 use Rattle.constraints.specs.Values.{extend}
-use Rattle.columns.specs.Abstraction.{Conjuncts, numbered, columnOf, ofKind, listOf, Fine}
+use Rattle.columns.specs.Abstraction.{Conjuncts, numbered, columnOf, ofKind, literalAt, valuesOf, Fine}
 use Rattle.columns.specs.Abstraction.{excludedBy, allowedBy, disallowedBy}
 use Rattle.columns.specs.declared.column.ColumnConstraints.{ColumnConstraints}
 use Rattle.columns.proofs.Numbers.{gather-same, marked-same}
@@ -185,10 +185,10 @@ pub column-copied : (t : Conjuncts) (a b : List ℕ) (c : ColumnConstraints)
     → ((i : ℕ) → i < c .len → getD a i 0 ≡ getD b i 0) → columnOf t (numbered a c) ≡ columnOf t (numbered b c)
 unfolding excludedBy allowedBy disallowedBy
 column-copied t a b c h = rw (
-  gather-same (ofKind (t .kinds) 0) (λ l j. l ++ (getD (t .values) j 0 ∷ [])) [] a b (c .len) h,
-  gather-same (ofKind (t .kinds) 1) (λ o j. some (common payload o (listOf (t .starts) (t .counts) (t .pool) j))) none a b
+  gather-same (ofKind (t .kinds) 0) (λ l j. l ++ (literalAt (t .values) j ∷ [])) [] a b (c .len) h,
+  gather-same (ofKind (t .kinds) 1) (λ o j. some (common lined o (valuesOf (t .starts) (t .counts) (t .pool) j))) none a b
       (c .len) h,
-  gather-same (ofKind (t .kinds) 2) (λ l j. extend payload l (listOf (t .starts) (t .counts) (t .pool) j)) [] a b (c .len)
+  gather-same (ofKind (t .kinds) 2) (λ l j. extend lined l (valuesOf (t .starts) (t .counts) (t .pool) j)) [] a b (c .len)
       h,
 )
 
@@ -197,7 +197,7 @@ fine-copied k a b n h f i l =
     rw (h i l, marked-same a b i (getD b i 0) (λ m q. h m (omega (arith, l, q)))) (f i l)
 
 -- What a merge gives, of columns that are equal to those it was given.
-pub merged-as : (r c c′ d d′ : q.ColumnConstraints ℕ) (em an : Bool) → c ≡ c′ → d ≡ d′
-    → (r ≡ mergeFrom payload c d) × (em ≡ mergeEmitted payload c d) × (an ≡ mergeAny payload c d)
-    → (r ≡ mergeFrom payload c′ d′) × (em ≡ mergeEmitted payload c′ d′) × (an ≡ mergeAny payload c′ d′)
+pub merged-as : (r c c′ d d′ : q.ColumnConstraints Lined) (em an : Bool) → c ≡ c′ → d ≡ d′
+    → (r ≡ mergeFrom lined c d) × (em ≡ mergeEmitted lined c d) × (an ≡ mergeAny lined c d)
+    → (r ≡ mergeFrom lined c′ d′) × (em ≡ mergeEmitted lined c′ d′) × (an ≡ mergeAny lined c′ d′)
 merged-as r c c′ d d′ em an e f h = rw (← e, ← f) h

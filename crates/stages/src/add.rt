@@ -1,16 +1,18 @@
 // What a conjunct says, taken into its column.
 ghost use mathlib.Core.Path.{_≡_};
 ghost use mathlib.Core.Bool.{true};
-ghost use mathlib.Core.List.{List, []};
+ghost use mathlib.Core.List.{List, [], map};
 ghost use Prim.Native.Nat.{ℕ, _<_};
 ghost use lib.ListN.{length};
 ghost use Rattle.truth.specs.FromBytes.{closesLow, closesHigh};
 ghost use Rattle.constraints.specs.Column as q;
-ghost use Rattle.constraints.specs.Payload.{payload};
-ghost use Rattle.columns.specs.Abstraction.{Conjuncts, conjuncts, numbered, columnOf, Fine};
+ghost use Rattle.constraints.specs.Lined.{onLine, lined};
+ghost use Rattle.constraints.specs.Mapped.{mapConstraint};
+ghost use Rattle.columns.specs.Abstraction.{Conjuncts, conjuncts, numbered, columnOf, limitOf, Fine};
 ghost use Rattle.merge.specs.Classify.{comparisonConstraints};
 ghost use Rattle.reading.specs.Read.{saysIn, comparisonIn};
 ghost use Rattle.rewrite.specs.Told.{Told};
+use columns::bound::Limit;
 use columns::column::ColumnConstraints;
 use columns::column::add_lower;
 use columns::column::add_upper;
@@ -24,8 +26,8 @@ use records::record::ClosedInterval;
 use truth::scalar::Scalar;
 
 // The column alone; what became of its bound matters to a merge.
-fn with_lower(c: ColumnConstraints, v: Scalar, inclusive: bool) -> ColumnConstraints
-    ensures { λ r. ⌜ ((t : Conjuncts) (a : List ℕ) → columnOf t (numbered a r) ≡ q.addLower payload (v .0) inclusive (columnOf t (numbered a c))) ⌝ }
+fn with_lower(c: ColumnConstraints, v: Limit, inclusive: bool) -> ColumnConstraints
+    ensures { λ r. ⌜ ((t : Conjuncts) (a : List ℕ) → columnOf t (numbered a r) ≡ q.addLower lined (limitOf v) inclusive (columnOf t (numbered a c))) ⌝ }
     ensures { λ r. ⌜ r .len ≡ c .len ⌝ }
 {
     let b = add_lower(c, v, inclusive);
@@ -33,8 +35,8 @@ fn with_lower(c: ColumnConstraints, v: Scalar, inclusive: bool) -> ColumnConstra
     d
 }
 
-fn with_upper(c: ColumnConstraints, v: Scalar, inclusive: bool) -> ColumnConstraints
-    ensures { λ r. ⌜ ((t : Conjuncts) (a : List ℕ) → columnOf t (numbered a r) ≡ q.addUpper payload (v .0) inclusive (columnOf t (numbered a c))) ⌝ }
+fn with_upper(c: ColumnConstraints, v: Limit, inclusive: bool) -> ColumnConstraints
+    ensures { λ r. ⌜ ((t : Conjuncts) (a : List ℕ) → columnOf t (numbered a r) ≡ q.addUpper lined (limitOf v) inclusive (columnOf t (numbered a c))) ⌝ }
     ensures { λ r. ⌜ r .len ≡ c .len ⌝ }
 {
     let b = add_upper(c, v, inclusive);
@@ -43,9 +45,9 @@ fn with_upper(c: ColumnConstraints, v: Scalar, inclusive: bool) -> ColumnConstra
 }
 
 // `==` is a lower and an upper bound, both inclusive.
-fn add_equal(c: ColumnConstraints, v: Scalar) -> ColumnConstraints
-    ensures { λ r. ⌜ ((t : Conjuncts) (a : List ℕ) → columnOf t (numbered a r) ≡ q.addUpper payload (v .0) true
-        (q.addLower payload (v .0) true (columnOf t (numbered a c)))) ⌝ }
+fn add_equal(c: ColumnConstraints, v: Limit) -> ColumnConstraints
+    ensures { λ r. ⌜ ((t : Conjuncts) (a : List ℕ) → columnOf t (numbered a r) ≡ q.addUpper lined (limitOf v) true
+        (q.addLower lined (limitOf v) true (columnOf t (numbered a c)))) ⌝ }
     ensures { λ r. ⌜ r .len ≡ c .len ⌝ }
 {
     let d = with_lower(c, v, true);
@@ -65,16 +67,20 @@ fn add_comparison(
     requires { ⌜ Fine (length (now marks)) (now marks) (c .len) × (j < length (now marks)) × Told (conjuncts (now kinds) (now values) [] [] []) j
         (comparisonConstraints (comparisonIn k) (v .0)) ⌝ }
     ensures { λ r. ⌜ ((t : Conjuncts) → t .kinds ≡ now (kinds .entry) → t .values ≡ now (values .entry) →
-        columnOf t (numbered (now (marks .exit)) r) ≡ q.addAll payload (comparisonConstraints (comparisonIn k) (v .0)) (columnOf t (numbered (now (marks .entry)) c))) ⌝ }
+        columnOf t (numbered (now (marks .exit)) r) ≡ q.addAll lined (map (mapConstraint (onLine j)) (comparisonConstraints (comparisonIn k) (v .0))) (columnOf t (numbered (now (marks .entry)) c))) ⌝ }
     ensures { λ r. ⌜ Fine (length (now (marks .entry))) (now (marks .exit)) (r .len) ⌝ }
 {
+    let l = Limit {
+        value: v,
+        line: j as u64,
+    };
     match k {
-        Comparison::Eq => add_equal(c, v),
+        Comparison::Eq => add_equal(c, l),
         Comparison::NotEq => add_excluded(kinds, values, marks, c, j),
-        Comparison::Lt => with_upper(c, v, false),
-        Comparison::LtEq => with_upper(c, v, true),
-        Comparison::Gt => with_lower(c, v, false),
-        Comparison::GtEq => with_lower(c, v, true),
+        Comparison::Lt => with_upper(c, l, false),
+        Comparison::LtEq => with_upper(c, l, true),
+        Comparison::Gt => with_lower(c, l, false),
+        Comparison::GtEq => with_lower(c, l, true),
     }
 }
 
@@ -100,14 +106,9 @@ fn closes_high(ends: ClosedInterval) -> bool
     }
 }
 
-fn add_between(
-    c: ColumnConstraints,
-    ends: ClosedInterval,
-    v: Scalar,
-    w: Scalar,
-) -> ColumnConstraints
-    ensures { λ r. ⌜ ((t : Conjuncts) (a : List ℕ) → columnOf t (numbered a r) ≡ q.addUpper payload (w .0) (closesHigh ends)
-        (q.addLower payload (v .0) (closesLow ends) (columnOf t (numbered a c)))) ⌝ }
+fn add_between(c: ColumnConstraints, ends: ClosedInterval, v: Limit, w: Limit) -> ColumnConstraints
+    ensures { λ r. ⌜ ((t : Conjuncts) (a : List ℕ) → columnOf t (numbered a r) ≡ q.addUpper lined (limitOf w) (closesHigh ends)
+        (q.addLower lined (limitOf v) (closesLow ends) (columnOf t (numbered a c)))) ⌝ }
     ensures { λ r. ⌜ r .len ≡ c .len ⌝ }
 {
     let d = with_lower(c, v, closes_low(ends));
@@ -130,13 +131,23 @@ pub fn add_says(
         (now counts) (now pool)) j (saysIn (now pool) s) ⌝ }
     ensures { λ r. ⌜ (let t = conjuncts (now (kinds .entry)) (now (values .entry)) (now (starts .entry))
         (now (counts .entry)) (now (pool .entry)) in
-        columnOf t (numbered (now (marks .exit)) r) ≡ q.addAll payload (saysIn (now (pool .entry)) s) (columnOf t (numbered (now (marks .entry)) c))) ⌝ }
+        columnOf t (numbered (now (marks .exit)) r) ≡ q.addAll lined (map (mapConstraint (onLine j)) (saysIn (now (pool .entry)) s)) (columnOf t (numbered (now (marks .entry)) c))) ⌝ }
     ensures { λ r. ⌜ Fine (length (now (marks .entry))) (now (marks .exit)) (r .len) ⌝ }
 {
     match s {
         Says::Nothing => c,
         Says::Compare(k, v) => add_comparison(kinds, values, marks, c, j, k, v),
-        Says::Between(ends, v, w) => add_between(c, ends, v, w),
+        Says::Between(ends, v, w) => {
+            let low = Limit {
+                value: v,
+                line: j as u64,
+            };
+            let upp = Limit {
+                value: w,
+                line: j as u64,
+            };
+            add_between(c, ends, low, upp)
+        }
         Says::Allow(_, _) => add_allowed(marks, c, j),
         Says::Disallow(strict, _, _) => add_disallowed(counts, marks, c, j, strict),
         Says::Require(n) => require_nullability(c, n),

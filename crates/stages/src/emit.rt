@@ -4,10 +4,11 @@ ghost use mathlib.Core.List.{List};
 ghost use Prim.Native.Nat.{ℕ, _+_, _*_, _≤_, _<_, _^_};
 ghost use lib.ListN.{length};
 ghost use Rattle.constraints.specs.Comparisons.{collectColumnComparisons};
-ghost use Rattle.constraints.specs.Payload.{payload};
+ghost use Rattle.constraints.specs.Lined.{Lined, lined};
 ghost use Rattle.constraints.specs.Resolve.{fixedAt};
 ghost use Rattle.columns.specs.Abstraction.{Conjuncts, numbered, columnOf, comparedOf, Fine};
 ghost use Rattle.merge.specs.Emit.{ofColumn, isFixed};
+ghost use Rattle.merge.specs.Lines.{mapComparisons};
 ghost use Rattle.merge.specs.Write.{writeComparisons};
 ghost use Rattle.reading.specs.Read.{comparisonIn};
 ghost use Rattle.rewrite.specs.Written.{writeCompared};
@@ -23,7 +24,7 @@ use truth::scalar::Scalar;
 
 /// Whether the bounds pin the column to one value.
 pub fn is_fixed(c: ColumnConstraints) -> bool
-    ensures { λ r. ⌜ ((t : Conjuncts) (a : List ℕ) → r ≡ isFixed (fixedAt payload (columnOf t (numbered a c) .lower)
+    ensures { λ r. ⌜ ((t : Conjuncts) (a : List ℕ) → r ≡ isFixed (fixedAt lined (columnOf t (numbered a c) .lower)
         (columnOf t (numbered a c) .upper))) ⌝ }
 {
     let f = fixed_value(c);
@@ -47,17 +48,17 @@ fn write_one(t: &[u8], rs: &mut [u8], u: u32, a: Column, k: Comparison, v: Scala
 fn write_place(t: &[u8], rs: &mut [u8], u: u32, a: Column, k: Compared) -> u32
     requires { ⌜ (u < 2 ^ 31) × (16 * (u + 3 * length (comparedOf k)) ≤ length (now rs)) ⌝ }
     ensures { λ r. ⌜ r ≡ u + 3 * length (comparedOf k) ⌝ }
-    ensures { λ _. ⌜ now (rs .exit) ≡ writeComparisons (now (t .entry)) u (ofColumn (a .0) (comparedOf k))
+    ensures { λ _. ⌜ now (rs .exit) ≡ writeComparisons (now (t .entry)) u (mapComparisons (λ (v : Lined). v .bits) (ofColumn (a .0) (comparedOf k)))
         (now (rs .entry)) ⌝ }
 {
     match k {
         Compared::Vacant => u,
-        Compared::Eq(v) => write_one(t, rs, u, a, Comparison::Eq, v),
-        Compared::Gt(v) => write_one(t, rs, u, a, Comparison::Gt, v),
-        Compared::GtEq(v) => write_one(t, rs, u, a, Comparison::GtEq, v),
-        Compared::Lt(v) => write_one(t, rs, u, a, Comparison::Lt, v),
-        Compared::LtEq(v) => write_one(t, rs, u, a, Comparison::LtEq, v),
-        Compared::NotEq(v) => write_one(t, rs, u, a, Comparison::NotEq, v),
+        Compared::Eq(v) => write_one(t, rs, u, a, Comparison::Eq, v.value),
+        Compared::Gt(v) => write_one(t, rs, u, a, Comparison::Gt, v.value),
+        Compared::GtEq(v) => write_one(t, rs, u, a, Comparison::GtEq, v.value),
+        Compared::Lt(v) => write_one(t, rs, u, a, Comparison::Lt, v.value),
+        Compared::LtEq(v) => write_one(t, rs, u, a, Comparison::LtEq, v.value),
+        Compared::NotEq(v) => write_one(t, rs, u, a, Comparison::NotEq, v.value),
     }
 }
 
@@ -74,12 +75,13 @@ pub fn write_column(
 ) -> u32
     requires { ⌜ Fine 128 (now marks) (c .len) × (u ≤ 4096) × ((s : Conjuncts) → s .kinds ≡ now kinds →
         s .values ≡ now values →
-        16 * (u + 3 * length (collectColumnComparisons payload (columnOf s (numbered (now marks) c)))) ≤ length (now rs)) ⌝ }
+        16 * (u + 3 * length (collectColumnComparisons lined (columnOf s (numbered (now marks) c)))) ≤ length (now rs)) ⌝ }
     ensures { λ r. ⌜ ((s : Conjuncts) → s .kinds ≡ now (kinds .entry) → s .values ≡ now (values .entry) →
-        r ≡ u + 3 * length (collectColumnComparisons payload (columnOf s (numbered (now (marks .entry)) c)))) ⌝ }
+        r ≡ u + 3 * length (collectColumnComparisons lined (columnOf s (numbered (now (marks .entry)) c)))) ⌝ }
     ensures { λ _. ⌜ ((s : Conjuncts) → s .kinds ≡ now (kinds .entry) → s .values ≡ now (values .entry) →
         now (rs .exit) ≡ writeComparisons (now (t .entry)) u
-        (ofColumn (a .0) (collectColumnComparisons payload (columnOf s (numbered (now (marks .entry)) c)))) (now (rs .entry))) ⌝ }
+        (mapComparisons (λ (v : Lined). v .bits) (ofColumn (a .0)
+        (collectColumnComparisons lined (columnOf s (numbered (now (marks .entry)) c))))) (now (rs .entry))) ⌝ }
 {
     let places = c.len + 2;
     let mut at = u;

@@ -1,15 +1,18 @@
 // The calls of the merging that read or write a column's numbers. The numbers of all columns stand in one array, 64 rows
 // of one length, so that a column is small and a short screen clears a short array; each call gets the row of its column.
 ghost use mathlib.Core.Path.{_≡_};
+ghost use mathlib.Core.List.{map};
 ghost use Prim.Native.Nat.{ℕ, _+_, _*_, _≤_, _<_};
 ghost use lib.ListN.{length};
 ghost use Rattle.constraints.specs.Column as q;
 ghost use Rattle.constraints.specs.Comparisons.{collectColumnComparisons};
-ghost use Rattle.constraints.specs.Payload.{payload};
+ghost use Rattle.constraints.specs.Lined.{Lined, onLine, lined};
+ghost use Rattle.constraints.specs.Mapped.{mapConstraint};
 ghost use Rattle.constraints.specs.Resolve.{resolveDeferred};
 ghost use Rattle.columns.specs.Abstraction.{Conjuncts, conjuncts, numbered, columnOf, Fine};
 ghost use Rattle.columns.specs.Index.{Indexed};
 ghost use Rattle.merge.specs.Emit.{ofColumn};
+ghost use Rattle.merge.specs.Lines.{mapComparisons};
 ghost use Rattle.merge.specs.Write.{writeComparisons};
 ghost use Rattle.reading.specs.Read.{saysIn};
 ghost use Rattle.rewrite.specs.Told.{Told};
@@ -42,7 +45,7 @@ pub fn add_in_row(
     requires { ⌜ Told (conjuncts (now kinds) (now values) (now starts) (now counts) (now pool)) j (saysIn (now pool) s) ⌝ }
     ensures { λ r. ⌜ (let t = conjuncts (now (kinds .entry)) (now (values .entry)) (now (starts .entry))
         (now (counts .entry)) (now (pool .entry)) in columnOf t (numbered (rowOf (now (marks .exit)) x) r) ≡
-        q.addAll payload (saysIn (now (pool .entry)) s) (columnOf t (numbered (rowOf (now (marks .entry)) x) c))) ⌝ }
+        q.addAll lined (map (mapConstraint (onLine j)) (saysIn (now (pool .entry)) s)) (columnOf t (numbered (rowOf (now (marks .entry)) x) c))) ⌝ }
     ensures { λ r. ⌜ Fine (stride (now (marks .exit))) (rowOf (now (marks .exit)) x) (r .len) ⌝ }
     ensures { λ _. ⌜ RowsKept (now (marks .entry)) (now (marks .exit)) x ⌝ }
 {
@@ -83,8 +86,8 @@ pub fn merge_rows(
     ensures { λ r. ⌜ (let t = conjuncts (now (kinds .entry)) (now (values .entry)) (now (starts .entry))
         (now (counts .entry)) (now (pool .entry)) in let cc = columnOf t (numbered (rowOf (now (marks .entry)) x) c) in
         let dd = columnOf t (numbered (rowOf (now (marks .entry)) y) d) in
-        (columnOf t (numbered (rowOf (now (marks .exit)) x) (r .column)) ≡ q.mergeFrom payload cc dd) ×
-        (r .emitted ≡ q.mergeEmitted payload cc dd) × (r .any ≡ q.mergeAny payload cc dd)) ⌝ }
+        (columnOf t (numbered (rowOf (now (marks .exit)) x) (r .column)) ≡ q.mergeFrom lined cc dd) ×
+        (r .emitted ≡ q.mergeEmitted lined cc dd) × (r .any ≡ q.mergeAny lined cc dd)) ⌝ }
     ensures { λ r. ⌜ Fine (stride (now (marks .exit))) (rowOf (now (marks .exit)) x) (r .column .len) ⌝ }
     ensures { λ _. ⌜ RowsKept (now (marks .entry)) (now (marks .exit)) x ⌝ }
 {
@@ -123,7 +126,7 @@ pub fn resolve_row(
         × Indexed (now starts) (now counts) (now pool) (now index) ⌝ }
     ensures { λ r. ⌜ (let t = conjuncts (now (kinds .entry)) (now (values .entry)) (now (starts .entry))
         (now (counts .entry)) (now (pool .entry)) in columnOf t (numbered (rowOf (now (marks .exit)) x) r) ≡
-        resolveDeferred payload (columnOf t (numbered (rowOf (now (marks .entry)) x) c))) ⌝ }
+        resolveDeferred lined (columnOf t (numbered (rowOf (now (marks .entry)) x) c))) ⌝ }
     ensures { λ r. ⌜ Fine (stride (now (marks .exit))) (rowOf (now (marks .exit)) x) (r .len) ⌝ }
     ensures { λ _. ⌜ RowsKept (now (marks .entry)) (now (marks .exit)) x ⌝ }
 {
@@ -146,7 +149,7 @@ pub fn resolve_row(
 pub fn count_row(kinds: &[u8], marks: &[u8], x: usize, c: ColumnConstraints) -> usize
     requires { ⌜ (x < 64) × (stride (now marks) ≤ 128) × Fine (stride (now marks)) (rowOf (now marks) x) (c .len) ⌝ }
     ensures { λ r. ⌜ ((t : Conjuncts) → t .kinds ≡ now (kinds .entry) →
-        r ≡ length (collectColumnComparisons payload (columnOf t (numbered (rowOf (now (marks .entry)) x) c)))) ⌝ }
+        r ≡ length (collectColumnComparisons lined (columnOf t (numbered (rowOf (now (marks .entry)) x) c)))) ⌝ }
 {
     let size = marks.len() / 64;
     let at = x * size;
@@ -168,14 +171,14 @@ pub fn write_row(
 ) -> u32
     requires { ⌜ (x < 64) × (stride (now marks) ≤ 128) × Fine (stride (now marks)) (rowOf (now marks) x) (c .len) ⌝ }
     requires { ⌜ (u ≤ 4096) × ((s : Conjuncts) → s .kinds ≡ now kinds → s .values ≡ now values →
-        16 * (u + 3 * length (collectColumnComparisons payload (columnOf s (numbered (rowOf (now marks) x) c))))
+        16 * (u + 3 * length (collectColumnComparisons lined (columnOf s (numbered (rowOf (now marks) x) c))))
         ≤ length (now rs)) ⌝ }
     ensures { λ r. ⌜ ((s : Conjuncts) → s .kinds ≡ now (kinds .entry) → s .values ≡ now (values .entry) →
-        r ≡ u + 3 * length (collectColumnComparisons payload
+        r ≡ u + 3 * length (collectColumnComparisons lined
         (columnOf s (numbered (rowOf (now (marks .entry)) x) c)))) ⌝ }
     ensures { λ _. ⌜ ((s : Conjuncts) → s .kinds ≡ now (kinds .entry) → s .values ≡ now (values .entry) →
-        now (rs .exit) ≡ writeComparisons (now (t .entry)) u (ofColumn (a .0) (collectColumnComparisons payload
-        (columnOf s (numbered (rowOf (now (marks .entry)) x) c)))) (now (rs .entry))) ⌝ }
+        now (rs .exit) ≡ writeComparisons (now (t .entry)) u (mapComparisons (λ (v : Lined). v .bits) (ofColumn (a .0)
+        (collectColumnComparisons lined (columnOf s (numbered (rowOf (now (marks .entry)) x) c))))) (now (rs .entry))) ⌝ }
 {
     let size = marks.len() / 64;
     let at = x * size;

@@ -14,18 +14,18 @@ use lib.ListN.{length}
 use Rattle.checking.proofs.Accepted.{checked}
 use Rattle.merge.specs.Minterms as mt
 use Rattle.reading.specs.Walk.{walked}
-use Rattle.rule.proofs.Merged.{none-said}
+use Rattle.rule.proofs.Merged.{refused-explained}
 use Rattle.stages.proofs.Answers.{rewrite-9}
 use Rattle.stages.proofs.Screens.{walked-inputs}
 
--- src/lib.rt:157:32
+-- src/lib.rt:221:32
 slice-aggregate-minterms : tie.Need-slice-aggregate-minterms
 slice-aggregate-minterms c = search needs
 
--- src/lib.rt:157:9
+-- src/lib.rt:221:9
 minterms-requires : tie.Need-minterms-requires
 minterms-requires c κs =
-    let st = c .before .before .before .before .before .before in
+    let st = c .before .before .before .before .before .before .before in
     let ok = checked (st .args .t .now) (st .args .rs .now) (st .args .p .now) (st .args .used) (st .args .root
     .0) (st .pre .0) in (
       walked-inputs (st .args .t .now) (st .args .rs .now) (st .args .p .now) (st .args .used) (st .args .root
@@ -33,43 +33,43 @@ minterms-requires c κs =
       search needs,
     )
 
--- src/lib.rt:159:9
+-- src/lib.rt:223:9
 refused-requires : tie.Need-refused-requires
 refused-requires c κs = search needs
 
--- src/lib.rt:159:9
+-- src/lib.rt:223:9
 same-length : tie.Need-same-length
 same-length c = search needs
 
--- src/lib.rt:159:9
+-- src/lib.rt:223:9
 returns : tie.Need-returns
 returns c =
-    let st = c .before .before .before .before .before .before .before .before .before .before in
+    let st = c .before .before .before .before .before .before .before .before .before .before .before in
     let minterms = c .before .before .before .minterms in
     let if1 = c .before .if1 in
     let refused = c .refused in
     let k : 128 < length (mt.minterms (walked (st .args .rs .now)) (st .args .root .0)) = omega (
       arith,
-      minterms
-          .ensures .0,
+      minterms .ensures .0,
       if1 .taken,
     ) in
     let h = rewrite-9 (st .args .t .now) (st .args .rs .now) (st .args .p .now) (st .args .used) (st .args .root
     .0) (st .pre .0) (st .pre .1 .1) k in
-    (refused .ensures ∙ sym (h .0), (sym (h .1), none-said _ 9 _ _ (refused .ensures)))
+    refused-explained (st .args .t .now) (st .args .rs .now) (st .args .p .now) (st .args .used) (st .args .root
+    .0) 9 (refused .result) (st .args .reasons .now) (refused .ensures .0) (refused .ensures .1) (h .0)
 
--- src/lib.rt:162:55
+-- src/lib.rt:226:55
 slice-aggregate-merge-few : tie.Need-slice-aggregate-merge-few
 slice-aggregate-merge-few c = search needs
 
--- src/lib.rt:162:9
+-- src/lib.rt:226:9
 merge-few-requires : tie.Need-merge-few-requires
 merge-few-requires c κs =
     let st = c .before .before .before .before .before .before .before .before .before .before .before .before
-    in
-    let minterms = c .before .before .before .before .before .minterms in
-    let if1 = c .before .before .before .if1 in
-    let if2 = c .before .before .if2 in
+    .before .before in
+    let minterms = c .before .before .before .before .before .before .minterms in
+    let if1 = c .before .before .before .before .if1 in
+    let if2 = c .before .before .before .if2 in
     let few : length (mt.minterms (walked (st .args .rs .now)) (st .args .root .0)) ≤ 128 = omega (
       arith,
       minterms .ensures .0,
@@ -77,25 +77,29 @@ merge-few-requires c κs =
     ) in
     (st .pre .0, (st .pre .1 .0, (st .pre .1 .1, (minterms .ensures .1 few, (if2 .taken, search needs)))))
 
--- src/lib.rt:162:9
+-- src/lib.rt:226:9
 same-length-2 : tie.Need-same-length-2
 same-length-2 c = search needs
 
--- src/lib.rt:162:9
+-- src/lib.rt:226:9
+same-length-3 : tie.Need-same-length-3
+same-length-3 c = search needs
+
+-- src/lib.rt:226:9
 returns-2 : tie.Need-returns-2
 returns-2 c = search needs
 
--- src/lib.rt:164:45
+-- src/lib.rt:228:45
 slice-aggregate-merge-many : tie.Need-slice-aggregate-merge-many
 slice-aggregate-merge-many c = search needs
 
--- src/lib.rt:164:5
+-- src/lib.rt:228:5
 merge-many-requires : tie.Need-merge-many-requires
 merge-many-requires c κs =
     let st = c .before .before .before .before .before .before .before .before .before .before .before .before
-    in
-    let minterms = c .before .before .before .before .before .minterms in
-    let if1 = c .before .before .before .if1 in
+    .before .before in
+    let minterms = c .before .before .before .before .before .before .minterms in
+    let if1 = c .before .before .before .before .if1 in
     let few : length (mt.minterms (walked (st .args .rs .now)) (st .args .root .0)) ≤ 128 = omega (
       arith,
       minterms .ensures .0,
@@ -110,19 +114,22 @@ merge-many-requires c κs =
             minterms .ensures .1 few,
             (
               omega (arith, if1 .left),
-              search
-                  needs,
+              search needs,
             ),
           ),
         ),
       ),
     )
 
--- src/lib.rt:139:1
-same-length-3 : tie.Need-same-length-3
-same-length-3 c = search needs
+-- src/lib.rt:198:1
+same-length-4 : tie.Need-same-length-4
+same-length-4 c = search needs
 
--- src/lib.rt:139:1
+-- src/lib.rt:198:1
+same-length-5 : tie.Need-same-length-5
+same-length-5 c = search needs
+
+-- src/lib.rt:198:1
 returns-3 : tie.Need-returns-3
 returns-3 c = search needs
 
@@ -138,8 +145,10 @@ rewrite-counted-spec =
     slice-aggregate-merge-few
     merge-few-requires
     same-length-2
+    same-length-3
     returns-2
     slice-aggregate-merge-many
     merge-many-requires
-    same-length-3
+    same-length-4
+    same-length-5
     returns-3)

@@ -8,32 +8,32 @@ use Rattle.rule.proofs.refused.Reads as refused-reads
 use Rattle.rule.proofs.rewrite_checked.Reads as rewrite-checked-reads
 use Rattle.stages.proofs.Answers.{rewrite-refused}
 use Rattle.checking.proofs.Accepted.{checked, checked-used, accepted-root}
-use Rattle.rule.proofs.Merged.{none-said}
+use Rattle.rule.proofs.Merged.{refused-explained}
 use native.Mathlib.Omega.{arith}
 use Prim.Native.Nat.{_≤_, _<_}
 use mathlib.Core.Path.{sym, _∙_}
 
--- src/lib.rt:210:9
+-- src/lib.rt:284:9
 check-counted-requires : tie.Need-check-counted-requires
 check-counted-requires c κs = search needs
 
--- src/lib.rt:212:30
+-- src/lib.rt:286:30
 enum-known-answer : tie.Need-enum-known-answer
 enum-known-answer c = search needs
 
--- src/lib.rt:212:41
+-- src/lib.rt:286:41
 refused-requires : tie.Need-refused-requires
 refused-requires c κs = search needs
 
--- src/lib.rt:213:53
+-- src/lib.rt:289:13
 enum-told : tie.Need-enum-told
 enum-told c = search needs
 
--- src/lib.rt:213:60
+-- src/lib.rt:291:13
 cast-rewrite-checked : tie.Need-cast-rewrite-checked
 cast-rewrite-checked c =
     let st = c .before .before .before .before .before .before .before .before .before .before .before .before
-    .before .before .before .before in
+    .before .before .before .before .before in
     let check-counted = c .before .before .before .before .before .before .before .check-counted in
     let enum-told = c .before .enum-told in
     let h : st .args .used ≤ 4096 = checked-used (st .args .t .now) (st .args .rs .now) (st .args .p .now) (st
@@ -41,24 +41,25 @@ cast-rewrite-checked c =
     .args .used) (st .args .root) (sym (check-counted .ensures .0) ∙ enum-told .given .1)) in
     omega (arith, h)
 
--- src/lib.rt:213:78
-cast-t20 : tie.Need-cast-t20
-cast-t20 c =
+-- src/lib.rt:292:18
+cast-t21 : tie.Need-cast-t21
+cast-t21 c =
     let st = c .before .before .before .before .before .before .before .before .before .before .before .before
-    .before .before .before .before in
+    .before .before .before .before .before in
     let check-counted = c .before .before .before .before .before .before .before .check-counted in
     let enum-told = c .before .enum-told in
     let h : st .args .root < 4096 = accepted-root (st .args .t .now) (st .args .rs .now) (st .args .p .now) (st
     .args .used) (st .args .root) (sym (check-counted .ensures .0) ∙ enum-told .given .1) in
     omega (arith, h)
 
--- src/lib.rt:213:34
+-- src/lib.rt:287:34
 rewrite-checked-requires : tie.Need-rewrite-checked-requires
 rewrite-checked-requires c κs =
     let st = c .before .before .before .before .before .before .before .before .before .before .before .before
-    .before .before .before .before .before in
-    let check-counted = c .before .before .before .before .before .before .before .before .check-counted in
-    let enum-told = c .before .before .enum-told in
+    .before .before .before .before .before .before .before in
+    let check-counted = c .before .before .before .before .before .before .before .before .before .check-counted
+    in
+    let enum-told = c .before .before .before .enum-told in
     let accepted = sym (check-counted .ensures .0) ∙ enum-told .given .1 in
     let ok = checked (st .args .t .now) (st .args .rs .now) (st .args .p .now) (st .args .used) (st .args .root)
     accepted in
@@ -76,43 +77,48 @@ rewrite-checked-requires c κs =
       ),
     )
 
--- src/lib.rt:193:1
+-- src/lib.rt:262:1
 same-length : tie.Need-same-length
 same-length c = search needs
 
--- src/lib.rt:193:1
+-- src/lib.rt:262:1
 same-length-2 : tie.Need-same-length-2
 same-length-2 c = search needs
 
--- src/lib.rt:193:1
+-- src/lib.rt:262:1
 same-length-3 : tie.Need-same-length-3
 same-length-3 c = search needs
 
--- src/lib.rt:193:1
+-- src/lib.rt:262:1
 returns : tie.Need-returns
 returns c =
     let st = c .before .before .before .before .before .before .before .before .before .before .before .before
-    .before .before .before .before .before in
+    .before .before .before .before .before .before in
     let check-counted = c .before .before .before .before .before .before .before .before .check-counted in
     let answer = c .before .before .answer in
     let refused = c .refused in
     let h = rewrite-refused (st .args .t .now) (st .args .rs .now) (st .args .p .now) (st .args .used) (st .args
     .root) _ (sym (check-counted .ensures .0) ∙ answer .given .1) in
-    (refused .ensures ∙ sym (h .0), (sym (h .1), none-said _ _ _ _ (refused .ensures)))
+    refused-explained (st .args .t .now) (st .args .rs .now) (st .args .p .now) (st .args .used) (st .args
+    .root) _ (refused .result) (st .args .reasons .now) (refused .ensures .0) (refused .ensures .1) (h .0)
 
--- src/lib.rt:193:1
+-- src/lib.rt:262:1
 same-length-4 : tie.Need-same-length-4
 same-length-4 c = search needs
 
--- src/lib.rt:193:1
+-- src/lib.rt:262:1
 same-length-5 : tie.Need-same-length-5
 same-length-5 c = search needs
 
--- src/lib.rt:193:1
+-- src/lib.rt:262:1
 same-length-6 : tie.Need-same-length-6
 same-length-6 c = search needs
 
--- src/lib.rt:193:1
+-- src/lib.rt:262:1
+same-length-7 : tie.Need-same-length-7
+same-length-7 c = search needs
+
+-- src/lib.rt:262:1
 returns-2 : tie.Need-returns-2
 returns-2 c = search needs
 
@@ -125,7 +131,7 @@ rewrite-within-spec =
     refused-requires
     enum-told
     cast-rewrite-checked
-    cast-t20
+    cast-t21
     rewrite-checked-requires
     same-length
     same-length-2
@@ -134,4 +140,5 @@ rewrite-within-spec =
     same-length-4
     same-length-5
     same-length-6
+    same-length-7
     returns-2)

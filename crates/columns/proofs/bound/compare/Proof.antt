@@ -1,4 +1,4 @@
-use Rattle.constraints.specs.Payload.{payload}
+use Rattle.constraints.specs.Lined.{lined}
 use borrow.Author.Needs.{needs}
 use Rattle.columns.proofs.bound.compare.Statement.{statement}
 use Rattle.columns.proofs.bound.compare.Tie as tie
@@ -9,7 +9,7 @@ scalar-cmp-requires c κs = search needs
 
 -- src/bound.rt:20:1
 returns : tie.Need-returns
-unfolding payload
+unfolding lined
 returns c = c .scalar-cmp .ensures
 
 pub compare-spec : {M : Type 1} → statement M

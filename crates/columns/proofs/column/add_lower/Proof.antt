@@ -1,5 +1,5 @@
 use mathlib.Core.Path.{refl, ap}
-use Prim.Native.Nat.{ℕ}
+use Rattle.constraints.specs.Lined.{Lined}
 use borrow.Author.Needs.{needs}
 use Rattle.constraints.specs.Bound.{Tightened}
 use Rattle.columns.proofs.column.add_lower.Statement.{statement}
@@ -20,9 +20,9 @@ returns-2 c =
       (λ t a. rw (
         c .before .before .if1 .left,
         c .crosses .ensures,
-        ap (λ (x : Tightened ℕ). x .bound) e,
+        ap (λ (x : Tightened Lined). x .bound) e,
       )),
-      (refl, λ t a. rw (c .before .before .if1 .left) (ap (λ (x : Tightened ℕ). x .change) e)),
+      (refl, λ t a. rw (c .before .before .if1 .left) (ap (λ (x : Tightened Lined). x .change) e)),
     )
 
 pub add-lower-spec : {M : Type 1} → statement M

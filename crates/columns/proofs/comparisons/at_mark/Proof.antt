@@ -4,8 +4,8 @@ use Rattle.columns.proofs.comparisons.at_mark.Statement.{statement}
 use Rattle.columns.proofs.comparisons.at_mark.Tie as tie
 
 -- src/comparisons.rt:55:9
-literal-at-requires : tie.Need-literal-at-requires
-literal-at-requires c κs = search needs
+limit-at-requires : tie.Need-limit-at-requires
+limit-at-requires c κs = search needs
 
 -- src/comparisons.rt:56:8
 byte-requires : tie.Need-byte-requires
@@ -13,11 +13,11 @@ byte-requires c κs = search needs
 
 -- src/comparisons.rt:57:9
 returns : tie.Need-returns
-returns c = search (flags, ← c .before .byte .ensures, ← c .before .before .literal-at .ensures)
+returns c = search (flags, ← c .before .byte .ensures, ← c .before .before .limit-at .ensures)
 
 -- src/comparisons.rt:52:1
 returns-2 : tie.Need-returns-2
-returns-2 c = search (flags, ← c .before .byte .ensures, ← c .before .before .literal-at .ensures)
+returns-2 c = search (flags, ← c .before .byte .ensures, ← c .before .before .limit-at .ensures)
 
 pub at-mark-spec : {M : Type 1} → statement M
-at-mark-spec = tie.close (tie.spec literal-at-requires byte-requires returns returns-2)
+at-mark-spec = tie.close (tie.spec limit-at-requires byte-requires returns returns-2)

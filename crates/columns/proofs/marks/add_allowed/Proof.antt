@@ -6,7 +6,7 @@ use Rattle.columns.proofs.marks.add_allowed.Lts as lts
 use Rattle.columns.proofs.marks.insert_list.Reads as insert-list-reads
 use mathlib.Core.Path.{_∙_}
 use Rattle.constraints.specs.Column as q
-use Rattle.columns.specs.Abstraction.{columnOf, numbered, listOf}
+use Rattle.columns.specs.Abstraction.{columnOf, numbered, valuesOf}
 use Rattle.columns.proofs.Insertions.{live-add, dead-add}
 
 -- src/marks.rt:270:9
@@ -14,7 +14,7 @@ returns : tie.Need-returns
 returns c =
     let st = c .before .before in
     let if1 = c .if1 in (
-      (λ t k. dead-add (q.Allow (listOf (t .starts) (t .counts) (t .pool) (st .args .j))) (columnOf t (numbered
+      (λ t k. dead-add (q.Allow (valuesOf (t .starts) (t .counts) (t .pool) (st .args .j))) (columnOf t (numbered
           (st .args .marks .now) (st .args .c))) (if1 .taken)),
       st .pre .0,
     )
@@ -33,7 +33,7 @@ returns-2 c =
     let st = c .before .before .before .before .before .before in
     let if1 = c .before .before .before .before .if1 in
     let insert-list = c .before .before .insert-list in (
-      (λ t k. insert-list .ensures .0 t k ∙ live-add (q.Allow (listOf (t .starts) (t .counts) (t .pool) (st .args
+      (λ t k. insert-list .ensures .0 t k ∙ live-add (q.Allow (valuesOf (t .starts) (t .counts) (t .pool) (st .args
           .j))) (columnOf t (numbered (st .args .marks .now) (st .args .c))) (if1 .left)),
       insert-list .ensures .1 .1,
     )

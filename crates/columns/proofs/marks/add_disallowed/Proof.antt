@@ -10,7 +10,7 @@ use mathlib.Core.List.{List}
 use Prim.Native.Nat.{ℕ}
 use lib.ListN.{getD}
 use Rattle.constraints.specs.Column as q
-use Rattle.columns.specs.Abstraction.{columnOf, numbered, listOf}
+use Rattle.columns.specs.Abstraction.{columnOf, numbered, valuesOf}
 use Rattle.columns.proofs.Insertions.{dead-add, strict-add}
 
 -- src/marks.rt:288:9
@@ -18,7 +18,7 @@ returns : tie.Need-returns
 returns c =
     let st = c .before .before .before in
     let if1 = c .if1 in (
-      (λ t f k. dead-add (q.Disallow (st .args .strict) (listOf (t .starts) (t .counts) (t .pool) (st .args .j)))
+      (λ t f k. dead-add (q.Disallow (st .args .strict) (valuesOf (t .starts) (t .counts) (t .pool) (st .args .j)))
           (columnOf t (numbered (st .args .marks .now) (st .args .c))) (if1 .taken)),
       st .pre .0,
     )

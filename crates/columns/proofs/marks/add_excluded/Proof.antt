@@ -5,9 +5,8 @@ use Rattle.columns.proofs.marks.add_excluded.Reads as reads
 use Rattle.columns.proofs.marks.add_excluded.Lts as lts
 use Rattle.columns.proofs.marks.insert_excluded.Reads as insert-excluded-reads
 use mathlib.Core.Path.{_∙_}
-use lib.ListN.{getD}
 use Rattle.constraints.specs.Column as q
-use Rattle.columns.specs.Abstraction.{columnOf, numbered}
+use Rattle.columns.specs.Abstraction.{columnOf, numbered, literalAt}
 use Rattle.columns.proofs.Insertions.{live-add, dead-add}
 
 -- src/marks.rt:242:9
@@ -15,7 +14,7 @@ returns : tie.Need-returns
 returns c =
     let st = c .before .before .before .before in
     let if1 = c .if1 in (
-      (λ t e f. dead-add (q.Exclude (getD (st .args .values .now) (st .args .j) 0)) (columnOf t (numbered (st
+      (λ t e f. dead-add (q.Exclude (literalAt (st .args .values .now) (st .args .j))) (columnOf t (numbered (st
           .args .marks .now) (st .args .c))) (if1 .taken)),
       st .pre .0,
     )
@@ -34,8 +33,8 @@ returns-2 c =
     let st = c .before .before .before .before .before .before .before .before in
     let if1 = c .before .before .before .before .if1 in
     let insert-excluded = c .before .before .insert-excluded in (
-      (λ t e f. insert-excluded .ensures .0 t e f ∙ live-add (q.Exclude (getD (st .args .values .now) (st .args
-          .j) 0)) (columnOf t (numbered (st .args .marks .now) (st .args .c))) (if1 .left)),
+      (λ t e f. insert-excluded .ensures .0 t e f ∙ live-add (q.Exclude (literalAt (st .args .values .now) (st .args
+          .j))) (columnOf t (numbered (st .args .marks .now) (st .args .c))) (if1 .left)),
       insert-excluded .ensures
           .1,
     )

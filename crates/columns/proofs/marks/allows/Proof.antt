@@ -2,6 +2,7 @@ use mathlib.Core.Path.{_≡_}
 use mathlib.Core.Bool.{true}
 use Prim.Native.Nat.{_≤_, _-_}
 use Rattle.constraints.specs.Payload.{payload}
+use Rattle.constraints.specs.Lined.{lined}
 use Rattle.columns.specs.Abstraction.{allowedBy}
 use Rattle.constraints.specs.Resolve.{isAllowed}
 use Rattle.columns.proofs.Insertions.{all-none, all-more, all-fails, all-done}
@@ -11,7 +12,7 @@ use Rattle.columns.proofs.marks.allows.Tie as tie
 
 abbrev Inv-loop : tie.InvT-loop
 Inv-loop kinds starts counts pool marks n v i₀ i =
-    (i ≤ n) × (isAllowed payload (allowedBy kinds starts counts pool marks i) (payload .key (v .0)) ≡ true)
+    (i ≤ n) × (isAllowed lined (allowedBy kinds starts counts pool marks i) (payload .key (v .0)) ≡ true)
 
 abbrev μ-loop : tie.MeasureT-loop
 μ-loop kinds starts counts pool marks n v i₀ i = n - i

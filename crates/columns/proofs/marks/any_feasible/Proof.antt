@@ -4,16 +4,17 @@ use mathlib.Core.Bool.{false}
 use mathlib.Core.List.{List}
 use Prim.Native.Nat.{ℕ, _≤_, _-_}
 use Rattle.constraints.specs.Payload.{payload}
+use Rattle.constraints.specs.Lined.{lined}
 use Rattle.constraints.specs.Resolve as z
-use Rattle.columns.specs.Abstraction.{conjuncts, columnOf, numbered, listOf}
+use Rattle.columns.specs.Abstraction.{conjuncts, columnOf, numbered}
 use Rattle.columns.specs.Steps.{anyOf}
-use Rattle.columns.proofs.Lists.{an-none, an-more, an-found, an-done, feasible-any, list-as}
+use Rattle.columns.proofs.Lists.{an-none, an-more, an-found, an-done, feasible-listed, list-as}
 use borrow.Author.Needs.{needs}
 use Rattle.columns.proofs.marks.any_feasible.Statement.{statement}
 use Rattle.columns.proofs.marks.any_feasible.Tie as tie
 
 abbrev Inv-loop : tie.InvT-loop
-Inv-loop index kinds values starts counts pool marks c f allowed disallowed s m i₀ i = (i ≤ m) × (anyOf (λ (v : ℕ). z.isFeasible payload (columnOf (conjuncts kinds values starts counts pool) (numbered marks c)) (payload .key v)) (valuesFrom pool s i) ≡ false)
+Inv-loop index kinds values starts counts pool marks c f allowed disallowed s m i₀ i = (i ≤ m) × (anyOf (λ (v : ℕ). z.isFeasible lined (columnOf (conjuncts kinds values starts counts pool) (numbered marks c)) (payload .key v)) (valuesFrom pool s i) ≡ false)
 
 abbrev μ-loop : tie.MeasureT-loop
 μ-loop index kinds values starts counts pool marks c f allowed disallowed s m i₀ i = m - i
@@ -77,11 +78,11 @@ returns c =
     let tables = conjuncts (st .args .kinds .now) (st .args .values .now) (st .args .starts .now) (st .args
     .counts .now) (st .args .pool .now) in
     let cc = columnOf tables (numbered (st .args .marks .now) (st .args .c)) in
-    an-found (λ (v : ℕ). z.isFeasible payload cc (payload .key v)) _ _ _ _ (loop-test .taken) (rw (← is-feasible
-    .ensures) (if1 .taken)) ∙ ap (λ (l : List ℕ). anyOf (λ (v : ℕ). z.isFeasible payload cc (payload .key v)) l)
+    an-found (λ (v : ℕ). z.isFeasible lined cc (payload .key v)) _ _ _ _ (loop-test .taken) (rw (← is-feasible
+    .ensures) (if1 .taken)) ∙ ap (λ (l : List ℕ). anyOf (λ (v : ℕ). z.isFeasible lined cc (payload .key v)) l)
     (list-as (st .args .starts .now) (st .args .counts .now) (st .args .pool .now) (st .args .f) _ _ (number-at
-    .ensures) (number-at2 .ensures)) ∙ sym (feasible-any cc (listOf (st .args .starts .now) (st .args .counts
-    .now) (st .args .pool .now) (st .args .f)))
+    .ensures) (number-at2 .ensures)) ∙ sym (feasible-listed (st .args .starts .now) (st .args .counts
+    .now) (st .args .pool .now) (st .args .f) cc)
 
 add-i : tie.Need-add-i Inv-loop μ-loop
 add-i c = search needs
@@ -99,7 +100,7 @@ loop-again c =
     let tables = conjuncts (st .args .kinds .now) (st .args .values .now) (st .args .starts .now) (st .args
     .counts .now) (st .args .pool .now) in (
       search needs,
-      an-more (λ (v : ℕ). z.isFeasible payload (columnOf tables (numbered (st .args .marks .now)
+      an-more (λ (v : ℕ). z.isFeasible lined (columnOf tables (numbered (st .args .marks .now)
           (st .args .c))) (payload .key v)) _ _ _ (loop .inv .1) (rw (← is-feasible .ensures) (if1 .left)),
     )
 
@@ -114,11 +115,11 @@ returns-2 c =
     let tables = conjuncts (st .args .kinds .now) (st .args .values .now) (st .args .starts .now) (st .args
     .counts .now) (st .args .pool .now) in
     let cc = columnOf tables (numbered (st .args .marks .now) (st .args .c)) in
-    an-done (λ (v : ℕ). z.isFeasible payload cc (payload .key v)) _ _ _ _ (loop .inv .0) (loop-test .left) (loop
-    .inv .1) ∙ ap (λ (l : List ℕ). anyOf (λ (v : ℕ). z.isFeasible payload cc (payload .key v)) l) (list-as (st
+    an-done (λ (v : ℕ). z.isFeasible lined cc (payload .key v)) _ _ _ _ (loop .inv .0) (loop-test .left) (loop
+    .inv .1) ∙ ap (λ (l : List ℕ). anyOf (λ (v : ℕ). z.isFeasible lined cc (payload .key v)) l) (list-as (st
     .args .starts .now) (st .args .counts .now) (st .args .pool .now) (st .args .f) _ _ (number-at .ensures)
-    (number-at2 .ensures)) ∙ sym (feasible-any cc (listOf (st .args .starts .now) (st .args .counts .now) (st
-    .args .pool .now) (st .args .f)))
+    (number-at2 .ensures)) ∙ sym (feasible-listed (st .args .starts .now) (st .args .counts .now) (st
+    .args .pool .now) (st .args .f) cc)
 
 pub any-feasible-spec : {M : Type 1} → statement M
 any-feasible-spec =

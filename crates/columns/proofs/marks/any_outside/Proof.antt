@@ -3,7 +3,7 @@ use mathlib.Core.Path.{_≡_, _∙_, ap}
 use mathlib.Core.Bool.{false}
 use mathlib.Core.List.{List}
 use Prim.Native.Nat.{ℕ, _≤_, _-_}
-use Rattle.columns.specs.Abstraction.{listOf, allowedBy}
+use Rattle.columns.specs.Abstraction.{valuesOf, allowedBy}
 use Rattle.columns.specs.Steps.{anyOf, outside}
 use Rattle.columns.proofs.Lists.{an-none, an-more, an-found, an-done, list-as}
 use borrow.Author.Needs.{needs}
@@ -11,7 +11,7 @@ use Rattle.columns.proofs.marks.any_outside.Statement.{statement}
 use Rattle.columns.proofs.marks.any_outside.Tie as tie
 
 abbrev Inv-loop : tie.InvT-loop
-Inv-loop index kinds starts counts pool marks n allowed f j s m i₀ i = (i ≤ m) × (anyOf (λ (v : ℕ). outside (allowedBy kinds starts counts pool marks n) (listOf starts counts pool j) v) (valuesFrom pool s i) ≡ false)
+Inv-loop index kinds starts counts pool marks n allowed f j s m i₀ i = (i ≤ m) × (anyOf (λ (v : ℕ). outside (allowedBy kinds starts counts pool marks n) (valuesOf starts counts pool j) v) (valuesFrom pool s i) ≡ false)
 
 abbrev μ-loop : tie.MeasureT-loop
 μ-loop index kinds starts counts pool marks n allowed f j s m i₀ i = m - i
@@ -50,10 +50,10 @@ returns c =
     let is-outside = c .before .is-outside in
     let if1 = c .if1 in
     an-found (λ (v : ℕ). outside (allowedBy (st .args .kinds .now) (st .args .starts .now) (st .args .counts
-    .now) (st .args .pool .now) (st .args .marks .now) (st .args .n)) (listOf (st .args .starts .now) (st .args
+    .now) (st .args .pool .now) (st .args .marks .now) (st .args .n)) (valuesOf (st .args .starts .now) (st .args
     .counts .now) (st .args .pool .now) (st .args .j)) v) _ _ _ _ (loop-test .taken) (rw (← is-outside .ensures)
     (if1 .taken)) ∙ ap (λ (l : List ℕ). anyOf (λ (v : ℕ). outside (allowedBy (st .args .kinds .now) (st .args
-    .starts .now) (st .args .counts .now) (st .args .pool .now) (st .args .marks .now) (st .args .n)) (listOf
+    .starts .now) (st .args .counts .now) (st .args .pool .now) (st .args .marks .now) (st .args .n)) (valuesOf
     (st .args .starts .now) (st .args .counts .now) (st .args .pool .now) (st .args .j)) v) l) (list-as (st
     .args .starts .now) (st .args .counts .now) (st .args .pool .now) (st .args .f) _ _ (number-at .ensures)
     (number-at2 .ensures))
@@ -73,7 +73,7 @@ loop-again c =
     let if1 = c .if1 in (
       search needs,
       an-more (λ (v : ℕ). outside (allowedBy (st .args .kinds .now) (st .args .starts .now) (st
-          .args .counts .now) (st .args .pool .now) (st .args .marks .now) (st .args .n)) (listOf (st .args .starts
+          .args .counts .now) (st .args .pool .now) (st .args .marks .now) (st .args .n)) (valuesOf (st .args .starts
           .now) (st .args .counts .now) (st .args .pool .now) (st .args .j)) v) _ _ _ (loop .inv .1) (rw (← is-outside
           .ensures) (if1 .left)),
     )
@@ -86,10 +86,10 @@ returns-2 c =
     let loop = c .before .loop in
     let loop-test = c .loop-test in
     an-done (λ (v : ℕ). outside (allowedBy (st .args .kinds .now) (st .args .starts .now) (st .args .counts
-    .now) (st .args .pool .now) (st .args .marks .now) (st .args .n)) (listOf (st .args .starts .now) (st .args
+    .now) (st .args .pool .now) (st .args .marks .now) (st .args .n)) (valuesOf (st .args .starts .now) (st .args
     .counts .now) (st .args .pool .now) (st .args .j)) v) _ _ _ _ (loop .inv .0) (loop-test .left) (loop .inv
     .1) ∙ ap (λ (l : List ℕ). anyOf (λ (v : ℕ). outside (allowedBy (st .args .kinds .now) (st .args .starts
-    .now) (st .args .counts .now) (st .args .pool .now) (st .args .marks .now) (st .args .n)) (listOf (st .args
+    .now) (st .args .counts .now) (st .args .pool .now) (st .args .marks .now) (st .args .n)) (valuesOf (st .args
     .starts .now) (st .args .counts .now) (st .args .pool .now) (st .args .j)) v) l) (list-as (st .args .starts
     .now) (st .args .counts .now) (st .args .pool .now) (st .args .f) _ _ (number-at .ensures) (number-at2
     .ensures))

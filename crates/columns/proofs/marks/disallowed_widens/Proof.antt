@@ -4,8 +4,9 @@ use mathlib.Core.Bool.{false, not}
 use mathlib.Core.List.{List}
 use Prim.Native.Nat.{ℕ, _≤_, _-_}
 use Rattle.constraints.specs.Payload.{payload}
+use Rattle.constraints.specs.Lined.{lined}
 use Rattle.constraints.specs.Values.{contains}
-use Rattle.columns.specs.Abstraction.{listOf, disallowedBy}
+use Rattle.columns.specs.Abstraction.{disallowedBy}
 use Rattle.columns.specs.Steps.{anyOf}
 use Rattle.columns.proofs.Lists.{an-none, an-more, an-found, an-done, widens-any, list-as}
 use borrow.Author.Needs.{needs}
@@ -13,7 +14,7 @@ use Rattle.columns.proofs.marks.disallowed_widens.Statement.{statement}
 use Rattle.columns.proofs.marks.disallowed_widens.Tie as tie
 
 abbrev Inv-loop : tie.InvT-loop
-Inv-loop index kinds starts counts pool marks n j disallowed s m i₀ i = (i ≤ m) × (anyOf (λ (v : ℕ). not (contains payload (payload .key v) (disallowedBy kinds starts counts pool marks n))) (valuesFrom pool s i) ≡ false)
+Inv-loop index kinds starts counts pool marks n j disallowed s m i₀ i = (i ≤ m) × (anyOf (λ (v : ℕ). not (contains lined (payload .key v) (disallowedBy kinds starts counts pool marks n))) (valuesFrom pool s i) ≡ false)
 
 abbrev μ-loop : tie.MeasureT-loop
 μ-loop index kinds starts counts pool marks n j disallowed s m i₀ i = m - i
@@ -63,14 +64,14 @@ returns c =
     let loop-test = c .before .before .before .loop-test in
     let disallows-at = c .before .disallows-at in
     let if1 = c .if1 in
-    an-found (λ (v : ℕ). not (contains payload (payload .key v) (disallowedBy (st .args .kinds .now) (st .args
+    an-found (λ (v : ℕ). not (contains lined (payload .key v) (disallowedBy (st .args .kinds .now) (st .args
     .starts .now) (st .args .counts .now) (st .args .pool .now) (st .args .marks .now) (st .args .n)))) _ _ _ _
     (loop-test .taken) (rw (← disallows-at .ensures) (if1 .taken)) ∙ ap (λ (l : List ℕ). anyOf (λ (v : ℕ). not
-    (contains payload (payload .key v) (disallowedBy (st .args .kinds .now) (st .args .starts .now) (st .args
+    (contains lined (payload .key v) (disallowedBy (st .args .kinds .now) (st .args .starts .now) (st .args
     .counts .now) (st .args .pool .now) (st .args .marks .now) (st .args .n)))) l) (list-as (st .args .starts
     .now) (st .args .counts .now) (st .args .pool .now) (st .args .j) _ _ (number-at .ensures) (number-at2
-    .ensures)) ∙ sym (widens-any (listOf (st .args .starts .now) (st .args .counts .now) (st .args .pool .now)
-    (st .args .j)) (disallowedBy (st .args .kinds .now) (st .args .starts .now) (st .args .counts .now) (st
+    .ensures)) ∙ sym (widens-any (st .args .starts .now) (st .args .counts .now) (st .args .pool .now)
+    (st .args .j) (disallowedBy (st .args .kinds .now) (st .args .starts .now) (st .args .counts .now) (st
     .args .pool .now) (st .args .marks .now) (st .args .n)))
 
 add-i : tie.Need-add-i Inv-loop μ-loop
@@ -87,7 +88,7 @@ loop-again c =
     let disallows-at = c .before .disallows-at in
     let if1 = c .if1 in (
       search needs,
-      an-more (λ (v : ℕ). not (contains payload (payload .key v) (disallowedBy (st .args .kinds
+      an-more (λ (v : ℕ). not (contains lined (payload .key v) (disallowedBy (st .args .kinds
           .now) (st .args .starts .now) (st .args .counts .now) (st .args .pool .now) (st .args .marks .now) (st .args
           .n)))) _ _ _ (loop .inv .1) (rw (← disallows-at .ensures) (if1 .left)),
     )
@@ -99,13 +100,13 @@ returns-2 c =
     let number-at2 = c .before .before .number-at2 in
     let loop = c .before .loop in
     let loop-test = c .loop-test in
-    an-done (λ (v : ℕ). not (contains payload (payload .key v) (disallowedBy (st .args .kinds .now) (st .args
+    an-done (λ (v : ℕ). not (contains lined (payload .key v) (disallowedBy (st .args .kinds .now) (st .args
     .starts .now) (st .args .counts .now) (st .args .pool .now) (st .args .marks .now) (st .args .n)))) _ _ _ _
     (loop .inv .0) (loop-test .left) (loop .inv .1) ∙ ap (λ (l : List ℕ). anyOf (λ (v : ℕ). not (contains
-    payload (payload .key v) (disallowedBy (st .args .kinds .now) (st .args .starts .now) (st .args .counts
+    lined (payload .key v) (disallowedBy (st .args .kinds .now) (st .args .starts .now) (st .args .counts
     .now) (st .args .pool .now) (st .args .marks .now) (st .args .n)))) l) (list-as (st .args .starts .now) (st
     .args .counts .now) (st .args .pool .now) (st .args .j) _ _ (number-at .ensures) (number-at2 .ensures)) ∙
-    sym (widens-any (listOf (st .args .starts .now) (st .args .counts .now) (st .args .pool .now) (st .args .j))
+    sym (widens-any (st .args .starts .now) (st .args .counts .now) (st .args .pool .now) (st .args .j)
     (disallowedBy (st .args .kinds .now) (st .args .starts .now) (st .args .counts .now) (st .args .pool .now)
     (st .args .marks .now) (st .args .n)))
 

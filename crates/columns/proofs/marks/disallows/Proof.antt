@@ -2,6 +2,7 @@ use mathlib.Core.Path.{_≡_}
 use mathlib.Core.Bool.{false}
 use Prim.Native.Nat.{_≤_, _-_}
 use Rattle.constraints.specs.Payload.{payload}
+use Rattle.constraints.specs.Lined.{lined}
 use Rattle.constraints.specs.Values.{contains}
 use Rattle.columns.specs.Abstraction.{disallowedBy}
 use Rattle.columns.proofs.Insertions.{any-none, any-more, any-found, any-done}
@@ -11,7 +12,7 @@ use Rattle.columns.proofs.marks.disallows.Tie as tie
 
 abbrev Inv-loop : tie.InvT-loop
 Inv-loop kinds starts counts pool marks n v i₀ i =
-    (i ≤ n) × (contains payload (payload .key (v .0)) (disallowedBy kinds starts counts pool marks i) ≡ false)
+    (i ≤ n) × (contains lined (payload .key (v .0)) (disallowedBy kinds starts counts pool marks i) ≡ false)
 
 abbrev μ-loop : tie.MeasureT-loop
 μ-loop kinds starts counts pool marks n v i₀ i = n - i

@@ -1,4 +1,6 @@
 use borrow.Author.Needs.{needs}
+use Rattle.constraints.specs.Payload.{payload}
+use Rattle.constraints.specs.Lined.{lined}
 use Rattle.columns.proofs.marks.excluded_changes.Statement.{statement}
 use Rattle.columns.proofs.marks.excluded_changes.Tie as tie
 use Rattle.columns.proofs.marks.excluded_changes.Reads as reads
@@ -22,6 +24,7 @@ excludes-requires c κs = search needs
 
 -- src/marks.rt:297:1
 returns-2 : tie.Need-returns-2
+unfolding lined payload
 returns-2 c =
     let if1 = c .before .before .if1 in
     let literal-at = c .before .literal-at in

@@ -6,7 +6,7 @@ use Rattle.truth.specs.Order.{isEqual}
 use Rattle.constraints.specs.Scalars.{scalarCmp}
 use Rattle.truth.specs.FromBytes.{valuesFrom}
 use Rattle.columns.specs.Steps.{anyOf}
-use Rattle.columns.proofs.Lists.{an-none, an-more, an-found, an-done, has-any}
+use Rattle.columns.proofs.Lists.{an-none, an-more, an-found, an-done, given-any}
 use borrow.Author.Needs.{needs}
 use Rattle.columns.proofs.marks.in_list.Statement.{statement}
 use Rattle.columns.proofs.marks.in_list.Tie as tie
@@ -40,7 +40,7 @@ returns c =
     let st = c .before .before .before .before .before .before in
     an-found _ _ _ _ _ (c .before .before .before .loop-test .taken)
     (rw (← c .before .before .value-at .ensures, ← c .before .same .ensures) (c .if1 .taken)) ∙
-    sym (has-any (st .args .v .0) (valuesFrom (st .args .pool .now) (st .args .start) (st .args .count)))
+    sym (given-any (st .args .v .0) (valuesFrom (st .args .pool .now) (st .args .start) (st .args .count)))
 
 -- src/marks.rt:86:9
 add-i : tie.Need-add-i Inv-loop μ-loop
@@ -63,7 +63,7 @@ returns-2 : tie.Need-returns-2 Inv-loop μ-loop
 returns-2 c =
     let st = c .before .before .before in
     an-done _ _ _ _ _ (c .before .loop .inv .0) (c .loop-test .left) (c .before .loop .inv .1) ∙
-    sym (has-any (st .args .v .0) (valuesFrom (st .args .pool .now) (st .args .start) (st .args .count)))
+    sym (given-any (st .args .v .0) (valuesFrom (st .args .pool .now) (st .args .start) (st .args .count)))
 
 pub in-list-spec : {M : Type 1} → statement M
 in-list-spec =

@@ -34,7 +34,7 @@ returns c =
     let literal-at = c .before .before .before .literal-at in
     let excludes = c .before .excludes in
     let if1 = c .if1 in (
-      (λ t e f. exc-old t (numbered (st .args .marks .now) (st .args .c)) _ (rw (
+      (λ t e f. exc-old t (numbered (st .args .marks .now) (st .args .c)) (st .args .j) _ (rw (
         e,
         f,
         ← literal-at .ensures,

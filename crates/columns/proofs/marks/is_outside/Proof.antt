@@ -1,3 +1,4 @@
+use Rattle.columns.proofs.Lines.{contains-values}
 use mathlib.Core.Bool.{and-true, and-false}
 use borrow.Author.Needs.{needs}
 use Rattle.columns.proofs.marks.is_outside.Statement.{statement}
@@ -12,7 +13,7 @@ returns : tie.Need-returns
 returns c =
     let listed-at = c .before .listed-at in
     let if1 = c .if1 in
-    rw (← listed-at .ensures, if1 .taken, and-false)
+    rw (contains-values, ← listed-at .ensures, if1 .taken, and-false)
 
 allows-at-requires : tie.Need-allows-at-requires
 allows-at-requires c κs =
@@ -24,7 +25,7 @@ returns-2 c =
     let listed-at = c .before .before .listed-at in
     let if1 = c .before .if1 in
     let allows-at = c .allows-at in
-    rw (allows-at .ensures, ← listed-at .ensures, if1 .left, and-true)
+    rw (allows-at .ensures, contains-values, ← listed-at .ensures, if1 .left, and-true)
 
 pub is-outside-spec : {M : Type 1} → statement M
 is-outside-spec =

@@ -1,9 +1,9 @@
 use mathlib.Core.Path.{_∙_, ap, refl}
 use mathlib.Core.Bool.{false}
-use Prim.Native.Nat.{ℕ, _-_}
+use Rattle.constraints.specs.Lined.{Lined, lined}
 use Rattle.constraints.specs.Column as q
-use Rattle.columns.specs.Abstraction.{numbered, columnOf}
-use Rattle.constraints.specs.Bound as b
+use Rattle.columns.specs.Abstraction.{numbered, columnOf, boundOf}
+use Rattle.constraints.specs.Resolve as z
 use Rattle.constraints.specs.declared.column.ExcludedResolution.the-variants.{Drop, Keep, TightenLower}
 use Rattle.constraints.specs.declared.column.ExcludedResolution.the-variants.{TightenUpper}
 use Rattle.columns.proofs.Resolutions.{applied}
@@ -11,8 +11,8 @@ use borrow.Author.Needs.{needs}
 use Rattle.columns.proofs.resolve.apply_excluded.Statement.{statement}
 use Rattle.columns.proofs.resolve.apply_excluded.Tie as tie
 
-literal-at-requires : tie.Need-literal-at-requires
-literal-at-requires c κs = search needs
+limit-at-requires : tie.Need-limit-at-requires
+limit-at-requires c κs = search needs
 
 classify-excluded-requires : tie.Need-classify-excluded-requires
 classify-excluded-requires c κs = search needs
@@ -43,7 +43,7 @@ returns c =
     let st = c .before .before .before .before .before .before .before in (
       (λ t e f. applied Drop _ _ (columnOf t (numbered (st .args .own .now) (st .args .c))) _ _
           (c .before .before .classify-excluded .ensures t (st .args .own .now))
-          (c .before .before .before .literal-at .ensures) (c .enum-told .given .1) refl),
+          (c .before .before .before .limit-at .ensures) (c .enum-told .given .1) refl),
       st .pre .0,
     )
 
@@ -55,7 +55,7 @@ returns-2 c =
     let st = c .before .before .before .before .before .before .before .before .before .before .before in (
       (λ t e f. applied Keep _ _ (columnOf t (numbered (st .args .own .now) (st .args .c))) _ _
           (c .before .before .before .before .before .before .classify-excluded .ensures t (st .args .own .now))
-          (c .before .before .before .before .before .before .before .literal-at .ensures) (c .before .before .before .before .enum-told2 .given .1)
+          (c .before .before .before .before .before .before .before .limit-at .ensures) (c .before .before .before .before .enum-told2 .given .1)
           (c .before .before .insert-excluded .ensures .0 t e f)),
       c .before .before .insert-excluded .ensures .1,
     )
@@ -65,9 +65,9 @@ returns-3 c =
     let st = c .before .before .before .before .before .before .before .before in (
       (λ t e f. applied TightenLower _ _ (columnOf t (numbered (st .args .own .now) (st .args .c))) _ _
           (c .before .before .before .classify-excluded .ensures t (st .args .own .now))
-          (c .before .before .before .before .literal-at .ensures) (c .before .enum-told3 .given .1)
+          (c .before .before .before .before .limit-at .ensures) (c .before .enum-told3 .given .1)
           (c .open-lower .ensures .0 t (st .args .own .now) ∙
-          ap (λ (v : ℕ). q.setLower (b.at false v) (columnOf t (numbered (st .args .own .now) (st .args .c)))) (c .before .before .before .before .literal-at .ensures))),
+          ap (λ (v : Lined). q.setLower (z.openAt lined (boundOf (st .args .c .lower)) v) (columnOf t (numbered (st .args .own .now) (st .args .c)))) (c .before .before .before .before .limit-at .ensures))),
       rw (c .open-lower .ensures .1) (st .pre .0),
     )
 
@@ -76,9 +76,9 @@ returns-4 c =
     let st = c .before .before .before .before .before .before .before .before in (
       (λ t e f. applied TightenUpper _ _ (columnOf t (numbered (st .args .own .now) (st .args .c))) _ _
           (c .before .before .before .classify-excluded .ensures t (st .args .own .now))
-          (c .before .before .before .before .literal-at .ensures) (c .before .enum-told4 .given .1)
+          (c .before .before .before .before .limit-at .ensures) (c .before .enum-told4 .given .1)
           (c .open-upper .ensures .0 t (st .args .own .now) ∙
-          ap (λ (v : ℕ). q.setUpper (b.at false v) (columnOf t (numbered (st .args .own .now) (st .args .c)))) (c .before .before .before .before .literal-at .ensures))),
+          ap (λ (v : Lined). q.setUpper (z.openAt lined (boundOf (st .args .c .upper)) v) (columnOf t (numbered (st .args .own .now) (st .args .c)))) (c .before .before .before .before .limit-at .ensures))),
       rw (c .open-upper .ensures .1) (st .pre .0),
     )
 
@@ -86,7 +86,7 @@ pub apply-excluded-spec : {M : Type 1} → statement M
 apply-excluded-spec =
     tie.close
     (tie.spec
-    literal-at-requires
+    limit-at-requires
     classify-excluded-requires
     enum-told
     enum-told-2

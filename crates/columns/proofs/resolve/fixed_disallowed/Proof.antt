@@ -1,4 +1,5 @@
-use Prim.Native.Nat.{_-_}
+use Rattle.constraints.specs.Payload.{payload}
+use Rattle.constraints.specs.Lined.{lined}
 use borrow.Author.Needs.{needs}
 use Rattle.columns.proofs.resolve.fixed_disallowed.Statement.{statement}
 use Rattle.columns.proofs.resolve.fixed_disallowed.Tie as tie
@@ -21,6 +22,7 @@ returns c =
     λ t e. rw (← c .before .before .fixed-value .ensures t (st .args .marks .now), c .enum-told .given .1)
 
 returns-2 : tie.Need-returns-2
+unfolding lined payload
 returns-2 c =
     let st = c .before .before .before .before .before .before .before .before .before .before in
     λ t e. rw (

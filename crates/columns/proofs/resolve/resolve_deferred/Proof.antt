@@ -3,7 +3,7 @@ use mathlib.Core.List.{List}
 use Prim.Native.Nat.{ℕ, zero, suc, _≤_, _<_, _-_}
 use native.Mathlib.Omega.{arith}
 use lib.ListN.{length, getD}
-use Rattle.constraints.specs.Payload.{payload}
+use Rattle.constraints.specs.Lined.{Lined, lined}
 use Rattle.constraints.specs.Column as q
 use Rattle.constraints.specs.Resolve as z
 use Rattle.columns.specs.Abstraction.{Conjuncts, conjuncts, numbered, columnOf, Fine}
@@ -17,7 +17,7 @@ use Rattle.columns.proofs.resolve.resolve_deferred.Statement.{statement
 use Rattle.columns.proofs.resolve.resolve_deferred.Tie as tie
 
 -- the copy a has the numbers of b: what is said of n numbers of b is true of a
-steps-same : (t : Conjuncts) (a b : List ℕ) (n : ℕ) (cc : q.ColumnConstraints ℕ) →
+steps-same : (t : Conjuncts) (a b : List ℕ) (n : ℕ) (cc : q.ColumnConstraints Lined) →
     ((i : ℕ) → i < n → getD a i 0 ≡ getD b i 0) → stepMarks t a n cc ≡ stepMarks t b n cc
 unfolding stepMarks
 steps-same t a b zero cc h = refl
@@ -72,11 +72,11 @@ returns c =
     let with-lists = c .with-lists in
     let tables = conjuncts (st .args .kinds .now) (st .args .values .now) (st .args .starts .now) (st .args
     .counts .now) (st .args .pool .now) in (
-      with-lists .ensures .0 ∙ ap (λ (x : q.ColumnConstraints ℕ). z.withLists payload x) (walk-law tables
+      with-lists .ensures .0 ∙ ap (λ (x : q.ColumnConstraints Lined). z.withLists lined x) (walk-law tables
           (numbered (st .args .own .now) (st .args .c)) (columnOf tables (numbered (step-marks .last .1 .1 .0)
           (step-marks .result))) (null-conflict .result) (step-marks .ensures .0 tables refl refl ∙ steps-same tables
           (copied .result) (st .args .own .now) (st .args .c .len) (columnOf tables (numbered (st .args .own .now)
-          (begin-walk .result))) (copied .ensures) ∙ ap (λ (x : q.ColumnConstraints ℕ). stepMarks tables (st .args
+          (begin-walk .result))) (copied .ensures) ∙ ap (λ (x : q.ColumnConstraints Lined). stepMarks tables (st .args
           .own .now) (st .args .c .len) x) (begin-walk .ensures .0 tables (st .args .own .now))) (null-conflict
           .ensures tables refl)),
       rw (with-lists .ensures .1) (step-marks .ensures .1),

@@ -1,6 +1,5 @@
 use Prim.Native.Nat.{_-_}
-use lib.ListN.{getD}
-use Rattle.columns.specs.Abstraction.{numbered, columnOf}
+use Rattle.columns.specs.Abstraction.{numbered, columnOf, literalAt}
 use Rattle.columns.proofs.Resolutions.{stepped, stopped}
 use borrow.Author.Needs.{needs}
 use Rattle.columns.proofs.resolve.step_excluded.Statement.{statement}
@@ -10,7 +9,7 @@ returns : tie.Need-returns
 returns c =
     let st = c .before .before .before .before in (
       (λ t e f. stopped (columnOf t (numbered (st .args .own .now) (st .args .c)))
-          (getD (st .args .values .now) (st .args .j) 0) (c .if1 .taken)),
+          (literalAt (st .args .values .now) (st .args .j)) (c .if1 .taken)),
       st .pre .0,
     )
 
@@ -27,7 +26,7 @@ returns-2 : tie.Need-returns-2
 returns-2 c =
     let st = c .before .before .before .before .before .before .before .before .before in (
       (λ t e f. stepped _ _ (columnOf t (numbered (st .args .own .now) (st .args .c)))
-          (getD (st .args .values .now) (st .args .j) 0) (c .before .before .before .before .before .if1 .left)
+          (literalAt (st .args .values .now) (st .args .j)) (c .before .before .before .before .before .if1 .left)
           (c .before .before .before .apply-excluded .ensures .0 t e f) (c .check-bound-consistency .ensures .0 t _)),
       rw (c .check-bound-consistency .ensures .1) (c .before .before .before .apply-excluded .ensures .1),
     )

@@ -49,11 +49,11 @@ returns c =
     let st = c .before .before .before .before .before in
     let write-words = c .before .before .write-words in
     let ws = st .args .cells .now in
-    let s : 8 ≡ stride ws = sym (ap (λ n. n / 64) (st .pre .1)) in
+    let s : 11 ≡ stride ws = sym (ap (λ n. n / 64) (st .pre .1)) in
     let ys = write-words .last .0 in
     let l : length ys ≡ stride ws = search (needs, s) in
     let b = row-back ws (st .args .x) _ _ ys (st .pre .0) (ap (λ n. st .args .x * n) s) (ap (λ n. st .args .x *
-    8 + n) s) l in
+    11 + n) s) l in
     (column-stored ws _ (st .args .x) _ (st .pre .0) (b .1) (b .0 ∙ write-words .ensures), b .1 .size)
 
 pub store-spec : {M : Type 1} → statement M

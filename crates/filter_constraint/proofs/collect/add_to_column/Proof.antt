@@ -8,8 +8,15 @@ use Rattle.filter_constraint.proofs.cells.store.Reads as store-reads
 use Rattle.stages.proofs.fields.slot.Reads as slot-reads
 use Rattle.stages.proofs.rows.add_in_row.Reads as add-in-row-reads
 use mathlib.Core.Path.{_≡_, refl, _∙_}
+use mathlib.Core.List.{map}
 use native.Mathlib.Omega.{arith}
+use Rattle.constraints.specs.Lined.{onLine}
+use Rattle.constraints.specs.Mapped.{mapConstraint}
+use Rattle.reading.specs.Read.{saysIn}
+use Rattle.stages.specs.Rows.{rowOf}
 use Rattle.filter_constraint.proofs.Collecting.{added}
+use Rattle.filter_constraint.proofs.Encoding.{columns-size}
+use Rattle.filter_constraint.proofs.NullLines.{null-added}
 
 -- src/collect.rt:89:9
 slot-requires : tie.Need-slot-requires
@@ -33,15 +40,15 @@ add-in-row-requires c κs =
       st .pre .1,
     )
 
--- src/collect.rt:92:5
+with-null-line-requires : tie.Need-with-null-line-requires
+with-null-line-requires c κs = search needs
+
 store-requires : tie.Need-store-requires
 store-requires c κs =
-    let st = c .before .before .before .before .before .before .before .before .before .before .before .before
-    .before .before .before in
-    let slot = c .before .before .before .before .before .before .before .slot in
+    let st = c .before .before .before .before .before .before .before .before .before .before .before .before .before .before .before .before in
+    let slot = c .before .before .before .before .before .before .before .before .slot in
     (omega (arith, slot .ensures), st .pre .0 .0 .size)
 
--- src/collect.rt:68:1
 same-length : tie.Need-same-length
 same-length c = search needs
 
@@ -52,17 +59,24 @@ same-length-2 c = search needs
 -- src/collect.rt:68:1
 returns : tie.Need-returns
 returns c =
-    let st = c .before .before .before .before .before .before .before .before .before .before .before .before
-    .before .before .before .before .before .before in
-    let slot = c .before .before .before .before .before .before .before .before .before .before .slot in
-    let load = c .before .before .before .before .before .before .before .before .load in
-    let add-in-row = c .before .before .before .before .before .before .add-in-row in
-    let store = c .before .before .store in (
-      (λ T S. added _ _ _ _ _ T _ _ _ _ _ S (st .pre .0 .1) (slot .ensures) (load .ensures) (add-in-row .ensures
-          .0) (add-in-row .ensures .1 .0) (add-in-row .ensures .1 .1) (store .ensures .0)),
+    let st = c .before .before .before .before .before .before .before .before .before .before .before .before .before .before .before .before .before .before .before in
+    let slot = c .before .before .before .before .before .before .before .before .before .before .before .slot in
+    let load = c .before .before .before .before .before .before .before .before .before .load in
+    let add-in-row = c .before .before .before .before .before .before .before .add-in-row in
+    let with-null-line = c .before .before .before .before .with-null-line in
+    let store = c .before .before .store in
+    let n = with-null-line .ensures .1 .0 in (
+      (λ T S. added _ _ _ _ _ T _ _ _ _ _ S (st .pre .0 .1) (slot .ensures) (load .ensures)
+          (with-null-line .ensures .0 _ _ ∙ add-in-row .ensures .0) (rw n (add-in-row .ensures .1 .0))
+          (add-in-row .ensures .1 .1) (store .ensures .0)),
       (
         store .ensures .1,
-        add-in-row .ensures .1 .1 .size,
+        (
+          add-in-row .ensures .1 .1 .size,
+          null-added _ _ _ _ _ _ _ _ (rowOf (st .args .marks .now) (slot .result)) _
+              (map (mapConstraint (onLine (st .args .j))) (saysIn (st .args .pool .now) (st .args .s))) (columns-size _) (st .pre .0 .1) (slot .ensures) (load .ensures)
+              (with-null-line .ensures .0 _ _ ∙ add-in-row .ensures .0) (with-null-line .ensures .1 .1) (store .ensures .0),
+        ),
       ),
     )
 
@@ -73,6 +87,7 @@ add-to-column-spec =
     slot-requires
     load-requires
     add-in-row-requires
+    with-null-line-requires
     store-requires
     same-length
     same-length-2

@@ -23,14 +23,16 @@ use Rattle.filter_constraint.specs.State.{Collects, collectTo}
 use Rattle.filter_constraint.proofs.Collecting.{collect-none, collect-more, collected-all, read-as, bounds-turn, recorded-turn}
 use Rattle.filter_constraint.proofs.Collecting.{normalized-turn}
 use Rattle.filter_constraint.proofs.Collecting.{opaque-turn, equality-turn, pair-turn}
-use borrow.Author.Needs.{needs}
+use Rattle.filter_constraint.specs.NullLines.{NullLines}
+use Rattle.filter_constraint.proofs.NullLines.{with-nulls, null-both, null-same, nulls-none, nulls-all}
 use borrow.Author.Needs.{needs}
 
 abbrev Inv-loop : tie.InvT-loop
 Inv-loop rs pool nodes n kinds values starts counts cells₀ marks₀ order₀ kept₀ lefts₀ rights₀ equals₀ seen₀ columns₀ keeps₀ edges₀ bounds₀ normalized₀ unsat₀ i₀ cells marks order kept lefts rights equals seen columns keeps edges bounds normalized unsat i =
-    (i ≤ n) × (columns ≤ i + i) × (keeps + edges ≤ i) × (bounds ≤ i) × Collects (conjuncts kinds values starts
+    (i ≤ n) × (columns ≤ i + i) × (keeps + edges ≤ i) × (bounds ≤ i) × (Collects (conjuncts kinds values starts
     counts pool) (columnsOf cells) marks seen order columns kept keeps lefts rights equals edges bounds
-    normalized unsat (collectTo (aexprOf rs pool) nodes i) × (length marks ≡ length marks₀) × (length cells ≡
+    normalized unsat (collectTo (aexprOf rs pool) nodes i) × NullLines (aexprOf rs pool) nodes i (columnsOf cells))
+    × (length marks ≡ length marks₀) × (length cells ≡
     length cells₀)
 
 abbrev μ-loop : tie.MeasureT-loop
@@ -46,8 +48,11 @@ loop-holds c =
       omega arith,
       omega arith,
       omega arith,
-      collect-none _ _ _ _ _ _ _ _ _ _ (st .pre .0 .4) (st
-          .pre .0 .5) (st .pre .0 .6) (st .pre .0 .7) (st .pre .0 .8) (st .pre .0 .9),
+      (
+        collect-none _ _ _ _ _ _ _ _ _ _ (st .pre .0 .4) (st
+            .pre .0 .5) (st .pre .0 .6) (st .pre .0 .7) (st .pre .0 .8) (st .pre .0 .9),
+        nulls-none _ _ (columnsOf (st .args .cells .now)),
+      ),
       refl,
       refl,
     )
@@ -103,8 +108,8 @@ enter-requires c κs =
       b,
       omega (arith, h, l1 .inv .0, l1 .inv .1, l1 .inv .2, l1 .inv .3, st .pre .0 .0, st .pre .0 .1),
       l1 .inv
-          .4 .entered .seen-size,
-      l1 .inv .4 .entered .order-size,
+          .4 .0 .entered .seen-size,
+      l1 .inv .4 .0 .entered .order-size,
     )
 
 -- src/collect.rt:146:17
@@ -129,7 +134,7 @@ add-to-column-requires c κs =
           size = l1 .inv .6 ∙ st .pre .0 .3;
           narrow = omega (arith, l1 .inv .5, st .pre .0 .1);
           fine = l1
-              .inv .4 .shows .fine;
+              .inv .4 .0 .shows .fine;
         },
         b,
         omega (arith, h, l1 .inv .5, st .pre .0 .0),
@@ -211,11 +216,11 @@ loop-again c =
         st .pre .0 .0,
         st .pre .0 .1,
       ),
-      bounds-turn _ _ _ _ _ _ _ _ _
-          _ _ _ _ _ _ _ (l1 .inv .4) _ _ (collect-more _ _ _ _ (l1 .inv .4 .stops) (not-true (l1 .unsat) (and-right
+      with-nulls _ _ _ _ _ _ _ _ (l1 .inv .4) (bounds-turn _ _ _ _ _ _ _ _ _
+          _ _ _ _ _ _ _ (l1 .inv .4 .0) _ (l1 .i) _ (collect-more _ _ _ _ (l1 .inv .4 .0 .stops) (not-true (l1 .unsat) (and-right
           (ltb (l1 .i) (st .args .n)) (not (l1 .unsat)) (t1 .taken)))) _ _ _ _ _ _ _ _ k (enter .ensures .0)
-          (add-to-column .ensures .0),
-      add-to-column .ensures .1 .1 ∙ l1 .inv .5,
+          (add-to-column .ensures .0)) (add-to-column .ensures .1 .1 .1) (λ C. C .shows) (λ C. C .shows),
+      add-to-column .ensures .1 .1 .0 ∙ l1 .inv .5,
       add-to-column .ensures .1 .0 ∙ l1
           .inv .6,
     )
@@ -244,8 +249,8 @@ enter-requires-2 c κs =
       b,
       omega (arith, h, l1 .inv .0, l1 .inv .1, l1 .inv .2, l1 .inv .3, st .pre .0 .0, st .pre .0 .1),
       l1 .inv
-          .4 .entered .seen-size,
-      l1 .inv .4 .entered .order-size,
+          .4 .0 .entered .seen-size,
+      l1 .inv .4 .0 .entered .order-size,
     )
 
 -- src/collect.rt:152:17
@@ -270,7 +275,7 @@ add-to-column-requires-2 c κs =
           size = l1 .inv .6 ∙ st .pre .0 .3;
           narrow = omega (arith, l1 .inv .5, st .pre .0 .1);
           fine = l1
-              .inv .4 .shows .fine;
+              .inv .4 .0 .shows .fine;
         },
         b,
         omega (arith, h, l1 .inv .5, st .pre .0 .0),
@@ -352,11 +357,11 @@ loop-again-2 c =
         st .pre .0 .0,
         st .pre .0 .1,
       ),
-      normalized-turn _ _ _ _ _ _ _
-          _ _ _ _ _ _ _ _ _ (l1 .inv .4) _ _ (collect-more _ _ _ _ (l1 .inv .4 .stops) (not-true (l1 .unsat)
+      with-nulls _ _ _ _ _ _ _ _ (l1 .inv .4) (normalized-turn _ _ _ _ _ _ _
+          _ _ _ _ _ _ _ _ _ (l1 .inv .4 .0) _ (l1 .i) _ (collect-more _ _ _ _ (l1 .inv .4 .0 .stops) (not-true (l1 .unsat)
           (and-right (ltb (l1 .i) (st .args .n)) (not (l1 .unsat)) (t1 .taken)))) _ _ _ _ _ _ _ _ k (enter2 .ensures
-          .0) (add-to-column2 .ensures .0),
-      add-to-column2 .ensures .1 .1 ∙ l1 .inv .5,
+          .0) (add-to-column2 .ensures .0)) (add-to-column2 .ensures .1 .1 .1) (λ C. C .shows) (λ C. C .shows),
+      add-to-column2 .ensures .1 .1 .0 ∙ l1 .inv .5,
       add-to-column2 .ensures .1 .0
           ∙ l1 .inv .6,
     )
@@ -385,8 +390,8 @@ enter-requires-3 c κs =
       b .0,
       omega (arith, h, l1 .inv .0, l1 .inv .1, l1 .inv .2, l1 .inv .3, st .pre .0 .0, st .pre .0 .1),
       l1
-          .inv .4 .entered .seen-size,
-      l1 .inv .4 .entered .order-size,
+          .inv .4 .0 .entered .seen-size,
+      l1 .inv .4 .0 .entered .order-size,
     )
 
 -- src/collect.rt:159:17
@@ -434,8 +439,8 @@ enter-requires-4 c κs =
     let e = enter3 .ensures .1 in (
       b .1,
       omega (arith, h, l1 .inv .0, l1 .inv .1, l1 .inv .2, l1 .inv .3, st .pre .0 .0, st .pre .0 .1, e),
-      enter3 .ensures .0 _ (l1 .inv .4 .entered) .seen-size,
-      enter3 .ensures .0 _ (l1 .inv .4 .entered)
+      enter3 .ensures .0 _ (l1 .inv .4 .0 .entered) .seen-size,
+      enter3 .ensures .0 _ (l1 .inv .4 .0 .entered)
           .order-size,
     )
 
@@ -460,7 +465,7 @@ require-non-null-requires-2 c κs =
     .taken)) in
     let k = read-as _ _ _ _ _ (classify .ensures _) (arm .given .1) in
     let b = subst (ColumnsBelow 64) k (st .pre .1 .1 _ h) in
-    (b .1, require-non-null .ensures .1 ∙ l1 .inv .6 ∙ st .pre .0 .3)
+    (b .1, require-non-null .ensures .1 .0 ∙ l1 .inv .6 ∙ st .pre .0 .3)
 
 -- src/collect.rt:162:17
 mul-lefts : tie.Need-mul-lefts Inv-loop μ-loop
@@ -494,7 +499,7 @@ slice-write-lefts c =
     .loop-test in
     let h : l1 .i < st .args .n = ltb-true _ _ (and-left (ltb (l1 .i) (st .args .n)) (not (l1 .unsat)) (t1
     .taken)) in
-    let z = l1 .inv .4 .linked .left-size in
+    let z = l1 .inv .4 .0 .linked .left-size in
     omega (arith, h, l1 .inv .0, l1 .inv .1, l1 .inv .2, l1 .inv .3, st .pre .0 .0, st .pre .0 .1, z)
 
 -- src/collect.rt:163:17
@@ -529,7 +534,7 @@ slice-write-rights c =
     .loop-test in
     let h : l1 .i < st .args .n = ltb-true _ _ (and-left (ltb (l1 .i) (st .args .n)) (not (l1 .unsat)) (t1
     .taken)) in
-    let z = l1 .inv .4 .linked .right-size in
+    let z = l1 .inv .4 .0 .linked .right-size in
     omega (arith, h, l1 .inv .0, l1 .inv .1, l1 .inv .2, l1 .inv .3, st .pre .0 .0, st .pre .0 .1, z)
 
 -- src/collect.rt:164:17
@@ -564,7 +569,7 @@ slice-write-equals c =
     .loop-test in
     let h : l1 .i < st .args .n = ltb-true _ _ (and-left (ltb (l1 .i) (st .args .n)) (not (l1 .unsat)) (t1
     .taken)) in
-    let z = l1 .inv .4 .linked .equal-size in
+    let z = l1 .inv .4 .0 .linked .equal-size in
     omega (arith, h, l1 .inv .0, l1 .inv .1, l1 .inv .2, l1 .inv .3, st .pre .0 .0, st .pre .0 .1, z)
 
 -- src/collect.rt:165:17
@@ -646,8 +651,8 @@ loop-again-3 c =
         st .pre .0 .0,
         st .pre .0 .1,
       ),
-      equality-turn _ _ _ _ _ _ _
-          _ _ _ _ _ _ _ _ _ (l1 .inv .4) _ _ (collect-more _ _ _ _ (l1 .inv .4 .stops) (not-true (l1 .unsat)
+      with-nulls _ _ _ _ _ _ _ _ (l1 .inv .4) (equality-turn _ _ _ _ _ _ _
+          _ _ _ _ _ _ _ _ _ (l1 .inv .4 .0) _ (l1 .i) _ (collect-more _ _ _ _ (l1 .inv .4 .0 .stops) (not-true (l1 .unsat)
           (and-right (ltb (l1 .i) (st .args .n)) (not (l1 .unsat)) (t1 .taken)))) _ _ _ _ _ _ _ _ _ _ _ (not-true (l1
           .unsat) (and-right (ltb (l1 .i) (st .args .n)) (not (l1 .unsat)) (t1 .taken))) (enter3 .ensures .0)
           (require-non-null .ensures .0) (enter4 .ensures .0) (require-non-null2 .ensures .0) k (omega (
@@ -660,9 +665,9 @@ loop-again-3 c =
             l1 .inv .3,
             st .pre .0 .0,
             st .pre .0 .1,
-          )) (b .0) (b .1),
+          )) (b .0) (b .1)) (null-both _ _ _ _ (require-non-null .ensures .1 .1) (require-non-null2 .ensures .1 .1)) (λ C. C .shows) (λ C. C .shows),
       l1 .inv .5,
-      require-non-null2 .ensures .1 ∙ require-non-null .ensures .1 ∙ l1 .inv .6,
+      require-non-null2 .ensures .1 .0 ∙ require-non-null .ensures .1 .0 ∙ l1 .inv .6,
     )
 
 -- src/collect.rt:168:32
@@ -689,8 +694,8 @@ enter-requires-5 c κs =
       b,
       omega (arith, h, l1 .inv .0, l1 .inv .1, l1 .inv .2, l1 .inv .3, st .pre .0 .0, st .pre .0 .1),
       l1 .inv
-          .4 .entered .seen-size,
-      l1 .inv .4 .entered .order-size,
+          .4 .0 .entered .seen-size,
+      l1 .inv .4 .0 .entered .order-size,
     )
 
 -- src/collect.rt:171:23
@@ -715,7 +720,7 @@ add-to-column-requires-3 c κs =
           size = l1 .inv .6 ∙ st .pre .0 .3;
           narrow = omega (arith, l1 .inv .5, st .pre .0 .1);
           fine = l1
-              .inv .4 .shows .fine;
+              .inv .4 .0 .shows .fine;
         },
         b,
         omega (arith, h, l1 .inv .5, st .pre .0 .0),
@@ -750,7 +755,7 @@ slice-write-kept c =
     .before .before .before .before .before .before .loop-test in
     let h : l1 .i < st .args .n = ltb-true _ _ (and-left (ltb (l1 .i) (st .args .n)) (not (l1 .unsat)) (t1
     .taken)) in
-    let z = l1 .inv .4 .keeping .size in
+    let z = l1 .inv .4 .0 .keeping .size in
     omega (arith, h, l1 .inv .0, l1 .inv .1, l1 .inv .2, l1 .inv .3, st .pre .0 .0, st .pre .0 .1, z)
 
 -- src/collect.rt:173:17
@@ -826,8 +831,8 @@ loop-again-4 c =
         st .pre .0 .0,
         st .pre .0 .1,
       ),
-      recorded-turn _ _ _ _ _ _ _ _
-          _ _ _ _ _ _ _ _ (l1 .inv .4) _ _ (collect-more _ _ _ _ (l1 .inv .4 .stops) (not-true (l1 .unsat) (and-right
+      with-nulls _ _ _ _ _ _ _ _ (l1 .inv .4) (recorded-turn _ _ _ _ _ _ _ _
+          _ _ _ _ _ _ _ _ (l1 .inv .4 .0) _ (l1 .i) _ (collect-more _ _ _ _ (l1 .inv .4 .0 .stops) (not-true (l1 .unsat) (and-right
           (ltb (l1 .i) (st .args .n)) (not (l1 .unsat)) (t1 .taken)))) _ _ _ _ _ _ _ _ _ _ k (omega (
             arith,
             h,
@@ -839,8 +844,8 @@ loop-again-4 c =
             st .pre .0 .0,
             st .pre .0 .1,
           )) (enter5 .ensures .0)
-          (add-to-column3 .ensures .0),
-      add-to-column3 .ensures .1 .1 ∙ l1 .inv .5,
+          (add-to-column3 .ensures .0)) (add-to-column3 .ensures .1 .1 .1) (λ C. C .shows) (λ C. C .shows),
+      add-to-column3 .ensures .1 .1 .0 ∙ l1 .inv .5,
       add-to-column3 .ensures .1 .0 ∙ l1
           .inv .6,
     )
@@ -869,8 +874,8 @@ enter-requires-6 c κs =
       b .0,
       omega (arith, h, l1 .inv .0, l1 .inv .1, l1 .inv .2, l1 .inv .3, st .pre .0 .0, st .pre .0 .1),
       l1
-          .inv .4 .entered .seen-size,
-      l1 .inv .4 .entered .order-size,
+          .inv .4 .0 .entered .seen-size,
+      l1 .inv .4 .0 .entered .order-size,
     )
 
 -- src/collect.rt:178:17
@@ -918,8 +923,8 @@ enter-requires-7 c κs =
     let e = enter6 .ensures .1 in (
       b .1,
       omega (arith, h, l1 .inv .0, l1 .inv .1, l1 .inv .2, l1 .inv .3, st .pre .0 .0, st .pre .0 .1, e),
-      enter6 .ensures .0 _ (l1 .inv .4 .entered) .seen-size,
-      enter6 .ensures .0 _ (l1 .inv .4 .entered)
+      enter6 .ensures .0 _ (l1 .inv .4 .0 .entered) .seen-size,
+      enter6 .ensures .0 _ (l1 .inv .4 .0 .entered)
           .order-size,
     )
 
@@ -944,7 +949,7 @@ require-non-null-requires-4 c κs =
     .taken)) in
     let k = read-as _ _ _ _ _ (classify .ensures _) (arm .given .1) in
     let b = subst (ColumnsBelow 64) k (st .pre .1 .1 _ h) in
-    (b .1, require-non-null3 .ensures .1 ∙ l1 .inv .6 ∙ st .pre .0 .3)
+    (b .1, require-non-null3 .ensures .1 .0 ∙ l1 .inv .6 ∙ st .pre .0 .3)
 
 -- src/collect.rt:181:17
 mul-kept-2 : tie.Need-mul-kept-2 Inv-loop μ-loop
@@ -978,7 +983,7 @@ slice-write-kept-2 c =
     .loop-test in
     let h : l1 .i < st .args .n = ltb-true _ _ (and-left (ltb (l1 .i) (st .args .n)) (not (l1 .unsat)) (t1
     .taken)) in
-    let z = l1 .inv .4 .keeping .size in
+    let z = l1 .inv .4 .0 .keeping .size in
     omega (arith, h, l1 .inv .0, l1 .inv .1, l1 .inv .2, l1 .inv .3, st .pre .0 .0, st .pre .0 .1, z)
 
 -- src/collect.rt:182:17
@@ -1060,8 +1065,8 @@ loop-again-5 c =
         st .pre .0 .0,
         st .pre .0 .1,
       ),
-      pair-turn _ _ _ _ _ _ _ _ _
-          _ _ _ _ _ _ _ (l1 .inv .4) _ _ (collect-more _ _ _ _ (l1 .inv .4 .stops) (not-true (l1 .unsat) (and-right
+      with-nulls _ _ _ _ _ _ _ _ (l1 .inv .4) (pair-turn _ _ _ _ _ _ _ _ _
+          _ _ _ _ _ _ _ (l1 .inv .4 .0) _ (l1 .i) _ (collect-more _ _ _ _ (l1 .inv .4 .0 .stops) (not-true (l1 .unsat) (and-right
           (ltb (l1 .i) (st .args .n)) (not (l1 .unsat)) (t1 .taken)))) _ _ _ _ _ _ _ _ _ _ _ (not-true (l1 .unsat)
           (and-right (ltb (l1 .i) (st .args .n)) (not (l1 .unsat)) (t1 .taken))) (enter6 .ensures .0)
           (require-non-null3 .ensures .0) (enter7 .ensures .0) (require-non-null4 .ensures .0) k (omega (
@@ -1074,10 +1079,10 @@ loop-again-5 c =
             l1 .inv .3,
             st .pre .0 .0,
             st .pre .0 .1,
-          )),
+          ))) (null-both _ _ _ _ (require-non-null3 .ensures .1 .1) (require-non-null4 .ensures .1 .1)) (λ C. C .shows) (λ C. C .shows),
       l1 .inv .5,
       require-non-null4
-          .ensures .1 ∙ require-non-null3 .ensures .1 ∙ l1 .inv .6,
+          .ensures .1 .0 ∙ require-non-null3 .ensures .1 .0 ∙ l1 .inv .6,
     )
 
 -- src/collect.rt:186:17
@@ -1104,7 +1109,7 @@ slice-write-kept-3 c =
     let t1 = c .before .before .before .before .loop-test in
     let h : l1 .i < st .args .n = ltb-true _ _ (and-left (ltb (l1 .i) (st .args .n)) (not (l1 .unsat)) (t1
     .taken)) in
-    let z = l1 .inv .4 .keeping .size in
+    let z = l1 .inv .4 .0 .keeping .size in
     omega (arith, h, l1 .inv .0, l1 .inv .1, l1 .inv .2, l1 .inv .3, st .pre .0 .0, st .pre .0 .1, z)
 
 -- src/collect.rt:187:17
@@ -1165,8 +1170,8 @@ loop-again-6 c =
         st .pre .0 .0,
         st .pre .0 .1,
       ),
-      opaque-turn _ _ _ _ _ _ _ _ _ _ _ _
-          _ _ _ _ (l1 .inv .4) _ _ (collect-more _ _ _ _ (l1 .inv .4 .stops) (not-true (l1 .unsat) (and-right (ltb (l1
+      with-nulls _ _ _ _ _ _ _ _ (l1 .inv .4) (opaque-turn _ _ _ _ _ _ _ _ _ _ _ _
+          _ _ _ _ (l1 .inv .4 .0) _ (l1 .i) _ (collect-more _ _ _ _ (l1 .inv .4 .0 .stops) (not-true (l1 .unsat) (and-right (ltb (l1
           .i) (st .args .n)) (not (l1 .unsat)) (t1 .taken)))) _ k (omega (
             arith,
             h,
@@ -1178,7 +1183,7 @@ loop-again-6 c =
             st .pre .0 .0,
             st .pre .0 .1,
           )) (not-true (l1 .unsat) (and-right (ltb (l1 .i) (st .args
-          .n)) (not (l1 .unsat)) (t1 .taken))),
+          .n)) (not (l1 .unsat)) (t1 .taken)))) (null-same _ _) (λ C. C .shows) (λ C. C .shows),
       l1 .inv .5,
       l1 .inv .6,
     )
@@ -1218,7 +1223,7 @@ returns c =
     .before .before .before .before in
     let l1 = c .before .loop in
     let t1 = c .loop-test in (
-      (l1 .seen, collected-all _ _ _ _ _ _ _ _ _ _ _ _ _ _ _ _ _ _ _ (l1 .inv .4) (l1 .inv .0) (t1 .left)),
+      (l1 .seen, collected-all _ _ _ _ _ _ _ _ _ _ _ _ _ _ _ _ _ _ _ (l1 .inv .4 .0) (l1 .inv .0) (t1 .left)),
       (
         omega (arith, l1 .inv .0, l1 .inv .1),
         omega (arith, l1 .inv .0, l1 .inv .2),
@@ -1230,6 +1235,7 @@ returns c =
         ),
         l1 .inv .6 ∙ st .pre .0 .3,
         l1 .inv .5,
+        nulls-all _ _ _ _ _ (columnsOf (l1 .cells)) (l1 .inv .0) (l1 .inv .4 .0 .stops) (t1 .left) (l1 .inv .4 .1),
       ),
     )
 

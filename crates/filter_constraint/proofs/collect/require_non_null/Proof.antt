@@ -7,9 +7,11 @@ use Rattle.columns.proofs.column.require_nullability.Reads as require-nullabili
 use Rattle.filter_constraint.proofs.cells.load.Reads as load-reads
 use Rattle.filter_constraint.proofs.cells.store.Reads as store-reads
 use Rattle.stages.proofs.fields.slot.Reads as slot-reads
-use mathlib.Core.Path.{_≡_, refl}
+use mathlib.Core.Path.{_≡_, refl, _∙_}
 use native.Mathlib.Omega.{arith}
 use Rattle.filter_constraint.proofs.Collecting.{required}
+use Rattle.filter_constraint.proofs.Encoding.{columns-size}
+use Rattle.filter_constraint.proofs.NullLines.{null-required}
 
 -- src/collect.rt:61:9
 slot-requires : tie.Need-slot-requires
@@ -23,7 +25,9 @@ load-requires c κs = search needs
 require-nullability-requires : tie.Need-require-nullability-requires
 require-nullability-requires c κs = search needs
 
--- src/collect.rt:64:5
+with-null-line-requires : tie.Need-with-null-line-requires
+with-null-line-requires c κs = search needs
+
 store-requires : tie.Need-store-requires
 store-requires c κs = search needs
 
@@ -34,15 +38,21 @@ same-length c = search needs
 -- src/collect.rt:55:1
 returns : tie.Need-returns
 returns c =
-    let st = c .before .before .before .before .before .before .before .before .before in
-    let slot = c .before .before .before .before .before .before .before .slot in
-    let require-nullability = c .before .before .before .before .require-nullability in
-    let load = c .before .before .before .before .before .load in
+    let st = c .before .before .before .before .before .before .before .before .before .before in
+    let slot = c .before .before .before .before .before .before .before .before .slot in
+    let load = c .before .before .before .before .before .before .load in
+    let require-nullability = c .before .before .before .before .before .require-nullability in
+    let with-null-line = c .before .before .before .before .with-null-line in
     let store = c .before .before .store in (
       (λ t marks T S. required t _ _ marks T _ _ _ _ S (st .pre .0) (slot .ensures) (load .ensures)
-          (require-nullability .ensures .0 t) (require-nullability .ensures .1) (store .ensures .0)),
-      store .ensures
-          .1,
+          (λ m. with-null-line .ensures .0 t m ∙ require-nullability .ensures .0 t m)
+          (with-null-line .ensures .1 .0 ∙ require-nullability .ensures .1) (store .ensures .0)),
+      (
+        store .ensures .1,
+        null-required _ _ _ _ _ _ _ (columns-size _) (st .pre .0) (slot .ensures) (load .ensures)
+            (λ t m. with-null-line .ensures .0 t m ∙ require-nullability .ensures .0 t m) (with-null-line .ensures .1 .1)
+            (store .ensures .0),
+      ),
     )
 
 pub require-non-null-spec : {M : Type 1} → statement M
@@ -52,6 +62,7 @@ require-non-null-spec =
     slot-requires
     load-requires
     require-nullability-requires
+    with-null-line-requires
     store-requires
     same-length
     returns)

@@ -11,7 +11,7 @@ use mathlib.Core.List.{List}
 use Prim.Native.Nat.{ℕ, _+_, _-_, _≤_, _<_}
 use native.Mathlib.Omega.{arith}
 use lib.ListN.{length}
-use Rattle.constraints.specs.Payload.{payload}
+use Rattle.constraints.specs.Lined.{lined}
 use Rattle.constraints.specs.Resolve.{fixedAt}
 use Rattle.columns.specs.Abstraction.{Conjuncts, numbered, columnOf}
 use Rattle.merge.specs.Emit.{isFixed}
@@ -117,7 +117,7 @@ loop-again c =
             l1 .inv .1,
             st .pre .0 .3,
           )) (slot .ensures) (is-fixed .ensures t (rowOf marks (slot .result)) ∙ ap
-          (λ d. isFixed (fixedAt payload (columnOf t (numbered (rowOf marks (slot .result)) d) .lower) (columnOf t
+          (λ d. isFixed (fixedAt lined (columnOf t (numbered (rowOf marks (slot .result)) d) .lower) (columnOf t
           (numbered (rowOf marks (slot .result)) d) .upper))) (load .ensures)) (bump .ensures .0)),
       search needs,
     )

@@ -10,7 +10,7 @@ use mathlib.Core.List.{List, []}
 use Prim.Native.Nat.{ℕ, _+_, _-_, _*_, _≤_, _<_}
 use native.Mathlib.Omega.{arith}
 use lib.ListN.{length}
-use Rattle.constraints.specs.Payload.{payload}
+use Rattle.constraints.specs.Lined.{lined}
 use Rattle.columns.specs.Abstraction.{Conjuncts, conjuncts}
 use Rattle.merge.specs.Emit.{comparisons}
 use Rattle.reading.specs.Walk.{firstOf}
@@ -22,7 +22,7 @@ use borrow.Author.Needs.{needs}
 abbrev Inv-loop : tie.InvT-loop
 Inv-loop t rs₀ used kinds values cells marks order columns u₀ w₀ rs u w =
     (w ≤ columns) × ((s : Conjuncts) → s .kinds ≡ kinds → s .values ≡ values → Written t used rs₀ (comparisons
-    payload (firstOf order w) (shown s (columnsOf cells) marks)) u rs)
+    lined (firstOf order w) (shown s (columnsOf cells) marks)) u rs)
 
 abbrev μ-loop : tie.MeasureT-loop
 μ-loop t rs₀ used kinds values cells marks order columns u₀ w₀ rs u w =

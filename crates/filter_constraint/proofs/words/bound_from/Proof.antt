@@ -5,17 +5,17 @@ use Rattle.filter_constraint.proofs.words.bound_from.Lts as lts
 use Rattle.records.proofs.Laws.{flags}
 use borrow.Author.Needs.{needs}
 
--- src/words.rt:35:9
+-- src/words.rt:50:9
 returns : tie.Need-returns
 returns c =
     search flags
 
--- src/words.rt:38:9
+-- src/words.rt:53:9
 returns-2 : tie.Need-returns-2
 returns-2 c =
     search flags
 
--- src/words.rt:31:1
+-- src/words.rt:42:1
 returns-3 : tie.Need-returns-3
 returns-3 c =
     search flags

@@ -7,7 +7,8 @@ use Rattle.stages.proofs.add.with_lower.Reads as with-lower-reads
 use Rattle.stages.proofs.add.with_upper.Reads as with-upper-reads
 use Rattle.stages.proofs.add.closes_high.Reads as closes-high-reads
 use Rattle.stages.proofs.add.closes_low.Reads as closes-low-reads
-use Rattle.constraints.specs.Payload.{payload}
+use Rattle.constraints.specs.Lined.{lined}
+use Rattle.columns.specs.Abstraction.{limitOf}
 use Rattle.constraints.specs.Column as q
 use mathlib.Core.Path.{_∙_, ap}
 
@@ -36,7 +37,7 @@ returns c =
     let closes-high = c .before .closes-high in
     let with-upper = c .with-upper in (
       (λ t a. rw (← closes-high .ensures, ← closes-low .ensures) (with-upper .ensures .0 t a ∙ ap (λ x. q.addUpper
-          payload (st .args .w .0) (closes-high .result) x) (with-lower .ensures .0 t a))),
+          lined (limitOf (st .args .w)) (closes-high .result) x) (with-lower .ensures .0 t a))),
       with-upper .ensures .1 ∙
           with-lower .ensures .1,
     )

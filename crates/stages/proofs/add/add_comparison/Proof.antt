@@ -10,7 +10,7 @@ use Rattle.stages.proofs.add.add_equal.Reads as add-equal-reads
 use Rattle.rewrite.proofs.Telling.{fine-same}
 use Rattle.columns.specs.Abstraction.{numbered, columnOf}
 use Prim.Native.Nat.{ℕ}
-use Rattle.constraints.specs.Payload.{payload}
+use Rattle.constraints.specs.Lined.{onLine, lined}
 use Rattle.constraints.specs.Column as q
 use mathlib.Core.Path.{_∙_, ap}
 
@@ -88,7 +88,7 @@ returns-2 c =
     let add-excluded = c .before .before .add-excluded in
     let h = rw (enum-told2 .given .1) at (st .pre .2) in (
       (λ t e f. rw (enum-told2 .given .1) (add-excluded
-          .ensures .0 t e f ∙ ap (λ (x : ℕ). q.addExcluded payload x (columnOf t (numbered (st .args .marks .now) (st
+          .ensures .0 t e f ∙ ap (λ (x : ℕ). q.addExcluded lined (onLine (st .args .j) x) (columnOf t (numbered (st .args .marks .now) (st
           .args .c)))) (h .0 .1))),
       add-excluded .ensures .1,
     )

@@ -6,7 +6,8 @@ use Rattle.stages.proofs.add.add_equal.Lts as lts
 use Rattle.stages.proofs.add.with_lower.Reads as with-lower-reads
 use Rattle.stages.proofs.add.with_upper.Reads as with-upper-reads
 use mathlib.Core.Bool.{true}
-use Rattle.constraints.specs.Payload.{payload}
+use Rattle.constraints.specs.Lined.{lined}
+use Rattle.columns.specs.Abstraction.{limitOf}
 use Rattle.constraints.specs.Column as q
 use mathlib.Core.Path.{_∙_, ap}
 
@@ -24,7 +25,7 @@ returns c =
     let with-lower = c .before .with-lower in
     let st = c .before .before in
     let with-upper = c .with-upper in (
-      (λ t a. with-upper .ensures .0 t a ∙ ap (λ x. q.addUpper payload (st .args .v .0) true x) (with-lower
+      (λ t a. with-upper .ensures .0 t a ∙ ap (λ x. q.addUpper lined (limitOf (st .args .v)) true x) (with-lower
           .ensures .0 t a)),
       with-upper .ensures .1 ∙ with-lower .ensures .1,
     )

@@ -12,9 +12,9 @@ use Rattle.reading.specs.Read.{comparisonIn}
 use Rattle.rewrite.proofs.Telling.{fine-same}
 use Rattle.stages.proofs.Adding.{told-compared}
 use Prim.Native.Nat.{ℕ}
-use mathlib.Core.List.{List}
-use Rattle.columns.specs.Abstraction.{conjuncts, numbered, columnOf}
-use Rattle.constraints.specs.Payload.{payload}
+use mathlib.Core.List.{List, map}
+use Rattle.columns.specs.Abstraction.{conjuncts, numbered, columnOf, valuesOf}
+use Rattle.constraints.specs.Lined.{onLine, lined}
 use Rattle.constraints.specs.Column as q
 use mathlib.Core.Path.{refl, _∙_, ap}
 
@@ -115,6 +115,7 @@ same-length-2 c = search needs
 
 -- src/add.rt:99:1
 returns-4 : tie.Need-returns-4
+unfolding valuesOf
 returns-4 c =
     let st = c .before .before .before .before .before .before .before .before .before .before .before .before
     in
@@ -124,7 +125,7 @@ returns-4 c =
     .now) (st .args .pool .now) in
     let h = rw (enum-told2 .given .1) at (st .pre .2) in (
       rw (enum-told2 .given .1) (add-allowed .ensures .0 tb
-          (h .0 .0) ∙ ap (λ (l : List ℕ). q.addAllowed payload l (columnOf tb (numbered (st .args .marks .now) (st
+          (h .0 .0) ∙ ap (λ (l : List ℕ). q.addAllowed lined (map (onLine (st .args .j)) l) (columnOf tb (numbered (st .args .marks .now) (st
           .args .c)))) (h .0 .1)),
       add-allowed .ensures .1,
     )
@@ -135,6 +136,7 @@ same-length-3 c = search needs
 
 -- src/add.rt:99:1
 returns-5 : tie.Need-returns-5
+unfolding valuesOf
 returns-5 c =
     let st = c .before .before .before .before .before .before .before .before .before .before .before .before
     .before in
@@ -145,7 +147,7 @@ returns-5 c =
     let g = s3 .given in
     let h = rw (g .1) at (st .pre .2) in (
       rw (g .1) (add-disallowed .ensures .0 tb refl (h .0 .0) ∙ ap (λ (l :
-          List ℕ). q.addDisallowed payload (g .0 .0) l (columnOf tb (numbered (st .args .marks .now) (st .args .c))))
+          List ℕ). q.addDisallowed lined (g .0 .0) (map (onLine (st .args .j)) l) (columnOf tb (numbered (st .args .marks .now) (st .args .c))))
           (h .0 .1)),
       add-disallowed .ensures .1,
     )

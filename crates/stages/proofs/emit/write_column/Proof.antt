@@ -5,9 +5,8 @@ use Rattle.stages.proofs.emit.write_column.Lts as lts
 use Rattle.columns.proofs.comparisons.comparison_at.Reads as comparison-at-reads
 use Rattle.stages.proofs.emit.write_place.Reads as write-place-reads
 use Rattle.stages.proofs.Emitting.{place-few, begin-at, begin-written, at-more, written-more}
-use Rattle.stages.proofs.Emitting.{place-room, placed-all}
+use Rattle.stages.proofs.Emitting.{bitsIn, place-room, placed-all}
 use Rattle.merge.specs.Write.{writeComparisons}
-use Rattle.merge.specs.Emit.{ofColumn}
 use Rattle.columns.proofs.Pigeon.{few}
 use Rattle.columns.specs.Steps.{placedTo}
 use Rattle.columns.specs.Abstraction.{Conjuncts, conjuncts, numbered, comparedOf}
@@ -22,7 +21,7 @@ abbrev Inv-loop : tie.InvT-loop
 Inv-loop t rs₀ u a kinds values marks c places at₀ p₀ rs at p =
     (p ≤ places) × (at ≤ u + 3 * p) × (length rs ≡ length rs₀) × ((s : Conjuncts) → s .kinds ≡ kinds → s .values
     ≡ values → at ≡ u + 3 * length (placedTo s (numbered marks c) p)) × ((s : Conjuncts) → s .kinds ≡ kinds → s
-    .values ≡ values → rs ≡ writeComparisons t u (ofColumn (a .0) (placedTo s (numbered marks c) p)) rs₀)
+    .values ≡ values → rs ≡ writeComparisons t u (bitsIn (a .0) (placedTo s (numbered marks c) p)) rs₀)
 
 abbrev μ-loop : tie.MeasureT-loop
 μ-loop t rs₀ u a kinds values marks c places at₀ p₀ rs at p =
@@ -111,7 +110,7 @@ returns c =
           .inv .3 s e f ∙ ap (λ l. st .args .u + 3 * length l) (placed-all s (numbered (st .args .marks .now) (st
           .args .c)) _ h)),
       (λ s e f. loop .inv .4 s e f ∙ ap (λ l. writeComparisons (st .args .t .now) (st .args .u)
-          (ofColumn (st .args .a .0) l) (st .args .rs .now)) (placed-all s (numbered (st .args .marks .now) (st .args
+          (bitsIn (st .args .a .0) l) (st .args .rs .now)) (placed-all s (numbered (st .args .marks .now) (st .args
           .c)) _ h)),
     )
 

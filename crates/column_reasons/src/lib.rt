@@ -1,0 +1,122 @@
+// The reasons of one column's comparisons as text: document 02, 2.6. Its places are gone through as where the comparisons
+// are written out (crate stages, emit); how long the text is comes before its first byte.
+ghost use mathlib.Core.Path.{_≡_};
+ghost use Prim.Native.Nat.{_+_, _≤_};
+ghost use lib.ListN.{length};
+ghost use Rattle.constraints.specs.Comparisons.{collectColumnComparisons};
+ghost use Rattle.constraints.specs.Lined.{lined};
+ghost use Rattle.columns.specs.Abstraction.{Conjuncts, numbered, columnOf, comparedOf, Fine};
+ghost use Rattle.merge.specs.Write.{splice};
+ghost use Rattle.reasons.specs.Reason.{reasonIn};
+ghost use Rattle.reasons.specs.Text.{reasonText};
+ghost use Rattle.column_reasons.specs.ColumnText.{columnText};
+use columns::bound::Limit;
+use columns::column::ColumnConstraints;
+use columns::comparisons::Compared;
+use columns::comparisons::comparison_at;
+use reading::classify::Comparison;
+use reasons::reason::reason_length;
+use reasons::reason::write_reason;
+use records::record::Column;
+
+fn limit_length(a: Column, k: Comparison, v: Limit) -> usize
+    ensures { λ r. ⌜ r ≡ length (reasonText (reasonIn (a .0) k (v .value .0) (v .line))) ⌝ }
+    ensures { λ r. ⌜ r ≤ 69 ⌝ }
+{
+    reason_length(a, k, v.value, v.line)
+}
+
+fn write_limit(s: &mut [u8], at: usize, a: Column, k: Comparison, v: Limit) -> usize
+    requires { ⌜ at + length (reasonText (reasonIn (a .0) k (v .value .0) (v .line))) ≤ length (now s) ⌝ }
+    ensures { λ r. ⌜ r ≡ at + length (reasonText (reasonIn (a .0) k (v .value .0) (v .line))) ⌝ }
+    ensures { λ _. ⌜ now (s .exit) ≡ splice (now (s .entry)) at
+        (reasonText (reasonIn (a .0) k (v .value .0) (v .line))) ⌝ }
+{
+    write_reason(s, at, a, k, v.value, v.line)
+}
+
+// One place of the column, which may be vacant.
+fn place_length(a: Column, k: Compared) -> usize
+    ensures { λ r. ⌜ r ≡ length (columnText (a .0) (comparedOf k)) ⌝ }
+    ensures { λ r. ⌜ r ≤ 69 ⌝ }
+{
+    match k {
+        Compared::Vacant => 0,
+        Compared::Eq(v) => limit_length(a, Comparison::Eq, v),
+        Compared::Gt(v) => limit_length(a, Comparison::Gt, v),
+        Compared::GtEq(v) => limit_length(a, Comparison::GtEq, v),
+        Compared::Lt(v) => limit_length(a, Comparison::Lt, v),
+        Compared::LtEq(v) => limit_length(a, Comparison::LtEq, v),
+        Compared::NotEq(v) => limit_length(a, Comparison::NotEq, v),
+    }
+}
+
+fn write_place(s: &mut [u8], at: usize, a: Column, k: Compared) -> usize
+    requires { ⌜ at + length (columnText (a .0) (comparedOf k)) ≤ length (now s) ⌝ }
+    ensures { λ r. ⌜ r ≡ at + length (columnText (a .0) (comparedOf k)) ⌝ }
+    ensures { λ _. ⌜ now (s .exit) ≡ splice (now (s .entry)) at (columnText (a .0) (comparedOf k)) ⌝ }
+{
+    match k {
+        Compared::Vacant => at,
+        Compared::Eq(v) => write_limit(s, at, a, Comparison::Eq, v),
+        Compared::Gt(v) => write_limit(s, at, a, Comparison::Gt, v),
+        Compared::GtEq(v) => write_limit(s, at, a, Comparison::GtEq, v),
+        Compared::Lt(v) => write_limit(s, at, a, Comparison::Lt, v),
+        Compared::LtEq(v) => write_limit(s, at, a, Comparison::LtEq, v),
+        Compared::NotEq(v) => write_limit(s, at, a, Comparison::NotEq, v),
+    }
+}
+
+/// How many bytes the reasons of the column's comparisons have.
+pub fn column_length(
+    a: Column,
+    kinds: &[u8],
+    values: &[u64],
+    marks: &[u8],
+    c: ColumnConstraints,
+) -> usize
+    requires { ⌜ Fine 128 (now marks) (c .len) ⌝ }
+    ensures { λ r. ⌜ ((s : Conjuncts) → s .kinds ≡ now (kinds .entry) → s .values ≡ now (values .entry) →
+        r ≡ length (columnText (a .0) (collectColumnComparisons lined (columnOf s (numbered (now (marks .entry)) c))))) ⌝ }
+    ensures { λ r. ⌜ r ≤ 8970 ⌝ }
+{
+    let places = c.len + 2;
+    let mut size: usize = 0;
+    let mut p: usize = 0;
+    while p < places {
+        let k = comparison_at(kinds, values, marks, c, p);
+        size = size + place_length(a, k);
+        p += 1;
+    }
+    size
+}
+
+/// The reasons of the column's comparisons from `at` on; the place behind them.
+pub fn write_column_reasons(
+    out: &mut [u8],
+    at: usize,
+    a: Column,
+    kinds: &[u8],
+    values: &[u64],
+    marks: &[u8],
+    c: ColumnConstraints,
+) -> usize
+    requires { ⌜ Fine 128 (now marks) (c .len) × ((s : Conjuncts) → s .kinds ≡ now kinds → s .values ≡ now values →
+        at + length (columnText (a .0) (collectColumnComparisons lined (columnOf s (numbered (now marks) c))))
+        ≤ length (now out)) ⌝ }
+    ensures { λ r. ⌜ ((s : Conjuncts) → s .kinds ≡ now (kinds .entry) → s .values ≡ now (values .entry) →
+        r ≡ at + length (columnText (a .0) (collectColumnComparisons lined (columnOf s (numbered (now (marks .entry)) c))))) ⌝ }
+    ensures { λ _. ⌜ ((s : Conjuncts) → s .kinds ≡ now (kinds .entry) → s .values ≡ now (values .entry) →
+        now (out .exit) ≡ splice (now (out .entry)) at
+        (columnText (a .0) (collectColumnComparisons lined (columnOf s (numbered (now (marks .entry)) c))))) ⌝ }
+{
+    let places = c.len + 2;
+    let mut next = at;
+    let mut p: usize = 0;
+    while p < places {
+        let k = comparison_at(kinds, values, marks, c, p);
+        next = write_place(out, next, a, k);
+        p += 1;
+    }
+    next
+}

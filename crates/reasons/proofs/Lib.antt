@@ -1,0 +1,5 @@
+pub mod Decimals
+pub mod Reading
+pub mod Writing
+pub mod Sizes
+pub mod Cases

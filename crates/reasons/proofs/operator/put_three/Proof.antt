@@ -1,0 +1,58 @@
+use borrow.Author.Needs.{needs}
+use Rattle.reasons.proofs.operator.put_three.Statement.{statement}
+use Rattle.reasons.proofs.operator.put_three.Tie as tie
+use Rattle.reasons.proofs.operator.put_three.Reads as reads
+use Rattle.reasons.proofs.operator.put_three.Lts as lts
+use native.Mathlib.Omega.{arith}
+use mathlib.Core.Path.{refl}
+use lib.ListN.{length-set}
+use Rattle.reasons.proofs.Writing.{set2, set3}
+
+-- src/operator.rt:31:5
+slice-write-s : tie.Need-slice-write-s
+slice-write-s c = search needs
+
+-- src/operator.rt:32:7
+add-s : tie.Need-add-s
+add-s c = search needs
+
+-- src/operator.rt:32:5
+slice-write-s-2 : tie.Need-slice-write-s-2
+slice-write-s-2 c =
+    simp length-set (omega arith)
+
+-- src/operator.rt:33:7
+add-s-2 : tie.Need-add-s-2
+add-s-2 c = search needs
+
+-- src/operator.rt:33:5
+slice-write-s-3 : tie.Need-slice-write-s-3
+slice-write-s-3 c =
+    simp length-set (omega arith)
+
+-- src/operator.rt:34:5
+add-result : tie.Need-add-result
+add-result c = search needs
+
+-- src/operator.rt:26:1
+same-length : tie.Need-same-length
+same-length c = search needs
+
+-- src/operator.rt:26:1
+returns : tie.Need-returns
+returns c =
+    let st = c in
+    (refl, set3 _ _ _ _ _ (st .pre))
+
+pub put-three-spec : {M : Type 1} → statement M
+put-three-spec =
+    tie.close
+    (tie.spec
+    slice-write-s
+    add-s
+    slice-write-s-2
+    add-s-2
+    slice-write-s-3
+    add-result
+    same-length
+    returns)

@@ -1,0 +1,19 @@
+-- How long the text of a screen's reasons can be: 64 columns, 128 lines, 64 bits a value.
+use mathlib.Core.List.{List, [], _∷_}
+use Prim.Native.Nat.{ℕ, _*_, _<_, _≤_}
+use lib.IntN.{ℤ, pos, negsuc}
+use lib.ListN.{length}
+use Rattle.merge.specs.Reasons.{Reason}
+use Rattle.reasons.specs.Text.{reasonsText}
+
+abbrev pub In64 : ℤ → Type 0
+In64 (pos n) = n < 9223372036854775808
+In64 (negsuc n) = n < 9223372036854775808
+
+abbrev pub OfScreen : List Reason → Type 0
+OfScreen [] = Unit {0}
+OfScreen (r ∷ l) = (r .column < 64) × In64 (r .value) × (r .line < 128) × OfScreen l
+
+-- at most 34 bytes a line
+abbrev pub AtMost34 : Type 0
+AtMost34 = (l : List Reason) → OfScreen l → length (reasonsText l) ≤ 34 * length l
