@@ -79,8 +79,8 @@
 
 /* Of this interface: the major number rises if a host must be changed to compile, the minor one if something is new. */
 #define SCREEN_VERSION_MAJOR 4
-#define SCREEN_VERSION_MINOR 0
-#define SCREEN_VERSION "4.0"
+#define SCREEN_VERSION_MINOR 1
+#define SCREEN_VERSION "4.1"
 
 /* A host that leaves an answer unread is warned, by compilers that can. */
 #if defined(__GNUC__)
@@ -219,7 +219,9 @@ enum screen_refusal {
     SCREEN_REFUSED_FILE = 15,
     /* The lent text buffer cannot hold the reasons of the rewritten screen. */
     SCREEN_REFUSED_REASONS = 16,
-    /* 17 and 18 are not used: no refusal has these numbers. */
+    /* The line in the way: a screen that is not plain (screen_rewrite says which are). */
+    SCREEN_REFUSED_PLAIN = 17,
+    /* 18 is not used: no refusal has this number. */
     /* Building the slowest screen: not 2 to 64 columns. */
     SCREEN_REFUSED_COLUMNS = 19,
     /* A chain of over 1,024 rows, or a list buffer with fewer places than the chain has rows. */
@@ -273,6 +275,8 @@ static inline const char *screen_refusal_text(uint32_t answer)
         return "This is not a saved screen, or it was damaged.";
     case SCREEN_REFUSED_REASONS:
         return "The text buffer is too short for the reasons of the rewritten screen.";
+    case SCREEN_REFUSED_PLAIN:
+        return "The screen is not plain: a line is not one of the plain forms, or a Truth column is read.";
     case SCREEN_REFUSED_COLUMNS:
         return "The slowest screen is built for 2 to 64 columns.";
     case SCREEN_REFUSED_CHAIN:
@@ -394,6 +398,32 @@ uint32_t screen_rewrite(const uint8_t *table, size_t table_len, uint8_t *records
                         const uint8_t *pool, size_t pool_len, uint64_t used, uint64_t root,
                         uint8_t *reasons, size_t reasons_len, uint64_t *new_root, uint64_t *new_used,
                         uint64_t *reasons_used, uint64_t *passes);
+
+/* The answers of screen_line_in_the_way. */
+enum screen_line_answer {
+    SCREEN_ROW_PASSES = 256, /* some row passes the screen as it is */
+    SCREEN_LINE_FOUND = 257, /* no row passes; *line is the first line whose removal makes some row pass */
+    SCREEN_NO_LINE = 258     /* no row passes, whichever single line is removed */
+};
+
+/*
+ * Which single line of a plain screen is in the way? Answers one of the above, or a refusal: 1 to 7, 8, 9, 17.
+ *
+ *   table .. root  as in screen_check; nothing is written to them
+ *   line           not NULL. Written with SCREEN_LINE_FOUND: the number of the line. Keeps its value otherwise
+ *
+ * The lines are the conjuncts of the root, counted from 0 as for SCREEN_REFUSED_CONJUNCTS: one that is reached twice is two
+ * lines. "Some row" is any row of whole numbers, values half way between two of them, and nulls, so that the
+ * call answers SCREEN_ROW_PASSES exactly if screen_rewrite does not answer SCREEN_NOTHING_PASSES. A row passes without
+ * a line if all other lines are true of it; without the only line of a screen every row does, so a screen of one line is
+ * never answered with SCREEN_NO_LINE. A line that stands twice is never found.
+ *
+ * The call merges the lines once as they are and, where nothing passes, once for each line left out, up to the one
+ * found: at most 129 times, of the slowest screens known some 90 ms. It needs some 390 KB of stack, whatever the screen.
+ */
+SCREEN_MUST_USE
+uint32_t screen_line_in_the_way(const uint8_t *table, size_t table_len, const uint8_t *records, size_t records_len,
+                                const uint8_t *pool, size_t pool_len, uint64_t used, uint64_t root, uint64_t *line);
 
 /* The answer of screen_slowest. */
 enum screen_slowest_answer {

@@ -434,6 +434,14 @@ static inline int screen_next_reason(const uint8_t *text, size_t len, size_t *at
     return 1;
 }
 
+/* As screen_line_in_the_way. */
+SCREEN_MUST_USE
+static inline uint32_t screen_lent_line_in_the_way(const struct screen_lent *s, uint64_t *line)
+{
+    return screen_line_in_the_way(s->table, s->table_len, s->records, s->records_len, s->pool, s->pool_len, s->used,
+                                  s->root, line);
+}
+
 /* As screen_slowest, into the rooms of s, which becomes the screen built; it has no pool. A refusal leaves s. */
 SCREEN_MUST_USE
 static inline uint32_t screen_lent_slowest(struct screen_lent *s, uint64_t columns)

@@ -78,6 +78,12 @@ class Archive:
                                      writes_records=True)
         return answer, *(o.value for o in out), bytes(lent or b""), records
 
+    def line_in_the_way(self, s):
+        """The answer, and the line, which stands at a mark before the call."""
+        line = ctypes.c_uint64(MARKS[0])
+        answer, _ = self._call("screen_line_in_the_way", s, ctypes.byref(line))
+        return answer, line.value
+
     def slowest(self, columns, *rooms):
         """The answer, root and used, which stand at MARKS before the call, and the lent table and records of `rooms`
         bytes, after and before it."""

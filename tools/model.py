@@ -263,6 +263,32 @@ def is_plain(s):
     return all(line(records[n]) for n in conjuncts(s))
 
 
+PASSES, LINE, NO_LINE = 256, 257, 258
+
+
+def plain_refusal(s):
+    """The refusals of the calls on plain screens, in their order; None if there is none."""
+    answer = check(s)
+    if answer != ACCEPTED:
+        return answer
+    if tree_count(s) > MAX_TREE:
+        return 8
+    if len(conjuncts(s)) > MAX_CONJUNCTS:
+        return 9
+    return None if is_plain(s) else 17
+
+
+def line_in_the_way(s, passes):
+    """The answer of a plain screen, and the line or None; `passes` says whether some row makes all nodes of a list true."""
+    lines = conjuncts(s)
+    if passes(lines):
+        return PASSES, None
+    for i in range(len(lines)):
+        if passes(lines[:i] + lines[i + 1:]):
+            return LINE, i
+    return NO_LINE, None
+
+
 # The row test. A cell is a number, or None for null; of a truth 0 false, 1 true, None unknown.
 
 

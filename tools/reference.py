@@ -39,6 +39,17 @@ class Rust:
         return self.count(s.records[:16 * s.used], ctypes.c_size_t(16 * s.used), s.pool, ctypes.c_size_t(len(s.pool)),
                           ctypes.c_size_t(s.root))
 
+    def lets_pass(self, s, nodes):
+        """Whether the Rust lets some row pass the And of these records, of a plain screen that is accepted."""
+        if not nodes:
+            return True
+        ands, root = b"", nodes[0]
+        for n in nodes[1:]:
+            ands += bytes((m.BINARY, m.AND, 0, 0)) + b"".join(x.to_bytes(4, "little") for x in (root, n, 0))
+            root = s.used + len(ands) // 16 - 1
+        joined = s.but(records=s.records[:16 * s.used] + ands, used=s.used + len(ands) // 16, root=root)
+        return self.merge(joined)[0] != NOTHING_PASSES
+
     def rewrite(self, s, difference=True):
         """The answer, new root and new used (None where they are not written), and the records at exit."""
         refused = m.check(s)

@@ -18,7 +18,7 @@ import ctypes
 import datetime
 import os
 
-VERSION = (4, 0)  # of include/screen.h
+VERSION = (4, 1)  # of include/screen.h
 
 INT, DAY, TRUTH = 1, 2, 3
 TYPES = {"Int": INT, "Day": DAY, "Truth": TRUTH}
@@ -51,6 +51,7 @@ REFUSALS = {
     14: "A lent buffer is too short for the file, or for what the file holds.",
     15: "This is not a saved screen, or it was damaged.",
     16: "The text buffer is too short for the reasons of the rewritten screen.",
+    17: "The screen is not plain: a line is not one of the plain forms, or a Truth column is read.",
     19: "The slowest screen is built for 2 to 64 columns.",
     20: "The chain has more than 1,024 rows, or the list buffer has fewer places than the chain has rows.",
     21: "A sum of the tally, or its false and unknown rows together, would pass 64 bits.",
@@ -334,6 +335,13 @@ class Screen:
         self.reasons = [(self.names[int(column)], operator, int(value), int(line))
                         for column, operator, value, line in words]
         return ("unchanged", "nothing passes", "rewritten")[answer - 256]
+
+    def line_in_the_way(self):
+        """screen_line_in_the_way: 'passes' if some row passes; else the first line, counted from 0, whose removal makes
+        some row pass, or None if no single line does. Refused with 1 to 7, 8, 9, 17."""
+        line = ctypes.c_uint64()
+        answer = _call("screen_line_in_the_way", *self._lent(), ctypes.byref(line))
+        return ("passes", line.value, None)[answer - 256]
 
     def _cells(self, row):
         """A row's values as bytes, and its null marks."""

@@ -19,6 +19,7 @@ static int calls_refuse(void)
            screen_test_row(NONE, 0, NONE, 0, NONE, 0, 0, 0, NONE, 0, 0) == SCREEN_REFUSED_ROOT &&
            screen_rewrite(NONE, 0, NONE, 0, NONE, 0, 0, 0, NONE, 0, &root, &used, &count, &columns) ==
                SCREEN_REFUSED_ROOT &&
+           screen_line_in_the_way(NONE, 0, NONE, 0, NONE, 0, 0, 0, &count) == SCREEN_REFUSED_ROOT &&
            screen_slowest(1, NONE, 0, NONE, 0, &root, &used) == SCREEN_REFUSED_COLUMNS &&
            screen_save(NONE, 0, NONE, 0, NONE, 0, 0, 0, NONE, 0, &count) == SCREEN_REFUSED_ROOT &&
            screen_load(NONE, 0, NONE, 0, NONE, 0, NONE, 0, &root, &columns, &used, &count) == SCREEN_REFUSED_FILE &&
@@ -60,6 +61,7 @@ static int wrappers_answer(void)
         return 0;
     screen_store_value(row, 1);
     return screen_lent_columns_read(&s, &columns, &count) == SCREEN_COLUMNS && columns == 3 && count == 2 &&
+           screen_lent_line_in_the_way(&s, &length) == SCREEN_REFUSED_PLAIN &&
            !screen_refused(screen_lent_rewrite(&s)) && screen_record_at(&s, 0).kind == SCREEN_KIND_COLUMN &&
            !screen_refused(screen_lent_rewrite_told(&s, reasons, sizeof reasons, &length, &count)) &&
            !screen_next_reason(reasons, length, &at, &reason) &&

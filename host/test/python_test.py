@@ -131,6 +131,18 @@ def test_slowest():
         refused(19, f"{columns} columns", lambda: screen.Screen.slowest(columns))
 
 
+def test_line_in_the_way():
+    s = screen.Screen(c0="Int", c1="Int", c2="Truth")
+    s.add(s.c0 > 3, s.c0 < 4)
+    report(s.line_in_the_way() == "passes", "a row half way passes")
+    s.add(s.c1 > 5, s.c1 < 5)
+    report(s.line_in_the_way() == 2, "the first line in the way")
+    s.add(s.c0 == 7)
+    report(s.line_in_the_way() is None, "no single line")
+    s.add(s.c2.is_null())
+    refused(17, "a screen that is not plain", s.line_in_the_way)
+
+
 def test_refusals():
     s = screen.Screen(c0="Int", c1="Day", c2="Truth")
     refused(3, "an empty screen", s.check)
@@ -312,8 +324,8 @@ def test_told():
     report(calls == used, f"the calls of the header: {calls ^ used}")
 
 
-for test in (test_cases, test_types, test_reasons, test_slowest, test_refusals, test_hedge_list, test_files,
-             test_python, test_divisions, test_random, test_told):
+for test in (test_cases, test_types, test_reasons, test_slowest, test_line_in_the_way, test_refusals, test_hedge_list,
+             test_files, test_python, test_divisions, test_random, test_told):
     test()
 print(f"{counts[True]} passed, {counts[False]} failed")
 sys.exit(counts[False] != 0)

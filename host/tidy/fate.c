@@ -98,51 +98,35 @@ static void trace_line(struct tidied *t, size_t line)
 
 /* ------------------------------------------------------------------------------------------------- nothing passes */
 
-/* Do these lines alone let nothing pass? The records are the screen's own, with room behind them. */
-static bool contradict(const struct tidied *t, struct screen_lent part, const bool *chosen)
+/* The typed line that has a conjunct of the screen, by its number among all conjuncts. */
+static size_t line_of(const struct tidied *t, uint64_t conjunct)
 {
-    bool any = false;
-    uint32_t top = 0;
-    part.used = t->typed.used;
-    for (size_t i = 0; i < t->build->line_count; i++)
-        if (chosen[i]) {
-            top = any ? screen_put_and(&part, top, t->build->lines[i].root) : t->build->lines[i].root;
-            any = true;
-        }
-    if (!screen_is_full(&part))
-        part.root = top;
-    return any && screen_lent_rewrite(&part) == SCREEN_NOTHING_PASSES;
+    size_t line = 0;
+    for (uint64_t before = 0; line + 1 < t->build->line_count; line++) {
+        struct conjuncts conjuncts = {NULL, 0, 0};
+        add_conjuncts(&conjuncts, &t->typed, t->build->lines[line].root);
+        before += conjuncts.count;
+        free(conjuncts.records);
+        if (conjunct < before)
+            break;
+    }
+    return line;
 }
 
-/* Leaves out each line without which still nothing passes: what is left contradicts itself, and none of it can go. */
-static void find_contradiction(struct tidied *t)
+/* The first line whose removal makes some row pass, where the screen is plain and one does; the others are dropped. */
+static void find_line_in_the_way(struct tidied *t)
 {
-    size_t room = 0, count = t->build->line_count;
-    bool *chosen = grown(NULL, &room, count, sizeof *chosen);
-    struct screen_lent part = t->typed;
-    part.records_room = part.records_len = SCREEN_RECORD_BYTES * SCREEN_MAX_RECORDS;
-    part.records = malloc(part.records_room);
-    if (part.records == NULL)
-        abort();
-    memcpy(part.records, t->typed.records, part.records_room);
-    for (size_t i = 0; i < count; i++)
-        chosen[i] = true;
-    for (size_t i = 0; i < count; i++) {
-        chosen[i] = false;
-        chosen[i] = !contradict(t, part, chosen);
-    }
-    for (size_t i = 0; i < count; i++) {
-        t->fates[i].fate = chosen[i] ? FATE_CONTRADICTS : FATE_DROPPED;
-        if (chosen[i]) {
+    uint64_t conjunct = 0;
+    t->way = screen_lent_line_in_the_way(&t->typed, &conjunct);
+    t->way_line = t->way == SCREEN_LINE_FOUND ? line_of(t, conjunct) : 0;
+    for (size_t i = 0; i < t->build->line_count; i++) {
+        bool found = t->way == SCREEN_LINE_FOUND && i == t->way_line;
+        t->fates[i].fate = found ? FATE_IN_THE_WAY : FATE_DROPPED;
+        if (found || t->way != SCREEN_LINE_FOUND) {
             numbers_add(&t->lines[0].typed, t->build->lines[i].number);
             numbers_add(&t->lines[0].behind, i);
         }
-        for (size_t j = 0; j < count; j++)
-            if (chosen[i] && chosen[j] && j != i)
-                numbers_add(&t->fates[i].lines, t->build->lines[j].number);
     }
-    free(part.records);
-    free(chosen);
 }
 
 /* -------------------------------------------------------------------------------------------------- both directions */
@@ -174,21 +158,6 @@ static void trace_back(struct tidied *t, struct tidied_line *tidied)
             numbers_add(&tidied->typed, build->lines[i].number);
         }
     }
-}
-
-/* The typed line that has this conjunct of all, counted from 0. */
-static size_t line_of(const struct tidied *t, uint64_t conjunct)
-{
-    size_t line = 0;
-    for (uint64_t left = conjunct; line < t->build->line_count; line++) {
-        struct conjuncts conjuncts = {NULL, 0, 0};
-        add_conjuncts(&conjuncts, &t->typed, t->build->lines[line].root);
-        free(conjuncts.records);
-        if (left < conjuncts.count)
-            break;
-        left -= conjuncts.count;
-    }
-    return line;
 }
 
 /* The comparisons that rewriting added stand among the tidied lines in the order of the library's reasons. */
@@ -238,7 +207,7 @@ static bool only_opened(const struct tidied *t, uint64_t record)
 void fates_told(struct tidied *t)
 {
     if (t->answer == SCREEN_NOTHING_PASSES) {
-        find_contradiction(t);
+        find_line_in_the_way(t);
         return;
     }
     for (size_t i = 0; i < t->build->line_count; i++)

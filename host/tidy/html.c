@@ -51,7 +51,7 @@ static void add_item(struct text *out, const char *id, size_t number, struct sli
     text_add(out, "</code>");
 }
 
-static const char *const STYLES[] = {"kept", "merged", "dropped", "contradicts"};
+static const char *const STYLES[] = {"kept", "merged", "dropped", "bad"};
 
 static void add_typed(struct text *out, const struct tidied *tidied)
 {
@@ -80,7 +80,7 @@ static void add_origin(struct text *out, const struct build *build, const struct
 
 static void add_tidied(struct text *out, const struct tidied *tidied)
 {
-    const char *usual = tidied->answer == SCREEN_NOTHING_PASSES ? "contradicts" : "tidied";
+    const char *usual = tidied->answer == SCREEN_NOTHING_PASSES ? "bad" : "tidied";
     text_add(out, "<section><h3>as tidied</h3><ul>\n");
     for (size_t i = 0; i < tidied->line_count; i++) {
         const struct tidied_line *line = &tidied->lines[i];
@@ -100,10 +100,10 @@ static void add_links(struct text *out, const struct tidied *tidied)
     text_add(out, "<svg class=\"links\" width=\"%d\" height=\"%zu\" aria-hidden=\"true\">", LINKS, rows * ROW);
     for (size_t i = 0; i < tidied->build->line_count; i++) {
         const struct typed_fate *fate = &tidied->fates[i];
-        bool contradicts = fate->fate == FATE_CONTRADICTS;
-        size_t count = contradicts ? 1 : fate->lines.count;
+        bool in_the_way = fate->fate == FATE_IN_THE_WAY;
+        size_t count = in_the_way ? 1 : fate->lines.count;
         for (size_t j = 0; j < count; j++) {
-            size_t from = i * ROW + ROW / 2, to = ((contradicts ? 1 : fate->lines.at[j]) - 1) * ROW + ROW / 2;
+            size_t from = i * ROW + ROW / 2, to = ((in_the_way ? 1 : fate->lines.at[j]) - 1) * ROW + ROW / 2;
             text_add(out, "<path class=\"%s\" d=\"M0 %zuC%d %zu %d %zu %d %zu\"/>", STYLES[fate->fate], from, LINKS / 2,
                      from, LINKS / 2, to, LINKS, to);
         }

@@ -69,7 +69,7 @@ static void add_columns(struct text *out, const struct tidied *tidied)
 
 static void add_typed(struct text *out, const struct tidied *tidied)
 {
-    static const char *const FATES[] = {"kept", "merged", "dropped", "contradicts"};
+    static const char *const FATES[] = {"kept", "merged", "dropped", "in the way"};
     const struct build *build = tidied->build;
     text_add(out, "  \"typed\": [");
     for (size_t i = 0; i < build->line_count; i++) {
@@ -79,7 +79,7 @@ static void add_typed(struct text *out, const struct tidied *tidied)
         text_add(out, ", ");
         add_word(out, "fate", FATES[fate->fate]);
         text_add(out, ", ");
-        add_list(out, fate->fate == FATE_CONTRADICTS ? "lines" : "tidied", &fate->lines);
+        add_list(out, "tidied", &fate->lines);
         text_add(out, "}");
     }
     text_add(out, "\n  ],\n");

@@ -10,15 +10,13 @@ void add_numbers(struct text *text, const struct numbers *numbers)
 
 void add_fate_text(struct text *text, const struct tidied *tidied, size_t line)
 {
-    static const char *const WORDS[] = {"kept as ", "merged into ", "dropped because of ", "contradicts line"};
+    static const char *const WORDS[] = {"kept as ", "merged into ", "dropped because of ", ""};
     const struct typed_fate *fate = &tidied->fates[line];
     if (fate->lines.count == 0) {
-        text_add(text, "%s", fate->fate == FATE_CONTRADICTS ? "contradicts itself" : "dropped: nothing passes");
+        text_add(text, "%s", fate->fate == FATE_IN_THE_WAY ? "in the way" : "dropped: nothing passes");
         return;
     }
     text_add(text, "%s", WORDS[fate->fate]);
-    if (fate->fate == FATE_CONTRADICTS)
-        text_add(text, "%s", fate->lines.count == 1 ? " " : "s ");
     add_numbers(text, &fate->lines);
 }
 
@@ -76,6 +74,18 @@ static void add_tidied(struct text *out, struct page page, const struct tidied *
     table_end(&table, out, page, "as tidied", "the typed line behind it");
 }
 
+/* Where nothing passes: the line in the way. */
+static void add_way(struct text *text, const struct tidied *tidied)
+{
+    if (tidied->way == SCREEN_LINE_FOUND)
+        text_add(text, " Without line %zu some row passes; it is the first such line.",
+                 tidied->build->lines[tidied->way_line].number);
+    else if (tidied->way == SCREEN_NO_LINE)
+        text_add(text, " No single line is in the way: whichever one is removed, nothing passes.");
+    else
+        text_add(text, " Which line is in the way is told of plain screens only.");
+}
+
 void add_answer(struct text *text, const struct tidied *tidied)
 {
     size_t lines = tidied->build->line_count;
@@ -85,6 +95,7 @@ void add_answer(struct text *text, const struct tidied *tidied)
         break;
     case SCREEN_NOTHING_PASSES:
         text_add(text, "Nothing passes: no row of any chain can pass these lines together.");
+        add_way(text, tidied);
         break;
     default:
         text_add(text, "Rewritten: %zu line%s as typed, %zu as tidied. The same rows pass.", lines,

@@ -14,16 +14,16 @@ struct numbers {
 void numbers_add(struct numbers *numbers, size_t number);
 
 enum fate {
-    FATE_KEPT,       /* it stands among the tidied lines */
-    FATE_MERGED,     /* tidied lines that say more hold its value, or another typed line says the same */
-    FATE_DROPPED,    /* because of tidied lines that say more */
-    FATE_CONTRADICTS /* nothing passes: it and others cannot be true together */
+    FATE_KEPT,      /* it stands among the tidied lines */
+    FATE_MERGED,    /* tidied lines that say more hold its value, or another typed line says the same */
+    FATE_DROPPED,   /* because of tidied lines that say more, or nothing passes */
+    FATE_IN_THE_WAY /* nothing passes, and it is the first line without which some row does */
 };
 
 /* What became of a typed line. */
 struct typed_fate {
     enum fate fate;
-    struct numbers lines; /* the tidied lines that it became, from 1; of a contradiction the other typed lines */
+    struct numbers lines; /* the tidied lines that it became, from 1; none where nothing passes */
 };
 
 /* A line of the tidied screen. */
@@ -47,6 +47,8 @@ struct tidied {
     struct tidied_line *lines; /* of a screen that is not refused */
     size_t line_count;
     struct typed_fate *fates; /* one a typed line */
+    uint32_t way;             /* where nothing passes, what screen_line_in_the_way answered */
+    size_t way_line;          /* with SCREEN_LINE_FOUND: the typed line, from 0 */
     uint64_t columns;         /* that are read, a bit each */
     uint64_t column_count;
 };

@@ -14,6 +14,7 @@ void screen_columns_read(void);
 void screen_save(void);
 void screen_load(void);
 void screen_slowest(void);
+void screen_line_in_the_way(void);
 
 void screen_check(void)
 {
@@ -61,6 +62,11 @@ void screen_load(void)
 }
 
 void screen_slowest(void)
+{
+    _Exit(77);
+}
+
+void screen_line_in_the_way(void)
 {
     _Exit(77);
 }

@@ -1,0 +1,6 @@
+pub mod Ends
+pub mod LeftOut
+pub mod Answers
+pub mod Rows
+pub mod Promised
+pub mod Called

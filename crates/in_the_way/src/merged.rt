@@ -1,0 +1,92 @@
+// The merging of lines, as far as whether it says that nothing passes.
+ghost use mathlib.Core.Path.{_≡_};
+ghost use Prim.Native.Nat.{ℕ, _<_, _≤_};
+ghost use lib.ListN.{length, getD};
+ghost use Rattle.truth.specs.FromBytes.{aexprOf};
+ghost use Rattle.columns.specs.Abstraction.{conjuncts};
+ghost use Rattle.columns.specs.Index.{Indexed};
+ghost use Rattle.merge.specs.Classify.{classify};
+ghost use Rattle.reading.specs.Walk.{firstOf};
+ghost use Rattle.rewrite.specs.Told.{ToldConjunct};
+ghost use Rattle.stages.specs.Columns.{ColumnsBelow};
+ghost use Rattle.stages.specs.Rows.{stride};
+ghost use Rattle.in_the_way.specs.Lines.{nothingPasses};
+use filter_constraint::collect::collect;
+use filter_constraint::conclude::resolve_all;
+use filter_constraint::propagate::propagate_equalities;
+
+/// The first n of `nodes` are the lines; kinds, values, starts and counts are their tables, `index` is the index of the lists or
+/// has none, `marks` has room for the columns' numbers.
+pub fn lets_nothing_pass(
+    rs: &[u8],
+    p: &[u8],
+    nodes: &[u32],
+    n: usize,
+    kinds: &[u8],
+    values: &[u64],
+    starts: &[u32],
+    counts: &[u32],
+    index: &[u64],
+    marks: &mut [u8],
+) -> bool
+    requires { ⌜ (n ≤ stride (now marks)) × (stride (now marks) ≤ 128) × (n ≤ length (now nodes))
+        × Indexed (now starts) (now counts) (now p) (now index) ⌝ }
+    requires { ⌜ ((i : ℕ) → i < n → ToldConjunct (conjuncts (now kinds) (now values) (now starts) (now counts) (now p)) i
+        (classify (aexprOf (now rs) (now p)) (getD (now nodes) i 0))) ⌝ }
+    requires { ⌜ ((i : ℕ) → i < n → ColumnsBelow 64 (classify (aexprOf (now rs) (now p)) (getD (now nodes) i 0))) ⌝ }
+    ensures { λ r. ⌜ r ≡ nothingPasses (aexprOf (now (rs .entry)) (now (p .entry))) (firstOf (now (nodes .entry)) n) ⌝ }
+{
+    let mut cells = [0u64; 704];
+    let mut order = [0u32; 260];
+    let mut kept = [0u32; 260];
+    let mut lefts = [0u32; 130];
+    let mut rights = [0u32; 130];
+    let mut equals = [0u32; 130];
+    let s = collect(
+        rs,
+        p,
+        nodes,
+        n,
+        kinds,
+        values,
+        starts,
+        counts,
+        &mut cells,
+        marks,
+        &mut order,
+        &mut kept,
+        &mut lefts,
+        &mut rights,
+        &mut equals,
+    );
+    if s.unsat {
+        return true;
+    }
+    propagate_equalities(
+        index,
+        kinds,
+        values,
+        starts,
+        counts,
+        p,
+        &mut cells,
+        marks,
+        &lefts,
+        &rights,
+        s.edges,
+        s.columns,
+    );
+    let r = resolve_all(
+        index,
+        kinds,
+        values,
+        starts,
+        counts,
+        p,
+        &mut cells,
+        marks,
+        &order,
+        s.columns,
+    );
+    r.unsat
+}
