@@ -8,7 +8,7 @@
  * long ones.
  */
 #define _POSIX_C_SOURCE 199309L
-#include "make.h"
+#include "lines.h"
 #include "measure.h"
 
 #include <stdbool.h>
@@ -18,27 +18,7 @@ struct prepared *oracle_prepare(const uint8_t *records, size_t records_len, cons
 bool oracle_merge(struct prepared *prepared, size_t root);
 void oracle_free(struct prepared *prepared);
 
-static struct made now;
-static uint32_t top;
-static unsigned lines;
 static struct prepared *prepared;
-
-static void begin(unsigned columns)
-{
-    make(&now, columns, SCREEN_TYPE_INT);
-    lines = 0;
-}
-
-static void join(uint32_t next)
-{
-    top = lines == 0 ? next : screen_put_and(&now.s, top, next);
-    lines++;
-}
-
-static void compare(unsigned code, uint32_t number, int64_t value)
-{
-    join(line(&now, code, number, value));
-}
 
 static void equal_columns(uint32_t left, uint32_t right)
 {

@@ -4,35 +4,15 @@
  * same screen; the goals are 128 times that, and 47 ms. Processor time, the least of some calls.
  */
 #define _POSIX_C_SOURCE 199309L
-#include "make.h"
+#include "lines.h"
 
 #include <stdio.h>
 #include <time.h>
 
 enum { LINES = 128, LIST = 100, DESK_MS = 47 };
 
-static struct made now;
-static uint32_t top;
-static unsigned lines, met, goals;
+static unsigned met, goals;
 static uint8_t scratch[16 * 4096];
-
-static void begin(unsigned columns)
-{
-    make(&now, columns, SCREEN_TYPE_INT);
-    lines = 0;
-}
-
-static void join(uint32_t next)
-{
-    top = lines == 0 ? next : screen_put_and(&now.s, top, next);
-    lines++;
-}
-
-static void bound(unsigned code, uint32_t column, int64_t value)
-{
-    uint32_t left = screen_put_column(&now.s, column);
-    join(screen_put_binary(&now.s, code, left, screen_put_int(&now.s, value)));
-}
 
 /* From the far end on, so that a pass carries a fact by one step. */
 static void chain(uint32_t columns)
@@ -47,10 +27,10 @@ static void chain(uint32_t columns)
 static void halves(void)
 {
     chain(64);
-    bound(SCREEN_OP_GT, 0, 5);
-    bound(SCREEN_OP_LT, 31, 5);
-    bound(SCREEN_OP_GT, 32, 5);
-    bound(SCREEN_OP_LT, 63, 5);
+    compare(SCREEN_OP_GT, 0, 5);
+    compare(SCREEN_OP_LT, 31, 5);
+    compare(SCREEN_OP_GT, 32, 5);
+    compare(SCREEN_OP_LT, 63, 5);
 }
 
 static void list(uint32_t column, int64_t first, int negated)
@@ -116,21 +96,21 @@ int main(void)
 {
     begin(1);
     while (lines < LINES)
-        bound(lines % 2 ? SCREEN_OP_LT : SCREEN_OP_GT, 0, 5);
+        compare(lines % 2 ? SCREEN_OP_LT : SCREEN_OP_GT, 0, 5);
     measure("128 bounds on one column");
     begin(64);
     while (lines < LINES)
-        bound(lines % 2 ? SCREEN_OP_LT : SCREEN_OP_GT, lines / 2, 5);
+        compare(lines % 2 ? SCREEN_OP_LT : SCREEN_OP_GT, lines / 2, 5);
     measure("128 bounds on 64 columns");
     begin(64);
     halves();
     while (lines < LINES)
-        bound(lines % 64 < 32 ? SCREEN_OP_GT : SCREEN_OP_LT, lines % 64, lines % 64 < 32 ? 4 - (int64_t)lines % 64 : 6 + (int64_t)lines % 64);
+        compare(lines % 64 < 32 ? SCREEN_OP_GT : SCREEN_OP_LT, lines % 64, lines % 64 < 32 ? 4 - (int64_t)lines % 64 : 6 + (int64_t)lines % 64);
     measure("63 equalities, 65 bounds");
     begin(64);
     halves();
     while (lines < LINES)
-        bound(SCREEN_OP_NOT_EQ, lines % 64, 100 + lines);
+        compare(SCREEN_OP_NOT_EQ, lines % 64, 100 + lines);
     measure("63 equalities, 61 excluded values");
     begin(64);
     chain(64);
