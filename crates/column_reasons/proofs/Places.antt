@@ -7,9 +7,9 @@ use native.Mathlib.Numerals.{add-one}
 use lib.ListN.{length, length-append, take-append-drop}
 use Rattle.constraints.specs.Comparisons.{ColumnComparison, IsEq, IsLower, IsUpper, IsNotEq, collectColumnComparisons}
 use Rattle.constraints.specs.Lined.{Lined, lined}
-use Rattle.columns.specs.Abstraction.{Conjuncts, Numbered, columnOf, comparedOf}
-use Rattle.columns.specs.Steps.{placed, placedTo}
-use Rattle.columns.specs.declared.comparisons.Compared.{Compared}
+use Rattle.column_constraints.specs.Abstraction.{Conjuncts, Numbered, columnOf, comparedOf}
+use Rattle.column_constraints.specs.Steps.{placed, placedTo}
+use Rattle.column_constraints.specs.declared.column.Compared.{Compared}
 use Rattle.columns.proofs.Written.{places-law}
 use Rattle.merge.specs.Emit.{ofColumn}
 use Rattle.merge.specs.Reasons.{Reason, reasonOf}

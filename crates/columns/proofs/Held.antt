@@ -10,13 +10,13 @@ use Rattle.constraints.specs.Column as q
 use Rattle.constraints.specs.Payload.{payload}
 use Rattle.constraints.specs.Lined.{Lined, lined}
 use Rattle.constraints.proofs.Sets.{contains-extend, subset-contains, extend-subset}
-use Rattle.columns.specs.Abstraction.{Conjuncts, Numbered, columnOf, ofKind, literalAt, valuesOf, marked}
-use Rattle.columns.specs.Abstraction.{excludedBy, allowedBy, disallowedBy}
-use Rattle.columns.specs.Steps.{Merging, emitting, recording, takeMark, takeMarks}
-use Rattle.columns.proofs.Pigeon.{Eq, yes, no, eq-view}
-use Rattle.columns.proofs.Insertions.{within, within-more, within-same, all-within, any-within, all-sub}
-use Rattle.columns.proofs.Insertions.{marked-has}
-use Rattle.columns.proofs.Lists.{within-still}
+use Rattle.column_constraints.specs.Abstraction.{Conjuncts, Numbered, columnOf, ofKind, literalAt, valuesOf, marked}
+use Rattle.column_constraints.specs.Abstraction.{excludedBy, allowedBy, disallowedBy}
+use Rattle.column_constraints.specs.Steps.{Merging, emitting, recording, takeMark, takeMarks}
+use Rattle.column_constraints.proofs.Pigeon.{Eq, yes, no, eq-view}
+use Rattle.column_sets.proofs.Insertions.{within, within-more, within-same, all-within, any-within, all-sub}
+use Rattle.column_sets.proofs.Insertions.{marked-has}
+use Rattle.column_sets.proofs.Lists.{within-still}
 use Rattle.columns.proofs.Mergings.{join, taken, marks-taken, marks-more, dead-mark, dead-marks}
 
 abbrev has : Lined → List Lined → Bool

@@ -26,10 +26,10 @@ use Rattle.constraints.specs.Payload.{payload}
 use Rattle.constraints.proofs.Sets.{contains-append}
 use Rattle.sorted.specs.Rising.{In, Rising, Found}
 use Rattle.sorted.specs.BitSets.{member, Put}
-use Rattle.columns.specs.Abstraction.{listOf}
-use Rattle.columns.specs.Index.{valueIn, Indexed, Placed, Places, ListPut, ListsPut}
-use Rattle.columns.proofs.Pigeon.{Eq, yes, no, eq-view}
-use Rattle.columns.proofs.Lists.{values-snoc}
+use Rattle.column_constraints.specs.Abstraction.{listOf}
+use Rattle.column_sets.specs.Index.{valueIn, Indexed, Placed, Places, ListPut, ListsPut}
+use Rattle.column_constraints.proofs.Pigeon.{Eq, yes, no, eq-view}
+use Rattle.column_sets.proofs.Lists.{values-snoc}
 
 -- ---- equal values
 abbrev half : ℕ

@@ -1,11 +1,4 @@
-pub mod Pigeon
-pub mod Lines
-pub mod Numbers
-pub mod Insertions
-pub mod Lists
 pub mod Mergings
-pub mod Resolutions
 pub mod Written
-pub mod Asked
 pub mod Held
 pub mod Indexing

@@ -14,16 +14,16 @@ use Rattle.constraints.specs.Column as q
 use Rattle.constraints.specs.Lined.{Lined, lined}
 use Rattle.constraints.specs.Scalars.{opposite}
 use Rattle.constraints.specs.declared.column.BoundChange.the-variants.{NoChange}
-use Rattle.columns.specs.Abstraction.{Conjuncts, columnOf, boundOf, gather, ofKind, valuesOf, excludedBy}
-use Rattle.columns.specs.Abstraction.{literalAt}
-use Rattle.columns.specs.Abstraction.{allowedBy, disallowedBy}
-use Rattle.columns.specs.Abstraction.{Numbered}
+use Rattle.column_constraints.specs.Abstraction.{Conjuncts, columnOf, boundOf, gather, ofKind, valuesOf, excludedBy}
+use Rattle.column_constraints.specs.Abstraction.{literalAt}
+use Rattle.column_constraints.specs.Abstraction.{allowedBy, disallowedBy}
+use Rattle.column_constraints.specs.Abstraction.{Numbered}
 use Rattle.constraints.proofs.Sets.{contains-extend, contains-retain, subset-contains, extend-subset}
 use Rattle.constraints.proofs.Sets.{retain-subset}
 use Rattle.constraints.specs.Bound as b
-use Rattle.columns.specs.Steps.{Merging, changesIn, emitting, recording, takeLower, takeUpper, takeMark, takeMarks}
+use Rattle.column_constraints.specs.Steps.{Merging, changesIn, emitting, recording, takeLower, takeUpper, takeMark, takeMarks}
 use Rattle.constraints.proofs.Columns.{swap-mid}
-use Rattle.columns.proofs.Pigeon.{Eq, yes, no, eq-view}
+use Rattle.column_constraints.proofs.Pigeon.{Eq, yes, no, eq-view}
 
 abbrev has : Lined → List Lined → Bool
 has v l = contains lined (lined .key v) l

@@ -13,9 +13,9 @@ use Rattle.constraints.specs.Bound as b
 use Rattle.constraints.specs.Resolve as z
 use Rattle.constraints.specs.Comparisons as e
 use Rattle.constraints.specs.Lined.{Lined, lined}
-use Rattle.columns.specs.Abstraction.{Conjuncts, columnOf, boundOf, gather, ofKind, literalAt, excludedBy}
-use Rattle.columns.specs.Steps.{placed, placedTo, placedBy, placedFree, placedPoint, placedMark}
-use Rattle.columns.specs.Abstraction.{Numbered}
+use Rattle.column_constraints.specs.Abstraction.{Conjuncts, columnOf, boundOf, gather, ofKind, literalAt, excludedBy}
+use Rattle.column_constraints.specs.Steps.{placed, placedTo, placedBy, placedFree, placedPoint, placedMark}
+use Rattle.column_constraints.specs.Abstraction.{Numbered}
 
 pub count-none : (ks vs a : List ℕ) → 0 ≡ length (excludedBy ks vs a 0)
 unfolding excludedBy gather

@@ -1,3 +1,0 @@
-pub mod Abstraction
-pub mod Index
-pub mod Steps

@@ -9,28 +9,18 @@ ghost use lib.ListN.{length};
 ghost use Rattle.constraints.specs.Bound.{ofBound};
 ghost use Rattle.constraints.specs.Comparisons.{IsLower, IsUpper, collectColumnComparisons};
 ghost use Rattle.constraints.specs.Lined.{lined};
-ghost use Rattle.columns.specs.Abstraction.{Conjuncts, numbered, columnOf, boundOf, excludedBy, comparedOf, Fine};
-ghost use Rattle.columns.specs.Abstraction.{limitOf};
-ghost use Rattle.columns.specs.Steps.{placedMark, placedFree, placedPoint, placed};
-use crate::bound::Bound;
-use crate::bound::Limit;
-use crate::bound::is_absent;
-use crate::column::ColumnConstraints;
-use crate::marks::limit_at;
-use crate::resolve::FixedValue;
-use crate::resolve::fixed_value;
+ghost use Rattle.column_constraints.specs.Abstraction.{Conjuncts, numbered, columnOf, boundOf, excludedBy, comparedOf, Fine};
+ghost use Rattle.column_constraints.specs.Abstraction.{limitOf};
+ghost use Rattle.column_constraints.specs.Steps.{placedMark, placedFree, placedPoint, placed};
+use column_constraints::bound::Bound;
+use column_constraints::bound::Limit;
+use column_constraints::bound::is_absent;
+use column_constraints::column::ColumnConstraints;
+use column_constraints::column::Compared;
+use column_constraints::column::FixedValue;
+use column_sets::marks::limit_at;
 use records::bytes::byte;
-
-/// One place of a column.
-pub enum Compared {
-    Vacant,
-    Eq(Limit),
-    Gt(Limit),
-    GtEq(Limit),
-    Lt(Limit),
-    LtEq(Limit),
-    NotEq(Limit),
-}
+use resolve_deferred::resolve::fixed_value;
 
 fn at_lower(l: Bound) -> Compared
     ensures { λ r. ⌜ comparedOf r ≡ ofBound IsLower (boundOf l) ⌝ }

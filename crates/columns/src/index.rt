@@ -1,6 +1,6 @@
 // The inverted index of the lists is made once, for a screen whose lists travel far along equalities: for each place of the
 // pool the set of the conjuncts whose lists have the value that stands there. Then all lists of a column are asked for a value
-// at once (module `marks`), and not one after the other. Its first third says of each place at which word the set of its value
+// at once (crate `column_sets`), and not one after the other. Its first third says of each place at which word the set of its value
 // begins; the sets follow, two words each.
 ghost use mathlib.Core.Path.{_≡_};
 ghost use mathlib.Core.List.{List};
@@ -9,8 +9,8 @@ ghost use lib.ListN.{length, getD};
 ghost use Rattle.records.specs.Bytes.{valueAt};
 ghost use Rattle.truth.specs.FromBytes.{valuesFrom};
 ghost use Rattle.sorted.specs.Rising.{In, Rising};
-ghost use Rattle.columns.specs.Index.{Indexed, Placed, Places, ListPut, ListsPut};
-use crate::marks::number_at;
+ghost use Rattle.column_sets.specs.Index.{Indexed, Placed, Places, ListPut, ListsPut};
+use column_sets::marks::number_at;
 use records::bytes::value_at;
 use sorted::bits::put;
 use sorted::rising::find;

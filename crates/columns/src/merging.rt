@@ -6,33 +6,27 @@ ghost use Prim.Native.Nat.{ℕ, _<_, _≤_};
 ghost use lib.ListN.{length, getD};
 ghost use Rattle.constraints.specs.Column as q;
 ghost use Rattle.constraints.specs.Lined.{lined};
-ghost use Rattle.columns.specs.Abstraction.{Conjuncts, conjuncts, numbered, columnOf, boundOf, valuesOf, Fine};
-ghost use Rattle.columns.specs.Abstraction.{limitOf, literalAt};
-ghost use Rattle.columns.specs.Index.{Indexed};
-ghost use Rattle.columns.specs.Steps.{Lists, mergingOf, emitting, recording};
-ghost use Rattle.columns.specs.Steps.{takeLower, takeUpper, takeMark, takeMarks};
-use crate::bound::Bound;
-use crate::bound::Limit;
-use crate::bound::is_change;
-use crate::column::ColumnConstraints;
-use crate::column::add_lower;
-use crate::column::add_upper;
-use crate::marks::add_allowed;
-use crate::marks::add_disallowed;
-use crate::marks::add_excluded;
-use crate::marks::allowed_changes;
-use crate::marks::disallowed_changes;
-use crate::marks::excluded_changes;
-use crate::marks::number_set;
+ghost use Rattle.column_constraints.specs.Abstraction.{Conjuncts, conjuncts, numbered, columnOf, boundOf, valuesOf, Fine};
+ghost use Rattle.column_constraints.specs.Abstraction.{limitOf, literalAt};
+ghost use Rattle.column_sets.specs.Index.{Indexed};
+ghost use Rattle.column_constraints.specs.Steps.{Lists, mergingOf, emitting, recording};
+ghost use Rattle.column_constraints.specs.Steps.{takeLower, takeUpper, takeMark, takeMarks};
+use column_changes::changes::allowed_changes;
+use column_changes::changes::disallowed_changes;
+use column_changes::changes::excluded_changes;
+use column_constraints::bound::Bound;
+use column_constraints::bound::Limit;
+use column_constraints::bound::is_change;
+use column_constraints::column::ColumnConstraints;
+use column_constraints::column::Merged;
+use column_constraints::column::add_lower;
+use column_constraints::column::add_upper;
+use column_sets::marks::add_allowed;
+use column_sets::marks::add_disallowed;
+use column_sets::marks::add_excluded;
+use column_sets::marks::number_set;
 use records::bytes::byte;
 use sorted::bits::has;
-
-/// A column after a merge. `emitted`: something that is written out again changed; `any`: something changed.
-pub struct Merged {
-    pub column: ColumnConstraints,
-    pub emitted: bool,
-    pub any: bool,
-}
 
 fn merge_lower_at(m: Merged, v: Limit, inclusive: bool) -> Merged
     ensures { λ r. ⌜ ((t : Conjuncts) (a : List ℕ) → mergingOf t a r ≡ emitting (q.Lower inclusive (limitOf v)) (mergingOf t a m)) ⌝ }

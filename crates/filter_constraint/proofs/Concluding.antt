@@ -15,8 +15,8 @@ use Rattle.constraints.specs.Payload.{payload}
 use Rattle.constraints.specs.Lined.{Lined, lined}
 use Rattle.constraints.specs.Resolve.{resolveDeferred}
 use Rattle.constraints.specs.Values.{isEmpty}
-use Rattle.columns.specs.Abstraction.{Conjuncts, columnOf, Fine}
-use Rattle.columns.specs.declared.column.ColumnConstraints.{ColumnConstraints}
+use Rattle.column_constraints.specs.Abstraction.{Conjuncts, columnOf, Fine}
+use Rattle.column_constraints.specs.declared.column.ColumnConstraints.{ColumnConstraints}
 use Rattle.merge.specs.Collect.{Collected, isIn}
 use Rattle.merge.specs.Propagate.{propagate, propagateEmitted}
 use Rattle.merge.specs.Emit.{Outcome, Unchanged, NothingPasses, Rebuilt, ofColumn, keptEqualities, droppedEquality}
@@ -27,24 +27,24 @@ use Rattle.merge.specs.Write.{writeComparisons, outcomeBytes}
 use Rattle.merge.specs.Rewrite.{writtenIf}
 use Rattle.merge.specs.declared.answer.RewriteAnswer.{RewriteAnswer}
 use Rattle.merge.specs.declared.answer.RewriteAnswer.the-variants as answer
-use Rattle.reading.specs.Walk.{firstOf}
+use Rattle.read_operands.specs.Walk.{firstOf}
 use Rattle.rewrite.specs.Written.{chainAt, andsTo}
-use Rattle.stages.specs.Reckon.{reckoned, reckonedAnswer}
+use Rattle.reckoning.specs.Reckon.{reckoned, reckonedAnswer}
 use Rattle.stages.specs.Rewritten.{isRewritten}
 use Rattle.stages.specs.Rows.{stride, rowOf}
-use Rattle.filter_constraint.specs.State.{columnAt, ColumnTable, Shows, Entered, Keeps, Edges, edgesOf, Collects, collectTo}
-use Rattle.filter_constraint.specs.Words.{pastColumn}
-use Rattle.filter_constraint.specs.State.{Spread, Kept, resolveAll, resolvedIn, Resolved, shown, bitsOf, Written}
+use Rattle.column_table.specs.State.{columnAt, ColumnTable, Shows, Entered, Keeps, Edges, edgesOf, Collects, collectTo}
+use Rattle.column_table.specs.Words.{pastColumn}
+use Rattle.column_table.specs.State.{Spread, Kept, resolveAll, resolvedIn, Resolved, shown, bitsOf, Written}
 use Rattle.stages.proofs.Answers.{chain-written, chain-unwritten}
 use Rattle.merge.specs.Lines.{mapOutcome}
 use Rattle.merge.proofs.Compared.{rebuilt-compares}
 use Rattle.merge.proofs.Carried.{carried, carried-passes}
-use Rattle.reading.proofs.Walks.{first-length}
-use Rattle.filter_constraint.proofs.Arrays.{low-slot}
+use Rattle.read_operands.proofs.Walks.{first-length}
+use Rattle.column_table.proofs.Arrays.{low-slot}
 use Rattle.stages.proofs.Chains.{chain-bytes, chain-not-empty}
 use Rattle.stages.proofs.Reckons.{ChainRoom, rewritten-room}
-use Rattle.filter_constraint.proofs.Resolving.{comparisons-more, comparisons-upto, comparisons-agree, in-first, same-comparisons}
-use Rattle.filter_constraint.proofs.Resolving.{bits-length}
+use Rattle.column_table.proofs.Resolving.{comparisons-more, comparisons-upto, comparisons-agree, in-first, same-comparisons}
+use Rattle.column_table.proofs.Resolving.{bits-length}
 
 -- The outcome for the first n nodes of an array.
 abbrev pub outcomeTo : (ℕ → AExpr ℕ) → List ℕ → ℕ → Outcome ℕ

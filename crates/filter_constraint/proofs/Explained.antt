@@ -18,15 +18,15 @@ use Rattle.merge.specs.Write.{outcomeBytes, splice}
 use Rattle.merge.specs.declared.answer.RewriteAnswer.{RewriteAnswer}
 use Rattle.merge.specs.declared.answer.RewriteAnswer.the-variants as answer
 use Rattle.merge.specs.declared.answer.Rewriting.{Rewriting}
-use Rattle.reading.specs.Walk.{firstOf}
+use Rattle.read_operands.specs.Walk.{firstOf}
 use Rattle.reasons.specs.Explained.{refuseLong, textIf, lengthIf}
 use Rattle.reasons.specs.Text.{reasonsText}
-use Rattle.stages.specs.Reckon.{roomFor, reckoned, reckonedAnswer}
+use Rattle.reckoning.specs.Reckon.{roomFor, reckoned, reckonedAnswer}
 use Rattle.stages.specs.Rewritten.{isRewritten}
 use Rattle.filter_constraint.specs.Explained.{nodesText}
-use Rattle.filter_constraint.specs.State.{ColumnTable, collectTo, bitsOf}
+use Rattle.column_table.specs.State.{ColumnTable, collectTo, bitsOf}
 use Rattle.filter_constraint.proofs.Concluding.{Answered}
-use Rattle.filter_constraint.proofs.Resolving.{bits-length}
+use Rattle.column_table.proofs.Resolving.{bits-length}
 
 -- ---- An answer that writes no chain is left alone, and the buffer with it.
 pub kept-answer : (size len : ℕ) (a : RewriteAnswer) → isRewritten a ≡ false → refuseLong size len a ≡ a

@@ -7,7 +7,7 @@ use Rattle.merge.specs.Classify.{classify}
 use Rattle.merge.specs.Emit.{mergeFilterConstraints}
 use Rattle.merge.specs.Lines.{linesFrom}
 use Rattle.merge.specs.Reasons.{reasonsOf}
-use Rattle.reading.specs.Walk.{firstOf}
+use Rattle.read_operands.specs.Walk.{firstOf}
 use Rattle.reasons.specs.Text.{reasonsText}
 
 unfoldable pub nodesText : List ℕ → List ℕ → List ℕ → ℕ → List ℕ

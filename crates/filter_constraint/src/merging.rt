@@ -6,28 +6,28 @@ ghost use Prim.Native.Nat.{ℕ, _<_, _≤_, _*_};
 ghost use lib.ListN.{length, getD};
 ghost use Rattle.truth.specs.FromBytes.{aexprOf};
 ghost use Rattle.constraints.specs.Payload.{payload};
-ghost use Rattle.columns.specs.Abstraction.{conjuncts};
-ghost use Rattle.columns.specs.Index.{Indexed};
+ghost use Rattle.column_constraints.specs.Abstraction.{conjuncts};
+ghost use Rattle.column_sets.specs.Index.{Indexed};
 ghost use Rattle.merge.specs.Classify.{classify};
 ghost use Rattle.merge.specs.Emit.{mergeFilterConstraints};
 ghost use Rattle.merge.specs.Passes.{mergePasses};
 ghost use Rattle.merge.specs.Write.{outcomeBytes};
 ghost use Rattle.merge.specs.Rewrite.{writtenIf};
-ghost use Rattle.reading.specs.Walk.{firstOf};
+ghost use Rattle.read_operands.specs.Walk.{firstOf};
 ghost use Rattle.rewrite.specs.Told.{ToldConjunct};
 ghost use Rattle.reasons.specs.Explained.{refuseLong, textIf, lengthIf};
 ghost use Rattle.stages.specs.Columns.{ColumnsBelow};
-ghost use Rattle.stages.specs.Reckon.{reckonedAnswer};
+ghost use Rattle.reckoning.specs.Reckon.{reckonedAnswer};
 ghost use Rattle.stages.specs.Rows.{stride};
 ghost use Rattle.filter_constraint.specs.Explained.{nodesText};
-use crate::collect::collect;
-use crate::conclude::keep_equalities;
-use crate::conclude::resolve_all;
-use crate::propagate::propagate_equalities;
 use crate::rebuild::rebuild;
+use collect_constraints::collect::collect;
 use merge::answer::RewriteAnswer;
 use merge::answer::Rewriting;
-use stages::reckon::nothing_passes;
+use propagate_equalities::propagate::propagate_equalities;
+use reckoning::reckon::nothing_passes;
+use resolve_columns::conclude::keep_equalities;
+use resolve_columns::conclude::resolve_all;
 
 fn with_passes(answer: RewriteAnswer, passes: usize, length: usize) -> Rewriting
     ensures { λ r. ⌜ r .answer ≡ answer ⌝ }

@@ -3,23 +3,23 @@ ghost use mathlib.Core.Path.{_≡_};
 ghost use Prim.Native.Nat.{ℕ, _<_, _≤_};
 ghost use lib.ListN.{length, getD};
 ghost use Rattle.constraints.specs.Lined.{lined};
-ghost use Rattle.columns.specs.Abstraction.{Conjuncts};
+ghost use Rattle.column_constraints.specs.Abstraction.{Conjuncts};
 ghost use Rattle.column_reasons.specs.ColumnText.{tableText};
 ghost use Rattle.merge.specs.Emit.{Rebuilt, comparisons};
 ghost use Rattle.merge.specs.Rewrite.{writtenIf};
 ghost use Rattle.merge.specs.Write.{outcomeBytes};
-ghost use Rattle.reading.specs.Walk.{firstOf};
+ghost use Rattle.read_operands.specs.Walk.{firstOf};
 ghost use Rattle.reasons.specs.Explained.{refuseLong, textIf, lengthIf};
-ghost use Rattle.stages.specs.Reckon.{reckoned};
-ghost use Rattle.filter_constraint.specs.Words.{columnsOf};
-ghost use Rattle.filter_constraint.specs.State.{Fits, shown, bitsOf};
-use crate::conclude::write_comparisons;
-use crate::explain::reasons_length;
-use crate::explain::write_reasons;
+ghost use Rattle.reckoning.specs.Reckon.{reckoned};
+ghost use Rattle.column_table.specs.Words.{columnsOf};
+ghost use Rattle.column_table.specs.State.{Fits, shown, bitsOf};
+use explain_columns::explain::reasons_length;
+use explain_columns::explain::write_reasons;
 use merge::answer::RewriteAnswer;
+use reckoning::reckon::rebuilt_answer;
+use resolve_columns::conclude::write_comparisons;
 use rewrite::write::write_ands;
 use stages::fields::is_rewritten;
-use stages::reckon::rebuilt_answer;
 
 /// The answer for a rebuilt chain, and how many bytes the text of its reasons has.
 pub struct Rebuilding {

@@ -18,9 +18,9 @@ use Rattle.checking.specs.Columns.{bit}
 use Rattle.checking.specs.Tree.{treeCount}
 use Rattle.checking.proofs.Accepted.{checked-accepted, checked-used}
 use Rattle.row_test.specs.RowTest.{rowFault, checkedAnswer, testRowAnswer}
-use Rattle.truth.specs.Logic.{isTrue}
-use Rattle.truth.specs.declared.logic.Truth.{Truth}
-use Rattle.truth.specs.declared.logic.Truth.the-variants.{False, Unknown, True}
+use Rattle.three_valued.specs.Logic.{isTrue}
+use Rattle.three_valued.specs.declared.logic.Truth.{Truth}
+use Rattle.three_valued.specs.declared.logic.Truth.the-variants.{False, Unknown, True}
 use Rattle.row_test.specs.declared.test.RowAnswer.{RowAnswer}
 use Rattle.row_test.specs.declared.test.RowAnswer.the-variants.{Refused, Tested}
 use Rattle.row_test.proofs.Answers.{row-tested}

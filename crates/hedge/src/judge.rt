@@ -8,7 +8,7 @@ ghost use Rattle.records.specs.Bytes.{all};
 ghost use Rattle.checking.specs.Checked.{Checked};
 ghost use Rattle.checking.specs.Columns.{bit};
 ghost use Rattle.checking.specs.Tree.{treeCount};
-ghost use Rattle.truth.specs.declared.logic.Truth.{Truth};
+ghost use Rattle.three_valued.specs.declared.logic.Truth.{Truth};
 ghost use Rattle.masks.specs.Masks.{Tells};
 ghost use Rattle.masks.specs.Block.{Closed};
 ghost use Rattle.hedge.specs.Chain.{answerAt, isTested};

@@ -22,8 +22,8 @@ use Rattle.merge.specs.Emit.{mergeFilterConstraints}
 use Rattle.merge.specs.Plain.{plainScreen}
 use Rattle.merge.proofs.Chains.{Below}
 use Rattle.merge.proofs.Accepted.{inputs-fall}
-use Rattle.reading.specs.Walk.{walked, firstOf}
-use Rattle.reading.proofs.Walks.{first-length}
+use Rattle.read_operands.specs.Walk.{walked, firstOf}
+use Rattle.read_operands.proofs.Walks.{first-length}
 use Rattle.stages.proofs.Screens.{minterms-walked, minterms-below, classify-used, classify-all-used}
 use Rattle.in_the_way.specs.declared.answer.WayAnswer.the-variants as way
 use Rattle.in_the_way.specs.Lines.{without, isNothing, nothingPasses, firstTrue}

@@ -7,14 +7,14 @@ use lib.ListN.{length}
 use Rattle.truth.specs.AExpr.{AExpr}
 use Rattle.constraints.specs.Lined.{Lined, lined}
 use Rattle.constraints.specs.Scalars.{Scalars}
-use Rattle.columns.specs.Abstraction.{Conjuncts}
-use Rattle.columns.specs.declared.column.ColumnConstraints.{ColumnConstraints}
+use Rattle.column_constraints.specs.Abstraction.{Conjuncts}
+use Rattle.column_constraints.specs.declared.column.ColumnConstraints.{ColumnConstraints}
 use Rattle.merge.specs.Collect.{Collected}
 use Rattle.merge.specs.Propagate.{propagate}
 use Rattle.merge.specs.Emit.{Outcome, Unchanged, NothingPasses, Rebuilt, anyUnsat, propagated, resolved, rewrites, rebuilt, conclude}
-use Rattle.reading.specs.Walk.{firstOf}
-use Rattle.reading.proofs.Walks.{first-length}
-use Rattle.filter_constraint.specs.State.{ColumnTable, Shows, edgesOf, Collects, collectTo, Spread, Resolved}
+use Rattle.read_operands.specs.Walk.{firstOf}
+use Rattle.read_operands.proofs.Walks.{first-length}
+use Rattle.column_table.specs.State.{ColumnTable, Shows, edgesOf, Collects, collectTo, Spread, Resolved}
 use Rattle.filter_constraint.proofs.Concluding.{withoutLines, conclude-stopped, outcome-is}
 use Rattle.in_the_way.specs.Lines.{isNothing, nothingPasses}
 

@@ -16,8 +16,8 @@ use Rattle.truth.specs.AExpr.{ListLiteral, IsIn, Missing, Inputs}
 use Rattle.constraints.specs.Payload.{payload}
 use Rattle.merge.specs.Classify.{Conjunct, Bounds, Normalized, Equality, Recorded, NonNullPair, Opaque, classify, classifyRecord}
 use Rattle.merge.specs.Collect.{Collected, begin, collect, collectOne}
-use Rattle.reading.specs.Walk.{firstOf}
-use Rattle.reading.proofs.Walks.{first-kept, first-length}
+use Rattle.read_operands.specs.Walk.{firstOf}
+use Rattle.read_operands.proofs.Walks.{first-kept, first-length}
 use Rattle.in_the_way.specs.Lines.{without, nothingPasses, firstTrue}
 use Rattle.in_the_way.proofs.Ends.{dead, nothing-dead}
 

@@ -10,7 +10,7 @@ use lib.ListN.{length, getD}
 use borrow.Author.Tests.{lt-ltb, ltb-true}
 use Rattle.records.proofs.Loops.{all-holds}
 use Rattle.checking.specs.Checked.{Checked}
-use Rattle.truth.specs.Logic.{isTrue}
+use Rattle.three_valued.specs.Logic.{isTrue}
 use Rattle.truth.specs.AExpr.{AExpr, Column, Literal, Null, BinaryExpr, Not, IsNull, IsNotNull, IsBetween}
 use Rattle.truth.specs.AExpr.{ListLiteral, IsIn, Missing, WF}
 use Rattle.truth.specs.FromBytes.{aexprAt, truthKeys}

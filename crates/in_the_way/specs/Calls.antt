@@ -6,7 +6,7 @@ use Prim.Native.Nat.{ℕ, _≤_, _<_}
 use lib.Dec.{eqb}
 use lib.ListN.{length, getD}
 use Rattle.truth.specs.AExpr.{AExpr}
-use Rattle.truth.specs.Logic.{isTrue}
+use Rattle.three_valued.specs.Logic.{isTrue}
 use Rattle.truth.specs.FromBytes.{aexprAt, truthIn}
 use Rattle.merge.specs.Minterms.{minterms}
 use Rattle.merge.specs.Plain.{plainScreen}

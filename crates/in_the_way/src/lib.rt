@@ -11,7 +11,7 @@ ghost use Rattle.checking.specs.declared.check.CheckAnswer.the-variants as chec
 ghost use Rattle.truth.specs.FromBytes.{aexprAt};
 ghost use Rattle.merge.specs.Minterms.{minterms};
 ghost use Rattle.merge.specs.Plain.{plainScreen};
-ghost use Rattle.reading.specs.Walk.{walked, firstOf};
+ghost use Rattle.read_operands.specs.Walk.{walked, firstOf};
 ghost use Rattle.in_the_way.specs.Answer.{wayAnswer};
 ghost use Rattle.in_the_way.specs.Calls.{wayNumber, lineOut, wayListed, WayPromise};
 
@@ -25,11 +25,11 @@ use crate::indexed::judge_indexed;
 use crate::lines::judge_lines;
 use checking::check::CheckAnswer;
 use checking::check::check_counted;
+use merge_conjuncts::far::travels_far;
 use minterm_iter::minterms;
 use plain::is_plain;
 use records::record::Node;
 use rewrite::literals::read_literals;
-use rule::far::travels_far;
 
 // The lines of a plain screen are the first n of `nodes`.
 fn judge_plain(

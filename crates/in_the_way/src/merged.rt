@@ -3,17 +3,17 @@ ghost use mathlib.Core.Path.{_≡_};
 ghost use Prim.Native.Nat.{ℕ, _<_, _≤_};
 ghost use lib.ListN.{length, getD};
 ghost use Rattle.truth.specs.FromBytes.{aexprOf};
-ghost use Rattle.columns.specs.Abstraction.{conjuncts};
-ghost use Rattle.columns.specs.Index.{Indexed};
+ghost use Rattle.column_constraints.specs.Abstraction.{conjuncts};
+ghost use Rattle.column_sets.specs.Index.{Indexed};
 ghost use Rattle.merge.specs.Classify.{classify};
-ghost use Rattle.reading.specs.Walk.{firstOf};
+ghost use Rattle.read_operands.specs.Walk.{firstOf};
 ghost use Rattle.rewrite.specs.Told.{ToldConjunct};
 ghost use Rattle.stages.specs.Columns.{ColumnsBelow};
 ghost use Rattle.stages.specs.Rows.{stride};
 ghost use Rattle.in_the_way.specs.Lines.{nothingPasses};
-use filter_constraint::collect::collect;
-use filter_constraint::conclude::resolve_all;
-use filter_constraint::propagate::propagate_equalities;
+use collect_constraints::collect::collect;
+use propagate_equalities::propagate::propagate_equalities;
+use resolve_columns::conclude::resolve_all;
 
 /// The first n of `nodes` are the lines; kinds, values, starts and counts are their tables, `index` is the index of the lists or
 /// has none, `marks` has room for the columns' numbers.

@@ -14,14 +14,14 @@ use borrow.Author.Tests.{ltb-true, ltb-false, eqb-true, eqb-false, ne-eqb}
 use Rattle.records.proofs.Laws.{by-test}
 use Rattle.checking.specs.Columns.{bit}
 use Rattle.checking.proofs.Bits.{bit-or}
-use Rattle.truth.specs.declared.logic.Truth.{Truth}
+use Rattle.three_valued.specs.declared.logic.Truth.{Truth}
 use Rattle.truth.specs.declared.scalar.Ordering.{Ordering}
 use Rattle.truth.specs.declared.scalar.Ordering.the-variants.{Less, Equal, Greater}
 use Rattle.truth.specs.Order.{Order, isLess, isEqual}
 use Rattle.truth.specs.Comparison.{Eq, Lt}
 use Rattle.truth.specs.Halves.{ordZ, key, biasOf}
 use Rattle.truth.specs.Evaluate.{comparing}
-use Rattle.truth.specs.Logic.{isTrue, ofBool}
+use Rattle.three_valued.specs.Logic.{isTrue, ofBool}
 use Rattle.truth.proofs.Keys.{says-less, says-equal, says-greater}
 use Rattle.masks.specs.declared.Masks.{Masks}
 use Rattle.masks.specs.Masks.{isUnknown, inverse, maskTo, Tells, KeyAt, isNull, isKey, Shown}

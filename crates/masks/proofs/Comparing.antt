@@ -13,7 +13,7 @@ use lib.ListN.{getD}
 use borrow.Author.Tests.{ne-eqb}
 use Rattle.checking.specs.Columns.{bit}
 use Rattle.checking.proofs.Bits.{bit-or, bit-zero}
-use Rattle.truth.specs.declared.logic.Truth.{Truth}
+use Rattle.three_valued.specs.declared.logic.Truth.{Truth}
 use Rattle.truth.specs.declared.scalar.Ordering.{Ordering}
 use Rattle.truth.specs.Order.{Order, View, is-less, is-equal, is-greater, isLess, isEqual, isGreater}
 use Rattle.truth.specs.Comparison.{Comparison, Eq, NotEq, Lt, LtEq, Gt, GtEq}
@@ -21,7 +21,7 @@ use Rattle.truth.specs.Halves.{ordZ, key, biasOf}
 use Rattle.truth.specs.Evaluate.{comparing, same, nullTest, comparisonAt, comparedOf, connectedOf, betweenOf, lowCode, highCode}
 use Rattle.truth.specs.Evaluate.{toTruth}
 use Rattle.truth.specs.FromBytes.{truthKeys}
-use Rattle.truth.specs.Logic.{and3, or3, xor3, not3, isTrue, ofBool}
+use Rattle.three_valued.specs.Logic.{and3, or3, xor3, not3, isTrue, ofBool}
 use Rattle.truth.proofs.Orders.{cmp-lt, cmp-gt, cmp-eq, total-z}
 use Rattle.truth.proofs.Negations.{compare-negate, not-of}
 use Rattle.masks.specs.declared.Masks.{Masks}

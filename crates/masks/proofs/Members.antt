@@ -19,11 +19,11 @@ use Rattle.records.proofs.Laws.{by-test}
 use borrow.Author.Tests.{eq-eqb, ne-eqb, eqb-true, eqb-false}
 use Rattle.truth.specs.Order.{Order, isEqual}
 use Rattle.truth.specs.Halves.{ordZ, key, biasOf}
-use Rattle.truth.specs.Logic.{isTrue}
+use Rattle.three_valued.specs.Logic.{isTrue}
 use Rattle.truth.specs.Membership.{nullIn3, knownIn3}
 use Rattle.truth.specs.FromBytes.{valuesFrom}
 use Rattle.truth.specs.Evaluate.{holdsKey, memberOf}
-use Rattle.truth.proofs.Lists.{list-more, list-found, list-done, list-start, member-null, member-known}
+use Rattle.membership.proofs.Lists.{list-more, list-found, list-done, list-start, member-null, member-known}
 use Rattle.masks.specs.declared.Masks.{Masks}
 use Rattle.masks.specs.Masks.{isUnknown, inverse, Tells, KeyAt, isNull, isKey, Shown}
 use Rattle.masks.specs.Block.{Finds}

@@ -6,9 +6,9 @@ use Prim.Native.Nat.{ℕ, _<_}
 use lib.Bits.{bitAnd, bitOr, bitXor}
 use Rattle.checking.specs.Columns.{bit}
 use Rattle.checking.proofs.Bits.{bit-or, bit-zero}
-use Rattle.truth.specs.declared.logic.Truth.{Truth}
-use Rattle.truth.specs.declared.logic.Truth.the-variants.{False, Unknown, True}
-use Rattle.truth.specs.Logic.{and3, or3, xor3, not3, ofBool, isTrue}
+use Rattle.three_valued.specs.declared.logic.Truth.{Truth}
+use Rattle.three_valued.specs.declared.logic.Truth.the-variants.{False, Unknown, True}
+use Rattle.three_valued.specs.Logic.{and3, or3, xor3, not3, ofBool, isTrue}
 use Rattle.truth.specs.Comparison.{Eq, Lt}
 use Rattle.truth.specs.Evaluate.{comparing, same, nullTest, ofTruth}
 use Rattle.masks.specs.declared.Masks.{Masks}

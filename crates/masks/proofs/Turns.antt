@@ -17,10 +17,10 @@ use Rattle.records.specs.declared.record.Node.{Node}
 use Rattle.records.proofs.Laws.{by-test, and-left, and-right}
 use Rattle.checking.specs.Columns.{bit}
 use Rattle.checking.proofs.Bits.{bit-zero}
-use Rattle.truth.specs.declared.logic.Truth.{Truth}
-use Rattle.truth.specs.declared.logic.Truth.the-variants.{False, Unknown, True}
+use Rattle.three_valued.specs.declared.logic.Truth.{Truth}
+use Rattle.three_valued.specs.declared.logic.Truth.the-variants.{False, Unknown, True}
 use Rattle.truth.specs.Halves.{key, biasOf}
-use Rattle.truth.specs.Logic.{not3, ofBool, isTrue}
+use Rattle.three_valued.specs.Logic.{not3, ofBool, isTrue}
 use Rattle.truth.specs.FromBytes.{rowKeys}
 use Rattle.truth.specs.Evaluate.{comparedOf, connectedOf, betweenOf, memberOf, leafOf, nullTest, ofTruth, toTruth, Evaluable}
 use Rattle.truth.specs.Evaluate.{dividedOf, comparing}

@@ -17,11 +17,11 @@ use Rattle.records.specs.declared.record.Node.{Node}
 use Rattle.records.proofs.Laws.{by-test, and-left, and-right}
 use Rattle.checking.specs.Columns.{bit}
 use Rattle.checking.proofs.Bits.{bit-zero}
-use Rattle.truth.specs.declared.logic.Truth.{Truth}
-use Rattle.truth.specs.declared.logic.Truth.the-variants.{False, Unknown, True}
+use Rattle.three_valued.specs.declared.logic.Truth.{Truth}
+use Rattle.three_valued.specs.declared.logic.Truth.the-variants.{False, Unknown, True}
 use Rattle.truth.specs.Comparison.{Eq}
 use Rattle.truth.specs.Halves.{key, biasOf}
-use Rattle.truth.specs.Logic.{isTrue}
+use Rattle.three_valued.specs.Logic.{isTrue}
 use Rattle.truth.specs.FromBytes.{rowKeys}
 use Rattle.truth.specs.Evaluate.{leafOf, ofTruth, toTruth, comparing, Evaluable}
 use Rattle.row_test.proofs.Evaluation.{fit-of, leaf-truth, leaf-is-value, truth-is-value, binary-is-value, divided-value, divided-truth}

@@ -11,7 +11,7 @@ use Rattle.records.specs.Record.{fieldsAt, node}
 use Rattle.records.specs.declared.record.Fields.{Fields}
 use Rattle.records.specs.declared.record.Node.{Node}
 use Rattle.checking.specs.Columns.{bit}
-use Rattle.truth.specs.declared.logic.Truth.{Truth}
+use Rattle.three_valued.specs.declared.logic.Truth.{Truth}
 use Rattle.truth.specs.Halves.{key, biasOf}
 use Rattle.truth.specs.FromBytes.{rowKeys}
 use Rattle.truth.specs.Evaluate.{rowTruth, rowValue, holdsKey, Evaluable}

@@ -8,9 +8,9 @@ use lib.Bits.{bitOr, bitXor}
 use lib.IntN.{ℤ}
 use lib.ListN.{getD}
 use Rattle.checking.specs.Columns.{bit}
-use Rattle.truth.specs.declared.logic.Truth.{Truth}
-use Rattle.truth.specs.declared.logic.Truth.the-variants.{False, Unknown, True}
-use Rattle.truth.specs.Logic.{isTrue}
+use Rattle.three_valued.specs.declared.logic.Truth.{Truth}
+use Rattle.three_valued.specs.declared.logic.Truth.the-variants.{False, Unknown, True}
+use Rattle.three_valued.specs.Logic.{isTrue}
 use Rattle.truth.specs.Halves.{key, biasOf}
 use Rattle.masks.specs.declared.Masks.{Masks}
 

@@ -5,7 +5,7 @@ ghost use Prim.Native.Nat.{ℕ, _+_, _≤_, _<_};
 ghost use mathlib.Core.Option.{Option};
 ghost use lib.IntN.{ℤ};
 ghost use lib.ListN.{length};
-ghost use Rattle.truth.specs.Logic.{ofBool};
+ghost use Rattle.three_valued.specs.Logic.{ofBool};
 ghost use Rattle.truth.specs.Evaluate.{nullTest};
 ghost use Rattle.masks.specs.Masks.{Tells, Shown};
 ghost use Rattle.masks.specs.Block.{chainTruth, Turn};

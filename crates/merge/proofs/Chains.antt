@@ -11,7 +11,7 @@ use Rattle.truth.specs.AExpr.{AExpr, And, BinaryExpr, BinaryOp, Column, Compare
 use Rattle.truth.specs.AExpr.{IsNotNull, IsNull, ListLiteral, Literal, LogicalAnd, LogicalOr, Missing, Not}
 use Rattle.truth.specs.AExpr.{NotEqValidity, FloorDivide, Modulus, Null, Or, Xor}
 use Rattle.truth.specs.Cell.{TruthKeys, cellAt, step, truthAt}
-use Rattle.truth.specs.Logic.{and3, isTrue}
+use Rattle.three_valued.specs.Logic.{and3, isTrue}
 use Rattle.constraints.specs.Scalars.{Scalars}
 use Rattle.merge.specs.Minterms.{andSides, minterms, mintermsBy, pending, sidesOf}
 

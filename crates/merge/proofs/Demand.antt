@@ -29,9 +29,9 @@ use Rattle.checking.specs.declared.check.CheckAnswer.{CheckAnswer}
 use Rattle.checking.specs.declared.check.CheckAnswer.the-variants as check
 use Rattle.truth.specs.Halves.{ordZ, twice, key}
 use Rattle.truth.proofs.Orders.{total-z}
-use Rattle.truth.specs.declared.logic.Truth.{Truth}
-use Rattle.truth.specs.declared.logic.Truth.the-variants.{False, True}
-use Rattle.truth.specs.Logic.{isTrue}
+use Rattle.three_valued.specs.declared.logic.Truth.{Truth}
+use Rattle.three_valued.specs.declared.logic.Truth.the-variants.{False, True}
+use Rattle.three_valued.specs.Logic.{isTrue}
 use Rattle.truth.specs.AExpr.{AExpr, Literal, Missing, WF}
 use Rattle.truth.specs.FromBytes.{binaryExpr, toAExpr, aexprOf, aexprAt, truthKeys, truthIn}
 use Rattle.truth.proofs.HalfPoints as half

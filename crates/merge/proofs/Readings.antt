@@ -8,17 +8,17 @@ use Prim.Native.Nat.{ℕ}
 use lib.Dec.{leb}
 use lib.ListN.{length}
 use Rattle.truth.proofs.Cells.{and-is-true, cell-law}
-use Rattle.truth.proofs.Memberships.{in3-known, in3-null, isEmpty}
+use Rattle.membership.proofs.Memberships.{in3-known, in3-null, isEmpty}
 use Rattle.truth.proofs.Negations.{negateComparison, compare-negate}
 use Rattle.truth.proofs.Orders.{cmp-eq, cmp-gt, cmp-lt}
 use Rattle.truth.specs.AExpr.{AExpr, BinaryExpr, Column, Compare, Inputs, IsBetween, IsIn, IsNotNull, IsNull, ListLiteral}
 use Rattle.truth.specs.AExpr.{Literal, Missing, Not, Null}
 use Rattle.truth.specs.Cell.{Cell, TruthKeys, cellAt, compare3, highComparison, isNull, lowComparison, step}
 use Rattle.truth.specs.Comparison.{Comparison, Eq, Gt, GtEq, Lt, LtEq, NotEq, comparisonHolds}
-use Rattle.truth.specs.Logic.{and3, isTrue, not3, ofBool}
+use Rattle.three_valued.specs.Logic.{and3, isTrue, not3, ofBool}
 use Rattle.truth.specs.Membership.{in3, knownIn3, nullIn3}
 use Rattle.truth.specs.Order.{View, is-equal, is-greater, is-less, isEqual}
-use Rattle.truth.specs.declared.logic.Truth.{Truth}
+use Rattle.three_valued.specs.declared.logic.Truth.{Truth}
 use Rattle.truth.specs.declared.scalar.Ordering.{Ordering}
 use Rattle.truth.specs.declared.scalar.Ordering.the-variants.{Equal, Greater, Less}
 use Rattle.constraints.proofs.Columns.{obeys, obeysAll, obeysRecordedAll}

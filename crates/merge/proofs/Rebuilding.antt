@@ -12,7 +12,7 @@ use Rattle.truth.proofs.Cells.{and-is-true, cell-law, step-same}
 use Rattle.truth.specs.AExpr.{AExpr, And, BinaryExpr, Column, Compare, Inputs, Literal, WF}
 use Rattle.truth.specs.Cell.{TruthKeys, cellAt, compare3, noCell, step, truthAt}
 use Rattle.truth.specs.Comparison.{Eq, Gt, GtEq, Lt, LtEq, NotEq, comparisonHolds}
-use Rattle.truth.specs.Logic.{isTrue, ofBool}
+use Rattle.three_valued.specs.Logic.{isTrue, ofBool}
 use Rattle.truth.specs.Order.{isEqual}
 use Rattle.truth.specs.declared.scalar.Ordering.{Ordering}
 use Rattle.truth.specs.declared.scalar.Ordering.the-variants.{Equal, Greater, Less}

@@ -9,8 +9,8 @@ use native.Mathlib.Omega.{arith}
 use lib.ListN.{length}
 use Rattle.truth.specs.AExpr.{AExpr, Literal, WF}
 use Rattle.truth.specs.Cell.{TruthKeys, truthAt, truthOfValue}
-use Rattle.truth.specs.Logic.{isTrue}
-use Rattle.truth.specs.declared.logic.Truth.the-variants.{False}
+use Rattle.three_valued.specs.Logic.{isTrue}
+use Rattle.three_valued.specs.declared.logic.Truth.the-variants.{False}
 use Rattle.constraints.specs.Resolve.{fixedAt}
 use Rattle.constraints.specs.Scalars.{Scalars}
 use Rattle.constraints.specs.Values.{isEmpty}

@@ -10,7 +10,7 @@ use Rattle.checking.proofs.Accepted.{checked}
 use Rattle.checking.specs.declared.check.CheckAnswer.the-variants as check
 use Rattle.truth.specs.AExpr.{AExpr, Literal, WF}
 use Rattle.truth.specs.Cell.{TruthKeys, truthOfValue}
-use Rattle.truth.specs.declared.logic.Truth.the-variants.{False}
+use Rattle.three_valued.specs.declared.logic.Truth.the-variants.{False}
 use Rattle.truth.specs.FromBytes.{truthKeys}
 use Rattle.constraints.proofs.Merges.{or-no}
 use Rattle.constraints.specs.Comparisons.{ColumnComparison}

@@ -10,7 +10,7 @@ use Rattle.truth.proofs.Cells.{cell-law}
 use Rattle.truth.specs.AExpr.{AExpr, BinaryExpr, Column, Inputs, IsBetween, IsIn, IsNotNull, IsNull, ListLiteral}
 use Rattle.truth.specs.AExpr.{Literal, Missing, Not, Null, WF}
 use Rattle.truth.specs.Cell.{Cell, TruthKeys, cellAt, step, truthAt, valueCell}
-use Rattle.truth.specs.declared.logic.Truth.the-variants.{True}
+use Rattle.three_valued.specs.declared.logic.Truth.the-variants.{True}
 use Rattle.constraints.specs.Scalars.{Scalars}
 use Rattle.merge.proofs.Complete.{isNothingPasses}
 use Rattle.merge.proofs.Passes.{eqb-self}

@@ -7,9 +7,9 @@ use mathlib.Core.Logic.{_↔_}
 use Prim.Native.Nat.{ℕ}
 use Rattle.truth.specs.AExpr.{AExpr, Inputs}
 use Rattle.truth.specs.Cell.{TruthKeys, truthAt}
-use Rattle.truth.specs.Logic.{isTrue}
-use Rattle.truth.specs.declared.logic.Truth.{Truth}
-use Rattle.truth.specs.declared.logic.Truth.the-variants.{False, True, Unknown}
+use Rattle.three_valued.specs.Logic.{isTrue}
+use Rattle.three_valued.specs.declared.logic.Truth.{Truth}
+use Rattle.three_valued.specs.declared.logic.Truth.the-variants.{False, True, Unknown}
 use Rattle.constraints.specs.Scalars.{Scalars}
 use Rattle.merge.proofs.Chains.{allTrue, holdsAt, minterms-true}
 use Rattle.merge.proofs.Complete.{ExactAll, isNothingPasses, nothing-exactly}

@@ -11,7 +11,7 @@ use lib.IntN.{ℤ}
 use lib.ListN.{length, getD}
 use Rattle.records.specs.Shape.{inType}
 use Rattle.truth.specs.Halves.{key}
-use Rattle.truth.specs.Logic.{isTrue}
+use Rattle.three_valued.specs.Logic.{isTrue}
 use Rattle.truth.specs.AExpr.{AExpr}
 use Rattle.truth.specs.FromBytes.{aexprAt, truthIn}
 use Rattle.merge.specs.declared.answer.RewriteAnswer.{RewriteAnswer}

@@ -7,7 +7,7 @@ use Prim.Native.Nat.{ℕ, _≤_}
 use Rattle.checking.specs.Check.{checkAnswer}
 use Rattle.checking.specs.Tree.{treeCount}
 use Rattle.checking.specs.declared.check.CheckAnswer.the-variants as check
-use Rattle.truth.specs.declared.logic.Truth.the-variants.{True}
+use Rattle.three_valued.specs.declared.logic.Truth.the-variants.{True}
 use Rattle.row_test.specs.declared.test.RowAnswer.{RowAnswer}
 use Rattle.row_test.specs.declared.test.RowAnswer.the-variants as row
 use Rattle.row_test.specs.RowTest.{testRowAnswer}

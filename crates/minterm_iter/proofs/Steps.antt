@@ -12,8 +12,8 @@ use Rattle.records.specs.Record.{node, recordAt}
 use Rattle.records.specs.declared.record.Node.{Node}
 use Rattle.truth.specs.AExpr.{AExpr, Inputs}
 use Rattle.merge.specs.Minterms.{minterms, pending}
-use Rattle.reading.specs.Walk.{walked, recordSides, firstOf, stackOf, InputsBelow}
-use Rattle.reading.proofs.Walks.{append-nil, first-more, first-length, first-none, turn-room}
+use Rattle.read_operands.specs.Walk.{walked, recordSides, firstOf, stackOf, InputsBelow}
+use Rattle.read_operands.proofs.Walks.{append-nil, first-more, first-length, first-none, turn-room}
 use Rattle.minterm_iter.specs.Iter.{stackIn, Walkable, Next, Taken}
 use Rattle.minterm_iter.specs.declared.Item.{Item}
 use Rattle.minterm_iter.specs.declared.Item.the-variants as item

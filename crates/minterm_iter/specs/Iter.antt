@@ -6,7 +6,7 @@ use Prim.Native.Nat.{ℕ, _+_, _≤_, _<_}
 use lib.ListN.{length, set}
 use Rattle.truth.specs.AExpr.{AExpr}
 use Rattle.merge.specs.Minterms.{pending}
-use Rattle.reading.specs.Walk.{walked, stackOf, InputsBelow}
+use Rattle.read_operands.specs.Walk.{walked, stackOf, InputsBelow}
 use Rattle.minterm_iter.specs.declared.Item.{Item}
 use Rattle.minterm_iter.specs.declared.Item.the-variants as item
 use Rattle.minterm_iter.specs.declared.Stack.{Stack}

@@ -7,10 +7,10 @@ ghost use Prim.Native.Nat.{ℕ, _≤_, min};
 ghost use lib.ListN.{length};
 ghost use Rattle.truth.specs.AExpr.{Inputs};
 ghost use Rattle.merge.specs.Minterms.{minterms};
-ghost use Rattle.reading.specs.Walk.{walked, firstOf, stackOf, InputsBelow};
+ghost use Rattle.read_operands.specs.Walk.{walked, firstOf, stackOf, InputsBelow};
 ghost use Rattle.minterm_iter.specs.Iter.{stackIn, Walkable, Next, Taken};
-use reading::minterms::Sides;
-use reading::minterms::sides_at;
+use read_operands::minterms::Sides;
+use read_operands::minterms::sides_at;
 use records::record::Node;
 
 /// `Option<Node>`; `Over` if the stack's 128 places do not suffice.

@@ -22,11 +22,11 @@ use Rattle.merge.proofs.PlainForms.{plain-same}
 use Rattle.merge.proofs.Forms.{read-ind}
 use Rattle.merge.proofs.Accepted.{binary-ind}
 use Rattle.truth.specs.declared.scalar.Scalar.{Scalar}
-use Rattle.reading.specs.Read.{conjunctIn, comparisonIn, saysIn}
-use Rattle.reading.specs.declared.classify.Says.{Says}
-use Rattle.reading.specs.declared.classify.Says.the-variants as says
-use Rattle.reading.specs.declared.classify.Conjunct as code
-use Rattle.reading.specs.declared.classify.Comparison.{Comparison}
+use Rattle.read_operands.specs.Read.{conjunctIn, comparisonIn, saysIn}
+use Rattle.read_operands.specs.declared.operands.Says.{Says}
+use Rattle.read_operands.specs.declared.operands.Says.the-variants as says
+use Rattle.read_operands.specs.declared.operands.Conjunct as code
+use Rattle.read_operands.specs.declared.operands.Comparison.{Comparison}
 use Rattle.plain.specs.Forms.{isNegation, saysSomething}
 
 abbrev pub isNot : AExpr ℕ → Bool

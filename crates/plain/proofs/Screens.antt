@@ -26,7 +26,7 @@ use Rattle.merge.specs.Minterms.{minterms}
 use Rattle.merge.specs.Classify.{classify}
 use Rattle.merge.specs.Plain.{readsStep, readsColumn, isNumberColumn, readsOnlyNumbers, plainConjunct, plainConjuncts, plainScreen}
 use Rattle.merge.proofs.Chains.{Below}
-use Rattle.reading.specs.Walk.{walked, firstOf}
+use Rattle.read_operands.specs.Walk.{walked, firstOf}
 use Rattle.stages.proofs.Screens.{minterms-walked, minterms-below, classify-used}
 use Rattle.plain.proofs.Readings.{isNot, readPlain, plain-read}
 

@@ -1,3 +1,0 @@
-pub mod Walks
-pub mod Classifying
-pub mod Reading

@@ -2,8 +2,8 @@
 use Prim.Native.Nat.{ℕ}
 use mir.Syntax.{w64}
 use mir.Val.{toZ}
-use Rattle.reading.specs.declared.classify.Comparison.{Comparison}
-use Rattle.reading.specs.Read.{comparisonIn}
+use Rattle.read_operands.specs.declared.operands.Comparison.{Comparison}
+use Rattle.read_operands.specs.Read.{comparisonIn}
 use Rattle.merge.specs.Reasons.{Reason}
 
 abbrev pub reasonIn : ℕ → Comparison → ℕ → ℕ → Reason

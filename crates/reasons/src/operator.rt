@@ -4,9 +4,9 @@ ghost use mathlib.Core.List.{[], _∷_, _++_};
 ghost use Prim.Native.Nat.{_+_, _≤_};
 ghost use lib.ListN.{length};
 ghost use Rattle.merge.specs.Write.{splice};
-ghost use Rattle.reading.specs.Read.{comparisonIn};
+ghost use Rattle.read_operands.specs.Read.{comparisonIn};
 ghost use Rattle.reasons.specs.Text.{operatorName};
-use reading::classify::Comparison;
+use read_operands::operands::Comparison;
 
 /// How many bytes the operator's name has.
 pub fn operator_length(k: Comparison) -> usize

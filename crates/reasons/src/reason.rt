@@ -11,7 +11,7 @@ use crate::number::write_number;
 use crate::number::write_signed;
 use crate::operator::operator_length;
 use crate::operator::write_operator;
-use reading::classify::Comparison;
+use read_operands::operands::Comparison;
 use records::record::Column;
 use truth::scalar::Scalar;
 

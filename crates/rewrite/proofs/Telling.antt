@@ -18,16 +18,16 @@ use Rattle.records.proofs.Laws.{by-test, and-left, and-right}
 use Rattle.truth.specs.Comparison as truth
 use Rattle.truth.specs.FromBytes.{valuesFrom, aexprOf}
 use Rattle.constraints.specs.Column.{Constraint, Lower, Upper, Exclude, Allow, Disallow, Require}
-use Rattle.columns.specs.Abstraction.{Conjuncts, conjuncts, listOf, marked, Fine}
+use Rattle.column_constraints.specs.Abstraction.{Conjuncts, conjuncts, listOf, marked, Fine}
 use Rattle.merge.specs.Classify as c
-use Rattle.reading.specs.Read.{saysIn, conjunctIn}
+use Rattle.read_operands.specs.Read.{saysIn, conjunctIn}
 use Rattle.rewrite.specs.Told.{saidBy, kindOf, literalOf, startOf, countOf, Holds, Told, ToldConjunct}
-use Rattle.reading.specs.declared.classify.Comparison.the-variants.{Eq, NotEq, Lt, LtEq, Gt, GtEq}
-use Rattle.reading.specs.declared.classify.Says.{Says}
-use Rattle.reading.specs.declared.classify.Says.the-variants as says
-use Rattle.reading.specs.declared.classify.Conjunct.{Conjunct}
-use Rattle.reading.specs.declared.classify.Conjunct.the-variants as conjunct
-use Rattle.reading.proofs.Reading.{binary-read}
+use Rattle.read_operands.specs.declared.operands.Comparison.the-variants.{Eq, NotEq, Lt, LtEq, Gt, GtEq}
+use Rattle.read_operands.specs.declared.operands.Says.{Says}
+use Rattle.read_operands.specs.declared.operands.Says.the-variants as says
+use Rattle.read_operands.specs.declared.operands.Conjunct.{Conjunct}
+use Rattle.read_operands.specs.declared.operands.Conjunct.the-variants as conjunct
+use Rattle.read_operands.proofs.Reading.{binary-read}
 
 list-told : (ss cs p : List ℕ) (j start count : ℕ) → getD ss j 0 ≡ start → getD cs j 0 ≡ count
     → listOf ss cs p j ≡ valuesFrom p start count

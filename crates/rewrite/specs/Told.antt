@@ -5,14 +5,14 @@ use mathlib.Core.List.{List, [], _∷_}
 use Prim.Native.Nat.{ℕ}
 use lib.ListN.{getD}
 use Rattle.constraints.specs.Column.{Constraint, Lower, Upper, Exclude, Allow, Disallow, Require}
-use Rattle.columns.specs.Abstraction.{Conjuncts, listOf}
+use Rattle.column_constraints.specs.Abstraction.{Conjuncts, listOf}
 use Rattle.merge.specs.Classify as c
-use Rattle.reading.specs.declared.classify.Comparison.{Comparison}
-use Rattle.reading.specs.declared.classify.Comparison.the-variants.{Eq, NotEq, Lt, LtEq, Gt, GtEq}
-use Rattle.reading.specs.declared.classify.Says.{Says}
-use Rattle.reading.specs.declared.classify.Says.the-variants as says
-use Rattle.reading.specs.declared.classify.Conjunct.{Conjunct}
-use Rattle.reading.specs.declared.classify.Conjunct.the-variants as conjunct
+use Rattle.read_operands.specs.declared.operands.Comparison.{Comparison}
+use Rattle.read_operands.specs.declared.operands.Comparison.the-variants.{Eq, NotEq, Lt, LtEq, Gt, GtEq}
+use Rattle.read_operands.specs.declared.operands.Says.{Says}
+use Rattle.read_operands.specs.declared.operands.Says.the-variants as says
+use Rattle.read_operands.specs.declared.operands.Conjunct.{Conjunct}
+use Rattle.read_operands.specs.declared.operands.Conjunct.the-variants as conjunct
 
 -- What a conjunct says of its column, if it has one.
 abbrev pub saidBy : Conjunct → Says

@@ -6,13 +6,13 @@ ghost use mathlib.Core.List.{List};
 ghost use Prim.Native.Nat.{ℕ, _≤_, _<_};
 ghost use lib.ListN.{length, getD};
 ghost use Rattle.truth.specs.FromBytes.{aexprOf};
-ghost use Rattle.columns.specs.Abstraction.{Conjuncts, conjuncts};
+ghost use Rattle.column_constraints.specs.Abstraction.{Conjuncts, conjuncts};
 ghost use Rattle.merge.specs.Classify as c;
 ghost use Rattle.rewrite.specs.Told.{saidBy, comparisonKind, kindOf, literalOf, startOf, countOf};
 ghost use Rattle.rewrite.specs.Told.{ToldConjunct};
-use reading::classify::Comparison;
-use reading::classify::Conjunct;
-use reading::classify::Says;
+use read_operands::operands::Comparison;
+use read_operands::operands::Conjunct;
+use read_operands::operands::Says;
 use reading::classify::classify;
 use records::record::Node;
 

@@ -11,7 +11,7 @@ use borrow.Author.Tests.{lt-ltb, le-ltb, eq-eqb, ne-eqb, eqb-true}
 use Rattle.checking.specs.Tree.{treeCount}
 use Rattle.checking.specs.Checked.{Checked}
 use Rattle.checking.proofs.Accepted.{checked-used}
-use Rattle.truth.specs.declared.logic.Truth.{Truth}
+use Rattle.three_valued.specs.declared.logic.Truth.{Truth}
 use Rattle.row_test.specs.declared.test.RowAnswer.{RowAnswer}
 use Rattle.row_test.specs.declared.test.RowAnswer.the-variants.{Refused, Tested}
 use Rattle.truth.specs.Halves.{ordZ, key}

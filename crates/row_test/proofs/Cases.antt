@@ -15,7 +15,7 @@ use Rattle.record_check.specs.Fit.{allFit, listOk, reachOk, servedOk, typeOf, t
 use Rattle.record_check.specs.Fit.{memberFits, typesOk}
 use Rattle.checking.specs.Check.{typesKnown, tableOk, sizesOk, meaningFault, recordFault, firstFault, recordsAnswer}
 use Rattle.checking.specs.Check.{checkAnswer}
-use Rattle.truth.specs.declared.logic.Truth.the-variants.{False, Unknown, True}
+use Rattle.three_valued.specs.declared.logic.Truth.the-variants.{False, Unknown, True}
 use Rattle.row_test.specs.declared.test.RowAnswer.{RowAnswer}
 use Rattle.row_test.specs.declared.test.RowAnswer.the-variants.{Refused, Tested}
 use Rattle.truth.specs.FromBytes.{valuesFrom, aexprOf, aexprAt, rowKeys}

@@ -20,9 +20,9 @@ use Rattle.records.specs.declared.record.Node.{Node}
 use Rattle.records.specs.declared.record.Fields.{Fields}
 use Rattle.records.specs.declared.record.Record.{Record}
 use Rattle.records.specs.declared.record.Record.the-variants as kind
-use Rattle.truth.specs.declared.logic.Truth.{Truth}
+use Rattle.three_valued.specs.declared.logic.Truth.{Truth}
 use Rattle.truth.specs.Halves.{ordZ, key}
-use Rattle.truth.specs.Logic.{not3, ofBool}
+use Rattle.three_valued.specs.Logic.{not3, ofBool}
 use Rattle.truth.specs.AExpr.{AExpr, BinaryExpr, Not, IsNull, IsNotNull, IsBetween, ListLiteral, IsIn, Inputs}
 use Rattle.truth.specs.Cell.{Cell, step, cellAt}
 use Rattle.truth.specs.FromBytes.{binaryExpr, closesLow, closesHigh, valuesFrom, toAExpr, aexprOf, rowKeys}

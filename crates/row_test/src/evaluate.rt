@@ -3,12 +3,12 @@
 // Inputs are below their record, so the record number falls from each record to its inputs. Nothing is checked here.
 ghost use mathlib.Core.Path.{_≡_};
 ghost use Rattle.truth.specs.Evaluate.{keyed, rowTruth, rowValue, Evaluable};
+use membership::member::member;
 use records::record::Node;
 use records::record::fields_in;
-use truth::logic::Truth;
-use truth::logic::not_of;
-use truth::logic::truth_of_bool;
-use truth::member::member;
+use three_valued::logic::Truth;
+use three_valued::logic::not_of;
+use three_valued::logic::truth_of_bool;
 use truth::read::leaf_value;
 use truth::value::Value;
 use truth::value::between;

@@ -10,7 +10,7 @@ use crate::row::row_fault;
 use checking::check::CheckAnswer;
 use checking::check::check_counted;
 use records::record::Node;
-use truth::logic::Truth;
+use three_valued::logic::Truth;
 
 // A refusal with its number, or what the row makes of the screen.
 pub enum RowAnswer {

@@ -11,21 +11,14 @@ ghost use Rattle.merge.specs.Minterms.{minterms};
 ghost use Rattle.merge.specs.Passes.{rewritePasses};
 ghost use Rattle.reasons.specs.Explained.{explainedAnswer, explainedBytes, explainedText, textIf, lengthIf};
 ghost use Rattle.merge.specs.declared.answer.RewriteAnswer.the-variants as answer;
-ghost use Rattle.reading.specs.Walk.{walked, firstOf};
-
-pub mod far;
-pub mod indexed;
-
-use crate::far::travels_far;
-use crate::indexed::merge_indexed;
 use checking::check::CheckAnswer;
 use checking::check::check_counted;
-use filter_constraint::merging::merge_filter_constraints;
 use merge::answer::RewriteAnswer;
 use merge::answer::Rewriting;
+use merge_conjuncts::sized::merge_few;
+use merge_conjuncts::sized::merge_many;
 use minterm_iter::minterms;
 use records::record::Node;
-use rewrite::literals::read_literals;
 
 fn refused(number: u32) -> Rewriting
     ensures { λ r. ⌜ r .answer ≡ answer.Refused number ⌝ }
@@ -36,161 +29,6 @@ fn refused(number: u32) -> Rewriting
         passes: 0,
         length: 0,
     }
-}
-
-// The merging of the first n nodes, the conjuncts of an accepted screen. Most screens have few: then the tables and rows for
-// 128 need not be cleared. The index of the lists has a frame of its own, which the compiler keeps apart because two functions
-// call it: a frame so large costs time even where it is not used.
-fn merge_few(
-    t: &[u8],
-    rs: &mut [u8],
-    p: &[u8],
-    used: u32,
-    root: Node,
-    trees: &[u16],
-    nodes: &[u32],
-    n: usize,
-    reasons: &mut [u8],
-) -> Rewriting
-    requires accepted { ⌜ checkAnswer (now t) (now rs) (now p) used (root .0) ≡ check.Accepted ⌝ }
-    requires counted { ⌜ ((a : ℕ) → a ≤ root .0 → getD (now trees) a 0 ≡ min (treeCount (now rs) a) 4097) ⌝ }
-    requires small { ⌜ treeCount (now rs) (root .0) ≤ 4096 ⌝ }
-    requires walked { ⌜ firstOf (now nodes) n ≡ minterms (walked (now rs)) (root .0) ⌝ }
-    requires there { ⌜ (n ≤ 16) × (n ≤ length (now nodes)) ⌝ }
-    ensures answer { λ r. ⌜ r .answer ≡ explainedAnswer (now (t .entry)) (now (rs .entry)) (now (p .entry)) used (root .0)
-        (length (now (reasons .entry))) ⌝ }
-    ensures bytes { λ _. ⌜ now (rs .exit) ≡ explainedBytes (now (t .entry)) (now (rs .entry)) (now (p .entry)) used
-        (root .0) (length (now (reasons .entry))) ⌝ }
-    ensures passes { λ r. ⌜ (isRefused (r .answer) ≡ false → r .passes ≡ rewritePasses (now (rs .entry))
-        (now (p .entry)) used (root .0)) ⌝ }
-    ensures text { λ r. ⌜ now (reasons .exit) ≡ textIf (r .answer) (now (reasons .entry))
-        (explainedText (now (rs .entry)) (now (p .entry)) used (root .0)) ⌝ }
-    ensures length { λ r. ⌜ r .length ≡ lengthIf (r .answer) (explainedText (now (rs .entry)) (now (p .entry)) used (root .0)) ⌝ }
-{
-    let mut kinds = [0u8; 16];
-    let mut values = [0u64; 16];
-    let mut starts = [0u32; 16];
-    let mut counts = [0u32; 16];
-    let mut marks = [0u8; 1024];
-    let none = [0u64; 1];
-    read_literals(
-        rs,
-        nodes,
-        n,
-        &mut kinds,
-        &mut values,
-        &mut starts,
-        &mut counts,
-    );
-    if travels_far(rs, nodes, n, &starts, &counts) {
-        return merge_indexed(
-            t,
-            rs,
-            p,
-            used,
-            trees,
-            nodes,
-            n,
-            &kinds,
-            &values,
-            &starts,
-            &counts,
-            &mut marks,
-            reasons,
-        );
-    }
-    merge_filter_constraints(
-        t,
-        rs,
-        p,
-        used,
-        trees,
-        nodes,
-        n,
-        &kinds,
-        &values,
-        &starts,
-        &counts,
-        &none,
-        &mut marks,
-        reasons,
-    )
-}
-
-fn merge_many(
-    t: &[u8],
-    rs: &mut [u8],
-    p: &[u8],
-    used: u32,
-    root: Node,
-    trees: &[u16],
-    nodes: &[u32],
-    n: usize,
-    reasons: &mut [u8],
-) -> Rewriting
-    requires accepted { ⌜ checkAnswer (now t) (now rs) (now p) used (root .0) ≡ check.Accepted ⌝ }
-    requires counted { ⌜ ((a : ℕ) → a ≤ root .0 → getD (now trees) a 0 ≡ min (treeCount (now rs) a) 4097) ⌝ }
-    requires small { ⌜ treeCount (now rs) (root .0) ≤ 4096 ⌝ }
-    requires walked { ⌜ firstOf (now nodes) n ≡ minterms (walked (now rs)) (root .0) ⌝ }
-    requires there { ⌜ (n ≤ 128) × (n ≤ length (now nodes)) ⌝ }
-    ensures answer { λ r. ⌜ r .answer ≡ explainedAnswer (now (t .entry)) (now (rs .entry)) (now (p .entry)) used (root .0)
-        (length (now (reasons .entry))) ⌝ }
-    ensures bytes { λ _. ⌜ now (rs .exit) ≡ explainedBytes (now (t .entry)) (now (rs .entry)) (now (p .entry)) used
-        (root .0) (length (now (reasons .entry))) ⌝ }
-    ensures passes { λ r. ⌜ (isRefused (r .answer) ≡ false → r .passes ≡ rewritePasses (now (rs .entry))
-        (now (p .entry)) used (root .0)) ⌝ }
-    ensures text { λ r. ⌜ now (reasons .exit) ≡ textIf (r .answer) (now (reasons .entry))
-        (explainedText (now (rs .entry)) (now (p .entry)) used (root .0)) ⌝ }
-    ensures length { λ r. ⌜ r .length ≡ lengthIf (r .answer) (explainedText (now (rs .entry)) (now (p .entry)) used (root .0)) ⌝ }
-{
-    let mut kinds = [0u8; 128];
-    let mut values = [0u64; 128];
-    let mut starts = [0u32; 128];
-    let mut counts = [0u32; 128];
-    let mut marks = [0u8; 8192];
-    let none = [0u64; 1];
-    read_literals(
-        rs,
-        nodes,
-        n,
-        &mut kinds,
-        &mut values,
-        &mut starts,
-        &mut counts,
-    );
-    if travels_far(rs, nodes, n, &starts, &counts) {
-        return merge_indexed(
-            t,
-            rs,
-            p,
-            used,
-            trees,
-            nodes,
-            n,
-            &kinds,
-            &values,
-            &starts,
-            &counts,
-            &mut marks,
-            reasons,
-        );
-    }
-    merge_filter_constraints(
-        t,
-        rs,
-        p,
-        used,
-        trees,
-        nodes,
-        n,
-        &kinds,
-        &values,
-        &starts,
-        &counts,
-        &none,
-        &mut marks,
-        reasons,
-    )
 }
 
 // An accepted screen with a tree of at most 4,096 records: 9, then the merging of its conjuncts. `trees` has the tree

@@ -12,8 +12,8 @@ use Rattle.checking.specs.Tree.{treeCount}
 use Rattle.checking.specs.declared.check.CheckAnswer.{CheckAnswer}
 use Rattle.checking.specs.declared.check.CheckAnswer.the-variants as check
 use Rattle.checking.proofs.Answers.{refused-numbered}
-use Rattle.truth.specs.declared.logic.Truth.{Truth}
-use Rattle.truth.specs.declared.logic.Truth.the-variants.{False, Unknown, True}
+use Rattle.three_valued.specs.declared.logic.Truth.{Truth}
+use Rattle.three_valued.specs.declared.logic.Truth.the-variants.{False, Unknown, True}
 use Rattle.row_test.specs.declared.test.RowAnswer.{RowAnswer}
 use Rattle.row_test.specs.declared.test.RowAnswer.the-variants as row
 use Rattle.truth.specs.FromBytes.{aexprAt, rowKeys, truthIn}

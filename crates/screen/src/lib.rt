@@ -33,7 +33,7 @@ use row_test::test::test_row;
 use rule::rewrite_screen;
 use slowest::build::SlowestAnswer;
 use slowest::build::build_slowest;
-use truth::logic::Truth;
+use three_valued::logic::Truth;
 
 // Below 256: the refusal's number. 256: accepted.
 #[no_mangle]

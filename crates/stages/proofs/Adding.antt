@@ -3,7 +3,7 @@ use mathlib.Core.Path.{_≡_}
 use mathlib.Core.List.{List, []}
 use Prim.Native.Nat.{ℕ}
 use Rattle.truth.specs.Comparison.{Comparison, Eq, NotEq, Lt, LtEq, Gt, GtEq}
-use Rattle.columns.specs.Abstraction.{Conjuncts, conjuncts, Fine}
+use Rattle.column_constraints.specs.Abstraction.{Conjuncts, conjuncts, Fine}
 use Rattle.merge.specs.Classify.{comparisonConstraints}
 use Rattle.rewrite.specs.Told.{Told}
 

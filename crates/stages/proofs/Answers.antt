@@ -20,8 +20,8 @@ use Rattle.merge.specs.Emit.{Outcome, mergeFilterConstraints}
 use Rattle.merge.specs.Write.{outcomeBytes}
 use Rattle.merge.specs.Rewrite.{outcomeOf, outcomeAnswer, rewriteChecked, rewriteIf, rewriteAnswer, writtenIf}
 use Rattle.merge.specs.Rewrite.{rewriteBytes}
-use Rattle.reading.specs.Walk.{walked}
-use Rattle.stages.specs.Reckon.{reckonedUsed, reckonedRoot, reckonedTree, roomFor, reckoned, reckonedAnswer}
+use Rattle.read_operands.specs.Walk.{walked}
+use Rattle.reckoning.specs.Reckon.{reckonedUsed, reckonedRoot, reckonedTree, roomFor, reckoned, reckonedAnswer}
 use Rattle.stages.specs.Rewritten.{isRewritten}
 use Rattle.stages.proofs.Screens.{minterms-walked, conjuncts-used}
 use Rattle.stages.proofs.Reckons.{reckoned-answer}

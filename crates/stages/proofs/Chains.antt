@@ -15,9 +15,9 @@ use Rattle.merge.specs.Emit.{Rebuilt}
 use Rattle.merge.specs.Rebuild.{comparisonNodes}
 use Rattle.merge.specs.Write.{writeComparisons, foldBytes, outcomeBytes}
 use Rattle.merge.proofs.Trees.{comparisons-count}
-use Rattle.reading.specs.Walk.{firstOf}
+use Rattle.read_operands.specs.Walk.{firstOf}
 use Rattle.rewrite.specs.Written.{chainAt, andsTo}
-use Rattle.reading.proofs.Walks.{first-length}
+use Rattle.read_operands.proofs.Walks.{first-length}
 use Rattle.rewrite.proofs.Writing.{fold-law}
 
 -- One node a comparison.

@@ -7,11 +7,11 @@ use native.Mathlib.Numerals.{add-one}
 use lib.ListN.{length, length-append}
 use Rattle.constraints.specs.Comparisons.{ColumnComparison, collectColumnComparisons}
 use Rattle.constraints.specs.Lined.{Lined, lined}
-use Rattle.columns.specs.Abstraction.{Conjuncts, columnOf, comparedOf}
-use Rattle.columns.specs.Steps.{placed, placedTo}
-use Rattle.columns.specs.Abstraction.{Numbered}
-use Rattle.columns.specs.declared.comparisons.Compared.{Compared}
-use Rattle.columns.specs.declared.comparisons.Compared.the-variants as place
+use Rattle.column_constraints.specs.Abstraction.{Conjuncts, columnOf, comparedOf}
+use Rattle.column_constraints.specs.Steps.{placed, placedTo}
+use Rattle.column_constraints.specs.Abstraction.{Numbered}
+use Rattle.column_constraints.specs.declared.column.Compared.{Compared}
+use Rattle.column_constraints.specs.declared.column.Compared.the-variants as place
 use Rattle.columns.proofs.Written.{places-law}
 use Rattle.constraints.specs.Mapped.{mapComparison}
 use Rattle.merge.specs.Emit.{ofColumn}

@@ -15,10 +15,10 @@ use Rattle.constraints.specs.Column.{common, mergeFrom, mergeEmitted, mergeAny}
 use Rattle.constraints.specs.Column as q
 use Rattle.constraints.specs.Lined.{Lined, lined}
 use Rattle.constraints.specs.Values.{extend}
-use Rattle.columns.specs.Abstraction.{Conjuncts, numbered, columnOf, ofKind, literalAt, valuesOf, Fine}
-use Rattle.columns.specs.Abstraction.{excludedBy, allowedBy, disallowedBy}
-use Rattle.columns.specs.declared.column.ColumnConstraints.{ColumnConstraints}
-use Rattle.columns.proofs.Numbers.{gather-same, marked-same}
+use Rattle.column_constraints.specs.Abstraction.{Conjuncts, numbered, columnOf, ofKind, literalAt, valuesOf, Fine}
+use Rattle.column_constraints.specs.Abstraction.{excludedBy, allowedBy, disallowedBy}
+use Rattle.column_constraints.specs.declared.column.ColumnConstraints.{ColumnConstraints}
+use Rattle.column_sets.proofs.Numbers.{gather-same, marked-same}
 use Rattle.stages.specs.Rows.{stride, rowOf, RowsKept}
 
 -- The elements from a on, k of them, replaced by ys.

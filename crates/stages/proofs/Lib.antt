@@ -3,6 +3,5 @@ pub mod Answers
 pub mod Chains
 pub mod Emitting
 pub mod Lending
-pub mod Reckoning
 pub mod Reckons
 pub mod Screens

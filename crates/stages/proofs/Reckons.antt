@@ -40,8 +40,8 @@ use Rattle.merge.proofs.Literals.{WrittenP, OutcomeP}
 use Rattle.merge.proofs.RebuiltBytes.{Long, Fit}
 use Rattle.merge.proofs.Returned.{AnswerLt, answer-lt}
 use Rattle.merge.proofs.Trees.{rebuilt-tree, comparisons-count, used-count}
-use Rattle.stages.specs.Reckon.{added, reckonedUsed, reckonedRoot, reckonedTree, roomFor}
-use Rattle.stages.specs.Reckon.{reckoned, reckonedAnswer}
+use Rattle.reckoning.specs.Reckon.{added, reckonedUsed, reckonedRoot, reckonedTree, roomFor}
+use Rattle.reckoning.specs.Reckon.{reckoned, reckonedAnswer}
 use Rattle.stages.specs.Rewritten.{isRewritten}
 use Rattle.stages.proofs.Chains.{nodes-length, chain-length, empty-not}
 use Rattle.stages.proofs.Screens.{AnyValue, table-below}

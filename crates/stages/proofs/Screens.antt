@@ -28,8 +28,8 @@ use Rattle.merge.proofs.Chains.{Below, below-more, below-app, minterms-low}
 use Rattle.merge.proofs.Forms.{Forms, classify-ind}
 use Rattle.merge.proofs.Fitting.{AExprP}
 use Rattle.merge.proofs.Accepted.{inputs-fall}
-use Rattle.reading.specs.Walk.{walked, firstOf}
-use Rattle.reading.proofs.Walks.{walked-minterms, first-length}
+use Rattle.read_operands.specs.Walk.{walked, firstOf}
+use Rattle.read_operands.proofs.Walks.{walked-minterms, first-length}
 use Rattle.stages.specs.Columns.{ColumnsBelow}
 
 -- Inputs do not depend on the pool.

@@ -1,4 +1,3 @@
 pub mod Columns
-pub mod Reckon
 pub mod Rewritten
 pub mod Rows

@@ -2,10 +2,9 @@
 // add: what a conjunct says, taken into its column;
 // emit: the comparisons of a resolved column, written out;
 // fields: small steps;
-// reckon: number 11 and the answer, before a byte is written;
 // rows: the calls of the merging that a column's numbers are lent to.
+// Number 11 and the answer are crate `reckoning`.
 pub mod add;
 pub mod emit;
 pub mod fields;
-pub mod reckon;
 pub mod rows;

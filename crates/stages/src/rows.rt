@@ -9,24 +9,24 @@ ghost use Rattle.constraints.specs.Comparisons.{collectColumnComparisons};
 ghost use Rattle.constraints.specs.Lined.{Lined, onLine, lined};
 ghost use Rattle.constraints.specs.Mapped.{mapConstraint};
 ghost use Rattle.constraints.specs.Resolve.{resolveDeferred};
-ghost use Rattle.columns.specs.Abstraction.{Conjuncts, conjuncts, numbered, columnOf, Fine};
-ghost use Rattle.columns.specs.Index.{Indexed};
+ghost use Rattle.column_constraints.specs.Abstraction.{Conjuncts, conjuncts, numbered, columnOf, Fine};
+ghost use Rattle.column_sets.specs.Index.{Indexed};
 ghost use Rattle.merge.specs.Emit.{ofColumn};
 ghost use Rattle.merge.specs.Lines.{mapComparisons};
 ghost use Rattle.merge.specs.Write.{writeComparisons};
-ghost use Rattle.reading.specs.Read.{saysIn};
+ghost use Rattle.read_operands.specs.Read.{saysIn};
 ghost use Rattle.rewrite.specs.Told.{Told};
 ghost use Rattle.stages.specs.Rows.{stride, rowOf, RowsKept};
 use crate::add::add_says;
 use crate::emit::write_column;
-use columns::column::ColumnConstraints;
+use column_constraints::column::ColumnConstraints;
+use column_constraints::column::Merged;
+use column_sets::marks::copied;
 use columns::comparisons::comparison_count;
-use columns::marks::copied;
-use columns::merging::Merged;
 use columns::merging::merge_from;
-use columns::resolve::resolve_deferred;
-use reading::classify::Says;
+use read_operands::operands::Says;
 use records::record::Column;
+use resolve_deferred::resolve::resolve_deferred;
 
 /// What conjunct j says of the column c in row x.
 pub fn add_in_row(

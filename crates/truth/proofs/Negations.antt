@@ -7,7 +7,7 @@ use Rattle.records.specs.declared.operator.Operator.the-variants as operator
 use Rattle.truth.specs.declared.scalar.Ordering.{Ordering}
 use Rattle.truth.specs.Order.{Order, isEqual, isLess, isGreater}
 use Rattle.truth.specs.Comparison.{Comparison, Eq, NotEq, Lt, LtEq, Gt, GtEq, comparisonHolds}
-use Rattle.truth.specs.Logic.{not3, ofBool}
+use Rattle.three_valued.specs.Logic.{not3, ofBool}
 use Rattle.truth.specs.Cell.{TruthKeys, compare3, sameValue}
 use Rattle.truth.specs.Negation.{NegateIsNot}
 

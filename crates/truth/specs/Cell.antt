@@ -6,11 +6,11 @@ use mathlib.Core.List.{List, []}
 use mathlib.Core.Option.{Option, none, some}
 use Prim.Native.Nat.{ℕ}
 use Rattle.records.specs.Course.{course}
-use Rattle.truth.specs.declared.logic.Truth.{Truth}
-use Rattle.truth.specs.declared.logic.Truth.the-variants.{False, Unknown, True}
+use Rattle.three_valued.specs.declared.logic.Truth.{Truth}
+use Rattle.three_valued.specs.declared.logic.Truth.the-variants.{False, Unknown, True}
 use Rattle.truth.specs.Order.{Order, isEqual}
 use Rattle.truth.specs.Comparison.{Comparison, Lt, LtEq, Gt, GtEq, comparisonHolds}
-use Rattle.truth.specs.Logic.{and3, or3, xor3, not3, ofBool}
+use Rattle.three_valued.specs.Logic.{and3, or3, xor3, not3, ofBool}
 use Rattle.truth.specs.AExpr.{AExpr, Column, Literal, Null, BinaryExpr, Not, IsNull, IsNotNull, IsBetween}
 use Rattle.truth.specs.AExpr.{ListLiteral, IsIn, Missing}
 use Rattle.truth.specs.AExpr.{BinaryOp, Compare, EqValidity, NotEqValidity, FloorDivide, Modulus, And, Or, Xor}

@@ -15,12 +15,12 @@ use Rattle.records.specs.declared.record.Fields.{Fields}
 use Rattle.division.specs.declared.divide.Division.{Division}
 use Rattle.division.specs.declared.divide.Division.the-variants as quotient
 use Rattle.truth.specs.declared.scalar.Scalar.{Scalar}
-use Rattle.truth.specs.declared.logic.Truth.{Truth}
+use Rattle.three_valued.specs.declared.logic.Truth.{Truth}
 use Rattle.truth.specs.declared.value.Value.{Value}
 use Rattle.truth.specs.declared.value.Value.the-variants as value
 use Rattle.truth.specs.Halves.{ordZ, key, floorDivideKeys, modulusKeys}
 use Rattle.truth.specs.Comparison.{Comparison, Eq, NotEq, Lt, LtEq, Gt, GtEq}
-use Rattle.truth.specs.Logic.{and3, or3, xor3, ofBool}
+use Rattle.three_valued.specs.Logic.{and3, or3, xor3, ofBool}
 use Rattle.truth.specs.AExpr.{Inputs}
 use Rattle.truth.specs.Membership.{mem, in3}
 use Rattle.truth.specs.Cell.{isNull, valueOfTruth, truthOfValue, compare3, sameValue, divided}

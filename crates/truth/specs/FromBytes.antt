@@ -15,7 +15,7 @@ use Rattle.records.specs.declared.record.ClosedInterval.{ClosedInterval}
 use Rattle.records.specs.declared.record.ClosedInterval.the-variants as closed
 use Rattle.records.specs.declared.record.Record.{Record}
 use Rattle.records.specs.declared.record.Record.the-variants as kind
-use Rattle.truth.specs.declared.logic.Truth.{Truth}
+use Rattle.three_valued.specs.declared.logic.Truth.{Truth}
 use Rattle.truth.specs.Halves.{ordZ, key, floorDivideKeys, modulusKeys}
 use Rattle.truth.specs.Comparison.{Comparison, Eq, NotEq, Lt, LtEq, Gt, GtEq}
 use Rattle.truth.specs.AExpr.{AExpr, Column, Literal, Null, BinaryExpr, Not, IsNull, IsNotNull, IsBetween}

@@ -1,7 +1,6 @@
 pub mod Order
 pub mod Halves
 pub mod Comparison
-pub mod Logic
 pub mod AExpr
 pub mod Membership
 pub mod Cell

@@ -2,10 +2,10 @@
 use mathlib.Core.Bool.{Bool, true, false, cond, not, _&&_, _||_}
 use mathlib.Core.List.{List, [], _∷_}
 use mathlib.Core.Option.{Option, none, some}
-use Rattle.truth.specs.declared.logic.Truth.{Truth}
-use Rattle.truth.specs.declared.logic.Truth.the-variants.{False, Unknown, True}
+use Rattle.three_valued.specs.declared.logic.Truth.{Truth}
+use Rattle.three_valued.specs.declared.logic.Truth.the-variants.{False, Unknown, True}
 use Rattle.truth.specs.Order.{Order, isEqual}
-use Rattle.truth.specs.Logic.{or3, ofBool}
+use Rattle.three_valued.specs.Logic.{or3, ofBool}
 
 module _ {K Val : Type 0} (key : Val → K) (O : Order K) where
   -- The entries of a list: its values, and a null where it holds one.

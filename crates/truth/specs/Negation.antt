@@ -7,7 +7,7 @@ use Rattle.records.specs.Operator.{isComparison, negate}
 use Rattle.records.specs.declared.operator.Operator.{Operator}
 use Rattle.records.specs.declared.operator.Negated.the-variants.{To}
 use Rattle.truth.specs.Order.{Order}
-use Rattle.truth.specs.Logic.{not3}
+use Rattle.three_valued.specs.Logic.{not3}
 use Rattle.truth.specs.Cell.{TruthKeys, Cell, step}
 use Rattle.truth.specs.FromBytes.{binaryExpr}
 

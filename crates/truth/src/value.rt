@@ -8,16 +8,16 @@ ghost use Rattle.truth.specs.Comparison.{comparisonHolds};
 ghost use Rattle.truth.specs.Evaluate.{keyed, comparing, same, nullTest, ofTruth, toTruth};
 ghost use Rattle.truth.specs.Evaluate.{comparisonAt, comparedOf, partOf, dividedOf, connectedOf, lowCode, highCode};
 ghost use Rattle.truth.specs.Evaluate.{betweenOf};
-use crate::logic::Truth;
-use crate::logic::and_of;
-use crate::logic::or_of;
-use crate::logic::truth_of_bool;
-use crate::logic::xor_of;
 use crate::scalar::Ordering;
 use crate::scalar::Scalar;
 use crate::scalar::scalar_cmp;
 use division::divide::Division;
 use division::divide::divide;
+use three_valued::logic::Truth;
+use three_valued::logic::and_of;
+use three_valued::logic::or_of;
+use three_valued::logic::truth_of_bool;
+use three_valued::logic::xor_of;
 
 pub enum Value {
     Null,

@@ -13,7 +13,7 @@ use lib.ListN.{length}
 use borrow.Author.Tests.{not-true, not-false}
 use Rattle.checking.proofs.Accepted.{checked, accepted-root}
 use Rattle.merge.specs.Minterms as mt
-use Rattle.reading.specs.Walk.{walked}
+use Rattle.read_operands.specs.Walk.{walked}
 use Rattle.stages.proofs.Screens.{walked-inputs}
 use Rattle.in_the_way.proofs.Answers.{way-9, way-17, table-few}
 

@@ -6,14 +6,14 @@ use Rattle.in_the_way.proofs.judge_plain.Lts as lts
 use Rattle.in_the_way.proofs.indexed.judge_indexed.Reads as judge-indexed-reads
 use Rattle.in_the_way.proofs.lines.judge_lines.Reads as judge-lines-reads
 use Rattle.rewrite.proofs.literals.read_literals.Reads as read-literals-reads
-use Rattle.rule.proofs.far.travels_far.Reads as travels-far-reads
+use Rattle.merge_conjuncts.proofs.far.travels_far.Reads as travels-far-reads
 use Prim.Native.Nat.{ℕ}
 use native.Mathlib.Omega.{arith}
 use lib.ListN.{length-replicate}
 use mathlib.Core.Path.{_∙_}
 use Rattle.checking.proofs.Accepted.{checked}
 use Rattle.stages.proofs.Screens.{node-columns}
-use Rattle.rule.proofs.Sizes.{no-index}
+use Rattle.merge_conjuncts.proofs.Sizes.{no-index}
 use Rattle.in_the_way.proofs.Answers.{zero-says, way-lines}
 
 -- src/lib.rt:58:9

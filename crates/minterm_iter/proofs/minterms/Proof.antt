@@ -66,7 +66,7 @@ use Rattle.records.proofs.record.Node as N
 use Rattle.records.proofs.record.Node.Laws as N′
 use Rattle.truth.specs.AExpr.{Inputs}
 use Rattle.merge.specs.Minterms.{minterms as conjuncts}
-use Rattle.reading.specs.Walk.{walked as expressions, firstOf}
+use Rattle.read_operands.specs.Walk.{walked as expressions, firstOf}
 use Rattle.minterm_iter.specs.Iter.{stackIn, Walkable, Next, Taken}
 use Rattle.minterm_iter.specs.declared.Item.{Item}
 use Rattle.minterm_iter.specs.declared.Found.{Found}

@@ -4,15 +4,15 @@ use Prim.Native.Nat.{_≤_, _<_}
 use native.Mathlib.Omega.{arith}
 use lib.ListN.{length, length-set}
 use Rattle.merge.specs.Minterms.{pending}
-use Rattle.reading.specs.Walk.{walked, stackOf, sidesIn, InputsBelow}
-use Rattle.reading.proofs.Walks.{left-below, turn-pending, turn-below, turn-one, top-pending, top-below}
+use Rattle.read_operands.specs.Walk.{walked, stackOf, sidesIn, InputsBelow}
+use Rattle.read_operands.proofs.Walks.{left-below, turn-pending, turn-below, turn-one, top-pending, top-below}
 use Rattle.minterm_iter.proofs.Steps.{step-none, step-over}
 use borrow.Author.Needs.{needs}
 use Rattle.minterm_iter.proofs.next_minterm.Statement.{statement}
 use Rattle.minterm_iter.proofs.next_minterm.Tie as tie
 use Rattle.minterm_iter.proofs.next_minterm.Reads as reads
 use Rattle.minterm_iter.proofs.next_minterm.Lts as lts
-use Rattle.reading.proofs.minterms.sides_at.Reads as sides-at-reads
+use Rattle.read_operands.proofs.minterms.sides_at.Reads as sides-at-reads
 
 abbrev Inv-loop : tie.InvT-loop
 Inv-loop rs stack₀ depth left₀ top₀ stack left top =

@@ -1,6 +1,6 @@
 use mathlib.Core.Path.{refl}
 use native.Mathlib.Omega.{arith}
-use Rattle.reading.specs.Walk.{stackOf}
+use Rattle.read_operands.specs.Walk.{stackOf}
 use borrow.Author.Needs.{needs}
 use Rattle.minterm_iter.proofs.rooted.Statement.{statement}
 use Rattle.minterm_iter.proofs.rooted.Tie as tie

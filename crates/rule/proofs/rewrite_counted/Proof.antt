@@ -4,8 +4,8 @@ use Rattle.rule.proofs.rewrite_counted.Tie as tie
 use Rattle.rule.proofs.rewrite_counted.Reads as reads
 use Rattle.rule.proofs.rewrite_counted.Lts as lts
 use Rattle.minterm_iter.proofs.minterms.Reads as minterms-reads
-use Rattle.rule.proofs.merge_few.Reads as merge-few-reads
-use Rattle.rule.proofs.merge_many.Reads as merge-many-reads
+use Rattle.merge_conjuncts.proofs.sized.merge_few.Reads as merge-few-reads
+use Rattle.merge_conjuncts.proofs.sized.merge_many.Reads as merge-many-reads
 use Rattle.rule.proofs.refused.Reads as refused-reads
 use mathlib.Core.Path.{_≡_, sym, _∙_}
 use Prim.Native.Nat.{_≤_, _<_}
@@ -13,16 +13,16 @@ use native.Mathlib.Omega.{arith}
 use lib.ListN.{length}
 use Rattle.checking.proofs.Accepted.{checked}
 use Rattle.merge.specs.Minterms as mt
-use Rattle.reading.specs.Walk.{walked}
-use Rattle.rule.proofs.Merged.{refused-explained}
+use Rattle.read_operands.specs.Walk.{walked}
+use Rattle.merge_conjuncts.proofs.Merged.{refused-explained}
 use Rattle.stages.proofs.Answers.{rewrite-9}
 use Rattle.stages.proofs.Screens.{walked-inputs}
 
--- src/lib.rt:221:32
+-- src/lib.rt:64:32
 slice-aggregate-minterms : tie.Need-slice-aggregate-minterms
 slice-aggregate-minterms c = search needs
 
--- src/lib.rt:221:9
+-- src/lib.rt:64:9
 minterms-requires : tie.Need-minterms-requires
 minterms-requires c κs =
     let st = c .before .before .before .before .before .before .before in
@@ -33,15 +33,15 @@ minterms-requires c κs =
       search needs,
     )
 
--- src/lib.rt:223:9
+-- src/lib.rt:66:9
 refused-requires : tie.Need-refused-requires
 refused-requires c κs = search needs
 
--- src/lib.rt:223:9
+-- src/lib.rt:66:9
 same-length : tie.Need-same-length
 same-length c = search needs
 
--- src/lib.rt:223:9
+-- src/lib.rt:66:9
 returns : tie.Need-returns
 returns c =
     let st = c .before .before .before .before .before .before .before .before .before .before .before in
@@ -58,11 +58,11 @@ returns c =
     refused-explained (st .args .t .now) (st .args .rs .now) (st .args .p .now) (st .args .used) (st .args .root
     .0) 9 (refused .result) (st .args .reasons .now) (refused .ensures .0) (refused .ensures .1) (h .0)
 
--- src/lib.rt:226:55
+-- src/lib.rt:69:55
 slice-aggregate-merge-few : tie.Need-slice-aggregate-merge-few
 slice-aggregate-merge-few c = search needs
 
--- src/lib.rt:226:9
+-- src/lib.rt:69:9
 merge-few-requires : tie.Need-merge-few-requires
 merge-few-requires c κs =
     let st = c .before .before .before .before .before .before .before .before .before .before .before .before
@@ -77,23 +77,23 @@ merge-few-requires c κs =
     ) in
     (st .pre .0, (st .pre .1 .0, (st .pre .1 .1, (minterms .ensures .1 few, (if2 .taken, search needs)))))
 
--- src/lib.rt:226:9
+-- src/lib.rt:69:9
 same-length-2 : tie.Need-same-length-2
 same-length-2 c = search needs
 
--- src/lib.rt:226:9
+-- src/lib.rt:69:9
 same-length-3 : tie.Need-same-length-3
 same-length-3 c = search needs
 
--- src/lib.rt:226:9
+-- src/lib.rt:69:9
 returns-2 : tie.Need-returns-2
 returns-2 c = search needs
 
--- src/lib.rt:228:45
+-- src/lib.rt:71:45
 slice-aggregate-merge-many : tie.Need-slice-aggregate-merge-many
 slice-aggregate-merge-many c = search needs
 
--- src/lib.rt:228:5
+-- src/lib.rt:71:5
 merge-many-requires : tie.Need-merge-many-requires
 merge-many-requires c κs =
     let st = c .before .before .before .before .before .before .before .before .before .before .before .before
@@ -121,15 +121,15 @@ merge-many-requires c κs =
       ),
     )
 
--- src/lib.rt:198:1
+-- src/lib.rt:41:1
 same-length-4 : tie.Need-same-length-4
 same-length-4 c = search needs
 
--- src/lib.rt:198:1
+-- src/lib.rt:41:1
 same-length-5 : tie.Need-same-length-5
 same-length-5 c = search needs
 
--- src/lib.rt:198:1
+-- src/lib.rt:41:1
 returns-3 : tie.Need-returns-3
 returns-3 c = search needs
 

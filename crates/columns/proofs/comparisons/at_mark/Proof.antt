@@ -3,19 +3,19 @@ use borrow.Author.Needs.{needs}
 use Rattle.columns.proofs.comparisons.at_mark.Statement.{statement}
 use Rattle.columns.proofs.comparisons.at_mark.Tie as tie
 
--- src/comparisons.rt:55:9
+-- src/comparisons.rt:45:9
 limit-at-requires : tie.Need-limit-at-requires
 limit-at-requires c κs = search needs
 
--- src/comparisons.rt:56:8
+-- src/comparisons.rt:46:8
 byte-requires : tie.Need-byte-requires
 byte-requires c κs = search needs
 
--- src/comparisons.rt:57:9
+-- src/comparisons.rt:47:9
 returns : tie.Need-returns
 returns c = search (flags, ← c .before .byte .ensures, ← c .before .before .limit-at .ensures)
 
--- src/comparisons.rt:52:1
+-- src/comparisons.rt:42:1
 returns-2 : tie.Need-returns-2
 returns-2 c = search (flags, ← c .before .byte .ensures, ← c .before .before .limit-at .ensures)
 

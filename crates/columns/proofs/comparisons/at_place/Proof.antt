@@ -9,22 +9,22 @@ use Rattle.columns.proofs.comparisons.at_upper.Reads as at-upper-reads
 use Rattle.records.proofs.bytes.byte.Reads as byte-reads
 use borrow.Author.Tests.{eq-eqb, ne-eqb}
 
--- src/comparisons.rt:71:9
+-- src/comparisons.rt:61:9
 at-lower-requires : tie.Need-at-lower-requires
 at-lower-requires c κs = search needs
 
--- src/comparisons.rt:71:9
+-- src/comparisons.rt:61:9
 returns : tie.Need-returns
 returns c =
     let if1 = c .before .if1 in
     let at-lower = c .at-lower in
     λ t e f. rw (at-lower .ensures, eq-eqb _ _ (if1 .taken))
 
--- src/comparisons.rt:75:9
+-- src/comparisons.rt:65:9
 at-upper-requires : tie.Need-at-upper-requires
 at-upper-requires c κs = search needs
 
--- src/comparisons.rt:75:9
+-- src/comparisons.rt:65:9
 returns-2 : tie.Need-returns-2
 returns-2 c =
     let if1 = c .before .before .if1 in
@@ -32,19 +32,19 @@ returns-2 c =
     let at-upper = c .at-upper in
     λ t e f. rw (at-upper .ensures, ne-eqb _ _ (if1 .left), eq-eqb _ _ (if2 .taken))
 
--- src/comparisons.rt:77:40
+-- src/comparisons.rt:67:40
 sub-byte : tie.Need-sub-byte
 sub-byte c = search needs
 
--- src/comparisons.rt:77:28
+-- src/comparisons.rt:67:28
 byte-requires : tie.Need-byte-requires
 byte-requires c κs = search needs
 
--- src/comparisons.rt:77:5
+-- src/comparisons.rt:67:5
 at-mark-requires : tie.Need-at-mark-requires
 at-mark-requires c κs = search needs
 
--- src/comparisons.rt:65:1
+-- src/comparisons.rt:55:1
 returns-3 : tie.Need-returns-3
 returns-3 c =
     let if1 = c .before .before .before .if1 in

@@ -3,48 +3,48 @@ use Rattle.columns.proofs.comparisons.comparison_count.Statement.{state
 use Rattle.columns.proofs.comparisons.comparison_count.Tie as tie
 use Rattle.columns.proofs.comparisons.comparison_count.Reads as reads
 use Rattle.columns.proofs.comparisons.comparison_count.Lts as lts
-use Rattle.columns.proofs.bound.is_absent.Reads as is-absent-reads
+use Rattle.column_constraints.proofs.bound.is_absent.Reads as is-absent-reads
 use Rattle.columns.proofs.comparisons.counted.Reads as counted-reads
 use Rattle.columns.proofs.comparisons.excluded_count.Reads as excluded-count-reads
-use Rattle.columns.proofs.resolve.fixed_value.Reads as fixed-value-reads
+use Rattle.resolve_deferred.proofs.resolve.fixed_value.Reads as fixed-value-reads
 use mathlib.Core.Bool.{not}
-use Rattle.columns.specs.Abstraction.{boundOf, excludedBy}
+use Rattle.column_constraints.specs.Abstraction.{boundOf, excludedBy}
 use mathlib.Core.Path.{sym}
 use Prim.Native.Nat.{_≤_, _-_}
 use native.Mathlib.Omega.{arith}
 use mathlib.Core.List.{[]}
 use Rattle.columns.proofs.Written.{count-few, count-le, count-law}
-use Rattle.columns.proofs.Pigeon.{few}
+use Rattle.column_constraints.proofs.Pigeon.{few}
 
--- src/comparisons.rt:131:9
+-- src/comparisons.rt:121:9
 fixed-value-requires : tie.Need-fixed-value-requires
 fixed-value-requires c κs = search needs
 
--- src/comparisons.rt:134:17
+-- src/comparisons.rt:124:17
 enum-told : tie.Need-enum-told
 enum-told c = search needs
 
--- src/comparisons.rt:134:17
+-- src/comparisons.rt:124:17
 excluded-count-requires : tie.Need-excluded-count-requires
 excluded-count-requires c κs = search needs
 
--- src/comparisons.rt:135:22
+-- src/comparisons.rt:125:22
 is-absent-requires : tie.Need-is-absent-requires
 is-absent-requires c κs = search needs
 
--- src/comparisons.rt:135:13
+-- src/comparisons.rt:125:13
 counted-requires : tie.Need-counted-requires
 counted-requires c κs = search needs
 
--- src/comparisons.rt:135:50
+-- src/comparisons.rt:125:50
 is-absent-requires-2 : tie.Need-is-absent-requires-2
 is-absent-requires-2 c κs = search needs
 
--- src/comparisons.rt:135:41
+-- src/comparisons.rt:125:41
 counted-requires-2 : tie.Need-counted-requires-2
 counted-requires-2 c κs = search needs
 
--- src/comparisons.rt:135:41
+-- src/comparisons.rt:125:41
 add-result : tie.Need-add-result
 add-result c =
     let st = c .before .before .before .before .before .before .before .before .before .before in
@@ -55,7 +55,7 @@ add-result c =
     let k : excluded-count .result ≤ st .args .c .len = rw (excluded-count .ensures []) (count-le _ [] _ _) in
     let g : st .args .c .len ≤ 128 = few _ _ _ (st .pre) in omega (arith, h, k, g)
 
--- src/comparisons.rt:135:13
+-- src/comparisons.rt:125:13
 add-result-2 : tie.Need-add-result-2
 add-result-2 c =
     let st = c .before .before .before .before .before .before .before .before .before .before in
@@ -69,11 +69,11 @@ add-result-2 c =
     let k : excluded-count .result ≤ st .args .c .len = rw (excluded-count .ensures []) (count-le _ [] _ _) in
     let g : st .args .c .len ≤ 128 = few _ _ _ (st .pre) in omega (arith, h, k, g, v)
 
--- src/comparisons.rt:137:30
+-- src/comparisons.rt:127:30
 enum-told-2 : tie.Need-enum-told-2
 enum-told-2 c = search needs
 
--- src/comparisons.rt:124:1
+-- src/comparisons.rt:114:1
 returns : tie.Need-returns
 returns c =
     let st = c .before .before .before .before .before .before .before .before .before .before in
@@ -98,7 +98,7 @@ returns c =
     (boundOf (st .args .c .lower)) (boundOf (st .args .c .upper)) (excludedBy (t .kinds) (t .values) (st .args
     .marks .now) (st .args .c .len))))
 
--- src/comparisons.rt:124:1
+-- src/comparisons.rt:114:1
 returns-2 : tie.Need-returns-2
 returns-2 c =
     let st = c .before .before .before .before .before in

@@ -2,7 +2,7 @@ use lib.Dec.{eqb}
 use mathlib.Core.Path.{_≡_, sym}
 use Prim.Native.Nat.{ℕ, _≤_, _-_}
 use lib.ListN.{length}
-use Rattle.columns.specs.Abstraction.{excludedBy}
+use Rattle.column_constraints.specs.Abstraction.{excludedBy}
 use mathlib.Core.List.{List}
 use native.Mathlib.Omega.{arith}
 use Rattle.columns.proofs.Written.{count-none, count-more, count-few}
@@ -16,41 +16,41 @@ Inv-loop kinds marks n m₀ i₀ m i = (i ≤ n) × (m ≤ i) × ((vs : List ℕ
 abbrev μ-loop : tie.MeasureT-loop
 μ-loop kinds marks n m₀ i₀ m i = n - i
 
--- src/comparisons.rt:105:5
+-- src/comparisons.rt:95:5
 loop-holds : tie.Need-loop-holds Inv-loop μ-loop
 loop-holds c = (search needs, search needs, λ vs. count-none _ vs _)
 
--- src/comparisons.rt:106:13
+-- src/comparisons.rt:96:13
 byte-requires : tie.Need-byte-requires Inv-loop μ-loop
 byte-requires c κs = search needs
 
--- src/comparisons.rt:107:37
+-- src/comparisons.rt:97:37
 cast-byte : tie.Need-cast-byte Inv-loop μ-loop
 cast-byte c = search needs
 
--- src/comparisons.rt:107:25
+-- src/comparisons.rt:97:25
 byte-requires-2 : tie.Need-byte-requires-2 Inv-loop μ-loop
 byte-requires-2 c κs = search needs
 
--- src/comparisons.rt:107:17
+-- src/comparisons.rt:97:17
 counted-requires : tie.Need-counted-requires Inv-loop μ-loop
 counted-requires c κs = search needs
 
--- src/comparisons.rt:107:13
+-- src/comparisons.rt:97:13
 add-m : tie.Need-add-m Inv-loop μ-loop
 add-m c =
     let h : c .counted .result ≤ 1 = count-few (eqb (c .before .byte2 .result) 0) _ (c .counted .ensures) in
     omega (arith, h, c .before .before .before .before .loop .inv .1, c .before .before .before .loop-test .taken)
 
--- src/comparisons.rt:108:9
+-- src/comparisons.rt:98:9
 add-i : tie.Need-add-i Inv-loop μ-loop
 add-i c = search needs
 
--- src/comparisons.rt:105:5
+-- src/comparisons.rt:95:5
 loop-less : tie.Need-loop-less Inv-loop μ-loop
 loop-less c = search needs
 
--- src/comparisons.rt:105:5
+-- src/comparisons.rt:95:5
 loop-again : tie.Need-loop-again Inv-loop μ-loop
 loop-again c =
     let h : c .counted .result ≤ 1 = count-few (eqb (c .before .byte2 .result) 0) _ (c .counted .ensures) in (
@@ -64,7 +64,7 @@ loop-again c =
       ) (sym (count-more _ vs _ _)),
     )
 
--- src/comparisons.rt:100:1
+-- src/comparisons.rt:90:1
 returns : tie.Need-returns Inv-loop μ-loop
 returns c =
     let e : c .before .loop .i ≡ c .before .before .before .before .args .n = omega arith in

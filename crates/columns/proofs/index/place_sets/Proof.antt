@@ -4,7 +4,7 @@ use native.Mathlib.Omega.{arith}
 use lib.ListN.{length, getD, length-set}
 use lib.Seq.{getD-set-other}
 use Rattle.records.specs.Bytes.{valueAt}
-use Rattle.columns.specs.Index.{Placed}
+use Rattle.column_sets.specs.Index.{Placed}
 use Rattle.columns.proofs.Indexing.{placed-at, placed-more}
 use borrow.Author.Needs.{needs}
 use Rattle.columns.proofs.index.place_sets.Statement.{statement}

@@ -4,7 +4,7 @@ use Prim.Native.Nat.{ℕ, _+_, _≤_, _<_, _-_}
 use native.Mathlib.Omega.{arith}
 use lib.ListN.{length, getD}
 use Rattle.truth.specs.FromBytes.{valuesFrom}
-use Rattle.columns.specs.Index.{Places, ListPut}
+use Rattle.column_sets.specs.Index.{Places, ListPut}
 use Rattle.columns.proofs.Indexing.{list-none, list-more}
 use borrow.Author.Needs.{needs}
 use Rattle.columns.proofs.index.put_list.Statement.{statement}

@@ -3,7 +3,7 @@ use mathlib.Core.List.{List}
 use Prim.Native.Nat.{ℕ, _+_, _≤_, _<_, _-_}
 use native.Mathlib.Omega.{arith}
 use lib.ListN.{length, getD}
-use Rattle.columns.specs.Index.{Places, ListsPut}
+use Rattle.column_sets.specs.Index.{Places, ListsPut}
 use Rattle.columns.proofs.Indexing.{lists-none, lists-more}
 use borrow.Author.Needs.{needs}
 use Rattle.columns.proofs.index.put_lists.Statement.{statement}

@@ -1,7 +1,7 @@
 use mathlib.Core.Path.{_∙_, ap}
 use mathlib.Core.Bool.{_||_}
-use Rattle.columns.specs.Abstraction.{conjuncts, numbered, columnOf, boundOf}
-use Rattle.columns.specs.Steps.{Merging, takeUpper, takeMarks}
+use Rattle.column_constraints.specs.Abstraction.{conjuncts, numbered, columnOf, boundOf}
+use Rattle.column_constraints.specs.Steps.{Merging, takeUpper, takeMarks}
 use Rattle.columns.proofs.Mergings.{merge-law}
 use borrow.Author.Needs.{needs}
 use Rattle.columns.proofs.merging.merge_from.Statement.{statement}

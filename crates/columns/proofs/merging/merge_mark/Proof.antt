@@ -1,6 +1,6 @@
 use mathlib.Core.Path.{sym, _∙_, refl}
-use Rattle.columns.specs.Abstraction.{conjuncts}
-use Rattle.columns.specs.Steps.{mergingOf}
+use Rattle.column_constraints.specs.Abstraction.{conjuncts}
+use Rattle.column_constraints.specs.Steps.{mergingOf}
 use Rattle.columns.proofs.Mergings.{mark-0, mark-1, mark-2, mark-else}
 use borrow.Author.Needs.{needs}
 use Rattle.columns.proofs.merging.merge_mark.Statement.{statement}

@@ -2,10 +2,10 @@ use mathlib.Core.Path.{_≡_, refl, sym, _∙_}
 use Prim.Native.Nat.{ℕ, _<_, _≤_, _-_}
 use native.Mathlib.Omega.{arith}
 use lib.ListN.{length, getD}
-use Rattle.columns.specs.Abstraction.{conjuncts, numbered, Fine}
-use Rattle.columns.specs.Steps.{mergingOf, takeMarks}
+use Rattle.column_constraints.specs.Abstraction.{conjuncts, numbered, Fine}
+use Rattle.column_constraints.specs.Steps.{mergingOf, takeMarks}
 use Rattle.columns.proofs.Mergings.{marks-none, marks-more}
-use Rattle.columns.proofs.Asked.{low-row}
+use Rattle.column_sets.proofs.Asked.{low-row}
 use Rattle.columns.proofs.Held.{marks-skip}
 use borrow.Author.Needs.{needs}
 use Rattle.columns.proofs.merging.merge_marks.Statement.{statement}

@@ -1,5 +1,5 @@
 use borrow.Author.Needs.{needs}
-use Rattle.columns.specs.Abstraction.{numbered, columnOf}
+use Rattle.column_constraints.specs.Abstraction.{numbered, columnOf}
 use Rattle.columns.proofs.Mergings.{upper-moved}
 use Rattle.columns.proofs.merging.merge_upper_at.Statement.{statement}
 use Rattle.columns.proofs.merging.merge_upper_at.Tie as tie

@@ -3,13 +3,13 @@ use Rattle.filter_constraint.proofs.merging.merge_filter_constraints.St
 use Rattle.filter_constraint.proofs.merging.merge_filter_constraints.Tie as tie
 use Rattle.filter_constraint.proofs.merging.merge_filter_constraints.Reads as reads
 use Rattle.filter_constraint.proofs.merging.merge_filter_constraints.Lts as lts
-use Rattle.filter_constraint.proofs.collect.collect.Reads as collect-reads
-use Rattle.filter_constraint.proofs.conclude.keep_equalities.Reads as keep-equalities-reads
-use Rattle.filter_constraint.proofs.conclude.resolve_all.Reads as resolve-all-reads
+use Rattle.collect_constraints.proofs.collect.collect.Reads as collect-reads
+use Rattle.resolve_columns.proofs.conclude.keep_equalities.Reads as keep-equalities-reads
+use Rattle.resolve_columns.proofs.conclude.resolve_all.Reads as resolve-all-reads
 use Rattle.filter_constraint.proofs.merging.with_passes.Reads as with-passes-reads
-use Rattle.filter_constraint.proofs.propagate.propagate_equalities.Reads as propagate-equalities-reads
+use Rattle.propagate_equalities.proofs.propagate.propagate_equalities.Reads as propagate-equalities-reads
 use Rattle.filter_constraint.proofs.rebuild.rebuild.Reads as rebuild-reads
-use Rattle.stages.proofs.reckon.nothing_passes.Reads as nothing-passes-reads
+use Rattle.reckoning.proofs.reckon.nothing_passes.Reads as nothing-passes-reads
 use mathlib.Core.Path.{_≡_, refl, sym, _∙_, ap, subst}
 use mathlib.Core.List.{List, []}
 use Prim.Native.Nat.{ℕ, _+_, _*_, _-_, _≤_, _<_}
@@ -17,12 +17,12 @@ use native.Mathlib.Omega.{arith}
 use lib.ListN.{length, getD, length-replicate}
 use Rattle.truth.specs.FromBytes.{aexprOf}
 use Rattle.constraints.specs.Lined.{lined}
-use Rattle.columns.specs.Abstraction.{conjuncts}
+use Rattle.column_constraints.specs.Abstraction.{conjuncts}
 use Rattle.merge.specs.Emit.{comparisons}
-use Rattle.reading.specs.Walk.{firstOf}
-use Rattle.filter_constraint.specs.Words.{columnsOf}
-use Rattle.filter_constraint.specs.State.{shown}
-use Rattle.filter_constraint.proofs.Encoding.{columns-empty}
+use Rattle.read_operands.specs.Walk.{firstOf}
+use Rattle.column_table.specs.Words.{columnsOf}
+use Rattle.column_table.specs.State.{shown}
+use Rattle.column_table.proofs.Encoding.{columns-empty}
 use Rattle.filter_constraint.proofs.Concluding.{outcomeTo, passesTo, answered-as, passes-stopped, total-same}
 use Rattle.column_reasons.specs.ColumnText.{tableText}
 use Rattle.filter_constraint.specs.Explained.{nodesText}

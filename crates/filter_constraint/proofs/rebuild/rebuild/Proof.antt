@@ -3,28 +3,28 @@ use Rattle.filter_constraint.proofs.rebuild.rebuild.Statement.{statemen
 use Rattle.filter_constraint.proofs.rebuild.rebuild.Tie as tie
 use Rattle.filter_constraint.proofs.rebuild.rebuild.Reads as reads
 use Rattle.filter_constraint.proofs.rebuild.rebuild.Lts as lts
-use Rattle.filter_constraint.proofs.conclude.write_comparisons.Reads as write-comparisons-reads
-use Rattle.filter_constraint.proofs.explain.reasons_length.Reads as reasons-length-reads
-use Rattle.filter_constraint.proofs.explain.write_reasons.Reads as write-reasons-reads
+use Rattle.resolve_columns.proofs.conclude.write_comparisons.Reads as write-comparisons-reads
+use Rattle.explain_columns.proofs.explain.reasons_length.Reads as reasons-length-reads
+use Rattle.explain_columns.proofs.explain.write_reasons.Reads as write-reasons-reads
 use Rattle.rewrite.proofs.write.write_ands.Reads as write-ands-reads
 use Rattle.stages.proofs.fields.is_rewritten.Reads as is-rewritten-reads
-use Rattle.stages.proofs.reckon.rebuilt_answer.Reads as rebuilt-answer-reads
+use Rattle.reckoning.proofs.reckon.rebuilt_answer.Reads as rebuilt-answer-reads
 use mathlib.Core.Path.{_≡_, refl, sym, _∙_, ap}
 use mathlib.Core.List.{List, []}
 use Prim.Native.Nat.{ℕ, _+_, _-_, _*_, _≤_, _<_}
 use native.Mathlib.Omega.{arith}
 use lib.ListN.{length}
 use Rattle.constraints.specs.Lined.{lined}
-use Rattle.columns.specs.Abstraction.{Conjuncts, conjuncts}
+use Rattle.column_constraints.specs.Abstraction.{Conjuncts, conjuncts}
 use Rattle.column_reasons.specs.ColumnText.{tableText}
 use Rattle.merge.specs.Write.{splice}
-use Rattle.reading.specs.Walk.{firstOf}
-use Rattle.filter_constraint.specs.Words.{columnsOf}
-use Rattle.filter_constraint.specs.State.{shown}
+use Rattle.read_operands.specs.Walk.{firstOf}
+use Rattle.column_table.specs.Words.{columnsOf}
+use Rattle.column_table.specs.State.{shown}
 use mathlib.Core.Bool.{true, false}
 use borrow.Author.Tests.{not-true, not-false}
 use Rattle.merge.specs.Emit.{comparisons}
-use Rattle.stages.specs.Reckon.{reckoned}
+use Rattle.reckoning.specs.Reckon.{reckoned}
 use Rattle.stages.specs.Rewritten.{isRewritten}
 use Rattle.filter_constraint.proofs.Concluding.{chain-refused, chain-room, chain-answered, ands-asked}
 use Rattle.filter_constraint.proofs.Explained.{kept-answer, kept-text, kept-length, long-answer, fitting-answer, fitting-text, fitting-length}

@@ -9,8 +9,8 @@ use Prim.Native.Nat.{ℕ, _-_, _≤_, _<_}
 use native.Mathlib.Omega.{arith}
 use lib.ListN.{length, length-set}
 use Rattle.truth.specs.FromBytes.{aexprOf}
-use Rattle.columns.specs.Abstraction.{conjuncts}
-use Rattle.reading.specs.Walk.{firstOf}
+use Rattle.column_constraints.specs.Abstraction.{conjuncts}
+use Rattle.read_operands.specs.Walk.{firstOf}
 use Rattle.rewrite.specs.Told.{ToldConjunct}
 use Rattle.stages.specs.Columns.{ColumnsBelow}
 use Rattle.in_the_way.specs.Lines.{without, nothingPasses, firstTrue}

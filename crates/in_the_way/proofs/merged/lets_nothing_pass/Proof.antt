@@ -3,14 +3,14 @@ use Rattle.in_the_way.proofs.merged.lets_nothing_pass.Statement.{statem
 use Rattle.in_the_way.proofs.merged.lets_nothing_pass.Tie as tie
 use Rattle.in_the_way.proofs.merged.lets_nothing_pass.Reads as reads
 use Rattle.in_the_way.proofs.merged.lets_nothing_pass.Lts as lts
-use Rattle.filter_constraint.proofs.collect.collect.Reads as collect-reads
-use Rattle.filter_constraint.proofs.conclude.resolve_all.Reads as resolve-all-reads
-use Rattle.filter_constraint.proofs.propagate.propagate_equalities.Reads as propagate-equalities-reads
+use Rattle.collect_constraints.proofs.collect.collect.Reads as collect-reads
+use Rattle.resolve_columns.proofs.conclude.resolve_all.Reads as resolve-all-reads
+use Rattle.propagate_equalities.proofs.propagate.propagate_equalities.Reads as propagate-equalities-reads
 use mathlib.Core.Path.{_∙_}
 use Prim.Native.Nat.{ℕ, _-_}
 use native.Mathlib.Omega.{arith}
 use lib.ListN.{length-replicate}
-use Rattle.filter_constraint.proofs.Encoding.{columns-empty}
+use Rattle.column_table.proofs.Encoding.{columns-empty}
 use Rattle.in_the_way.proofs.Ends.{nothing-stopped, nothing-resolved}
 
 -- src/merged.rt:54:9

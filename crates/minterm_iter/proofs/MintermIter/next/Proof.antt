@@ -58,7 +58,7 @@ use denote.Triple.Spec.{Meets, tripleOf}
 use denote.Triple.Table.{entered, cited}
 use denote.Triple.Walked.{says, needs, Stays, stay-ref, walkOf, goes-ref, Walks, ends-at, walked, walk-meets}
 use denote.Triple.Clauses.{ensured, lasts}
-use Rattle.reading.specs.Walk.{walked as expressions, stackOf, InputsBelow}
+use Rattle.read_operands.specs.Walk.{walked as expressions, stackOf, InputsBelow}
 use Rattle.minterm_iter.specs.Iter.{Walkable, Next, stackIn}
 use Rattle.minterm_iter.specs.declared.MintermIter.{MintermIter}
 use Rattle.minterm_iter.specs.declared.Minterm.{Minterm}

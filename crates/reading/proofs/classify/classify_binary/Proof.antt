@@ -5,60 +5,60 @@ use Rattle.reading.proofs.classify.classify_binary.Reads as reads
 use Rattle.reading.proofs.classify.classify_binary.Lts as lts
 use Rattle.records.proofs.bytes.word_in.Reads as word-in-reads
 use Rattle.records.proofs.operator.operator_at.Reads as operator-at-reads
-use Rattle.reading.proofs.classify.binary_conjunct.Reads as binary-conjunct-reads
-use Rattle.reading.proofs.classify.operand_at.Reads as operand-at-reads
+use Rattle.classify_operands.proofs.conjuncts.binary_conjunct.Reads as binary-conjunct-reads
+use Rattle.read_operands.proofs.operands.operand_at.Reads as operand-at-reads
 use mathlib.Core.Path.{_∙_}
-use Rattle.reading.proofs.Reading.{binary-read}
+use Rattle.read_operands.proofs.Reading.{binary-read}
 
--- src/classify.rt:433:20
+-- src/classify.rt:92:20
 cast-at : tie.Need-cast-at
 cast-at c = search needs
 
--- src/classify.rt:433:14
+-- src/classify.rt:92:14
 mul-at : tie.Need-mul-at
 mul-at c = search needs
 
--- src/classify.rt:435:24
+-- src/classify.rt:94:24
 add-operator-at : tie.Need-add-operator-at
 add-operator-at c = search needs
 
--- src/classify.rt:435:21
+-- src/classify.rt:94:21
 shared-slice-read-operator-at : tie.Need-shared-slice-read-operator-at
 shared-slice-read-operator-at c = search needs
 
--- src/classify.rt:435:9
+-- src/classify.rt:94:9
 operator-at-requires : tie.Need-operator-at-requires
 operator-at-requires c κs = search needs
 
--- src/classify.rt:436:41
+-- src/classify.rt:95:41
 add-word-in : tie.Need-add-word-in
 add-word-in c = search needs
 
--- src/classify.rt:436:29
+-- src/classify.rt:95:29
 word-in-requires : tie.Need-word-in-requires
 word-in-requires c κs = search needs
 
--- src/classify.rt:436:9
+-- src/classify.rt:95:9
 operand-at-requires : tie.Need-operand-at-requires
 operand-at-requires c κs = search needs
 
--- src/classify.rt:437:41
+-- src/classify.rt:96:41
 add-word-in-2 : tie.Need-add-word-in-2
 add-word-in-2 c = search needs
 
--- src/classify.rt:437:29
+-- src/classify.rt:96:29
 word-in-requires-2 : tie.Need-word-in-requires-2
 word-in-requires-2 c κs = search needs
 
--- src/classify.rt:437:9
+-- src/classify.rt:96:9
 operand-at-requires-2 : tie.Need-operand-at-requires-2
 operand-at-requires-2 c κs = search needs
 
--- src/classify.rt:434:5
+-- src/classify.rt:93:5
 binary-conjunct-requires : tie.Need-binary-conjunct-requires
 binary-conjunct-requires c κs = search needs
 
--- src/classify.rt:428:1
+-- src/classify.rt:87:1
 returns : tie.Need-returns
 returns c =
     let st = c .before .before .before .before .before .before .before .before .before in

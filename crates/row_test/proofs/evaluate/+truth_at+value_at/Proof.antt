@@ -17,9 +17,9 @@ use Rattle.row_test.proofs.evaluate.+truth_at+value_at.Lts-truth_at as 
 use Rattle.row_test.proofs.evaluate.value_at.Reads as value-at
 use Rattle.row_test.proofs.evaluate.value_at.Kinds as value-at-kinds
 use Rattle.row_test.proofs.evaluate.+truth_at+value_at.Lts-value_at as value-at-lts
-use Rattle.truth.proofs.logic.not_of.Reads as not-of-reads
-use Rattle.truth.proofs.logic.truth_of_bool.Reads as truth-of-bool-reads
-use Rattle.truth.proofs.member.member.Reads as member-reads
+use Rattle.three_valued.proofs.logic.not_of.Reads as not-of-reads
+use Rattle.three_valued.proofs.logic.truth_of_bool.Reads as truth-of-bool-reads
+use Rattle.membership.proofs.member.member.Reads as member-reads
 use Rattle.records.proofs.record.fields_in.Reads as fields-in-reads
 use Rattle.truth.proofs.read.leaf_value.Reads as leaf-value-reads
 use Rattle.truth.proofs.value.between.Reads as between-reads

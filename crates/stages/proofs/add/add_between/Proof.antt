@@ -8,7 +8,7 @@ use Rattle.stages.proofs.add.with_upper.Reads as with-upper-reads
 use Rattle.stages.proofs.add.closes_high.Reads as closes-high-reads
 use Rattle.stages.proofs.add.closes_low.Reads as closes-low-reads
 use Rattle.constraints.specs.Lined.{lined}
-use Rattle.columns.specs.Abstraction.{limitOf}
+use Rattle.column_constraints.specs.Abstraction.{limitOf}
 use Rattle.constraints.specs.Column as q
 use mathlib.Core.Path.{_∙_, ap}
 

@@ -5,10 +5,10 @@ use Rattle.stages.proofs.add.add_comparison.Reads as reads
 use Rattle.stages.proofs.add.add_comparison.Lts as lts
 use Rattle.stages.proofs.add.with_lower.Reads as with-lower-reads
 use Rattle.stages.proofs.add.with_upper.Reads as with-upper-reads
-use Rattle.columns.proofs.marks.add_excluded.Reads as add-excluded-reads
+use Rattle.column_sets.proofs.marks.add_excluded.Reads as add-excluded-reads
 use Rattle.stages.proofs.add.add_equal.Reads as add-equal-reads
 use Rattle.rewrite.proofs.Telling.{fine-same}
-use Rattle.columns.specs.Abstraction.{numbered, columnOf}
+use Rattle.column_constraints.specs.Abstraction.{numbered, columnOf}
 use Prim.Native.Nat.{ℕ}
 use Rattle.constraints.specs.Lined.{onLine, lined}
 use Rattle.constraints.specs.Column as q

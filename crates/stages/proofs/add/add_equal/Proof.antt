@@ -7,7 +7,7 @@ use Rattle.stages.proofs.add.with_lower.Reads as with-lower-reads
 use Rattle.stages.proofs.add.with_upper.Reads as with-upper-reads
 use mathlib.Core.Bool.{true}
 use Rattle.constraints.specs.Lined.{lined}
-use Rattle.columns.specs.Abstraction.{limitOf}
+use Rattle.column_constraints.specs.Abstraction.{limitOf}
 use Rattle.constraints.specs.Column as q
 use mathlib.Core.Path.{_∙_, ap}
 

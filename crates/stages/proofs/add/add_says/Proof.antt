@@ -3,17 +3,17 @@ use Rattle.stages.proofs.add.add_says.Statement.{statement}
 use Rattle.stages.proofs.add.add_says.Tie as tie
 use Rattle.stages.proofs.add.add_says.Reads as reads
 use Rattle.stages.proofs.add.add_says.Lts as lts
-use Rattle.columns.proofs.column.require_nullability.Reads as require-nullability-reads
-use Rattle.columns.proofs.marks.add_allowed.Reads as add-allowed-reads
-use Rattle.columns.proofs.marks.add_disallowed.Reads as add-disallowed-reads
+use Rattle.column_constraints.proofs.column.require_nullability.Reads as require-nullability-reads
+use Rattle.column_sets.proofs.marks.add_allowed.Reads as add-allowed-reads
+use Rattle.column_sets.proofs.marks.add_disallowed.Reads as add-disallowed-reads
 use Rattle.stages.proofs.add.add_between.Reads as add-between-reads
 use Rattle.stages.proofs.add.add_comparison.Reads as add-comparison-reads
-use Rattle.reading.specs.Read.{comparisonIn}
+use Rattle.read_operands.specs.Read.{comparisonIn}
 use Rattle.rewrite.proofs.Telling.{fine-same}
 use Rattle.stages.proofs.Adding.{told-compared}
 use Prim.Native.Nat.{ℕ}
 use mathlib.Core.List.{List, map}
-use Rattle.columns.specs.Abstraction.{conjuncts, numbered, columnOf, valuesOf}
+use Rattle.column_constraints.specs.Abstraction.{conjuncts, numbered, columnOf, valuesOf}
 use Rattle.constraints.specs.Lined.{onLine, lined}
 use Rattle.constraints.specs.Column as q
 use mathlib.Core.Path.{refl, _∙_, ap}

@@ -3,7 +3,7 @@ use Rattle.stages.proofs.emit.is_fixed.Statement.{statement}
 use Rattle.stages.proofs.emit.is_fixed.Tie as tie
 use Rattle.stages.proofs.emit.is_fixed.Reads as reads
 use Rattle.stages.proofs.emit.is_fixed.Lts as lts
-use Rattle.columns.proofs.resolve.fixed_value.Reads as fixed-value-reads
+use Rattle.resolve_deferred.proofs.resolve.fixed_value.Reads as fixed-value-reads
 
 -- src/emit.rt:29:9
 fixed-value-requires : tie.Need-fixed-value-requires

@@ -7,9 +7,9 @@ use Rattle.stages.proofs.emit.write_place.Reads as write-place-reads
 use Rattle.stages.proofs.Emitting.{place-few, begin-at, begin-written, at-more, written-more}
 use Rattle.stages.proofs.Emitting.{bitsIn, place-room, placed-all}
 use Rattle.merge.specs.Write.{writeComparisons}
-use Rattle.columns.proofs.Pigeon.{few}
-use Rattle.columns.specs.Steps.{placedTo}
-use Rattle.columns.specs.Abstraction.{Conjuncts, conjuncts, numbered, comparedOf}
+use Rattle.column_constraints.proofs.Pigeon.{few}
+use Rattle.column_constraints.specs.Steps.{placedTo}
+use Rattle.column_constraints.specs.Abstraction.{Conjuncts, conjuncts, numbered, comparedOf}
 use lib.ListN.{length}
 use Prim.Native.Nat.{_≤_, _+_, _*_, _-_}
 use mathlib.Core.List.{[]}

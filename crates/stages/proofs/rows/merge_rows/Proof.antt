@@ -3,14 +3,14 @@ use Rattle.stages.proofs.rows.merge_rows.Statement.{statement}
 use Rattle.stages.proofs.rows.merge_rows.Tie as tie
 use Rattle.stages.proofs.rows.merge_rows.Reads as reads
 use Rattle.stages.proofs.rows.merge_rows.Lts as lts
-use Rattle.columns.proofs.marks.copied.Reads as copied-reads
+use Rattle.column_sets.proofs.marks.copied.Reads as copied-reads
 use Rattle.columns.proofs.merging.merge_from.Reads as merge-from-reads
 use mathlib.Core.Path.{_≡_, refl, sym, _∙_, ap}
 use lib.ListN.{length, getD}
 use Prim.Native.Nat.{ℕ, _<_, _≤_}
 use native.Mathlib.Omega.{arith}
-use Rattle.columns.specs.Abstraction.{conjuncts, numbered, columnOf}
-use Rattle.columns.proofs.Pigeon.{few}
+use Rattle.column_constraints.specs.Abstraction.{conjuncts, numbered, columnOf}
+use Rattle.column_constraints.proofs.Pigeon.{few}
 use Rattle.stages.specs.Rows.{stride}
 use Rattle.stages.proofs.Lending.{row-ends, row-part, row-back, part, part-length, fine-lent, fine-back, column-copied, fine-copied, merged-as}
 

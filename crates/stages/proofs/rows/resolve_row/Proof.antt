@@ -3,7 +3,7 @@ use Rattle.stages.proofs.rows.resolve_row.Statement.{statement}
 use Rattle.stages.proofs.rows.resolve_row.Tie as tie
 use Rattle.stages.proofs.rows.resolve_row.Reads as reads
 use Rattle.stages.proofs.rows.resolve_row.Lts as lts
-use Rattle.columns.proofs.resolve.resolve_deferred.Reads as resolve-deferred-reads
+use Rattle.resolve_deferred.proofs.resolve.resolve_deferred.Reads as resolve-deferred-reads
 use mathlib.Core.Path.{_≡_, refl}
 use lib.ListN.{length}
 use Prim.Native.Nat.{_<_}

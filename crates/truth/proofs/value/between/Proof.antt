@@ -5,7 +5,7 @@ use Rattle.truth.proofs.value.between.Statement.{statement}
 use Rattle.truth.proofs.value.between.Tie as tie
 use Rattle.truth.proofs.value.between.Reads as reads
 use Rattle.truth.proofs.value.between.Lts as lts
-use Rattle.truth.proofs.logic.and_of.Reads as and-of-reads
+use Rattle.three_valued.proofs.logic.and_of.Reads as and-of-reads
 use Rattle.truth.proofs.value.compare_values.Reads as compare-values-reads
 use Rattle.truth.proofs.value.high_code.Reads as high-code-reads
 use Rattle.truth.proofs.value.low_code.Reads as low-code-reads

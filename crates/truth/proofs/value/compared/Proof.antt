@@ -5,7 +5,7 @@ use Rattle.truth.proofs.value.compared.Statement.{statement}
 use Rattle.truth.proofs.value.compared.Tie as tie
 use Rattle.truth.proofs.value.compared.Reads as reads
 use Rattle.truth.proofs.value.compared.Lts as lts
-use Rattle.truth.proofs.logic.truth_of_bool.Reads as truth-of-bool-reads
+use Rattle.three_valued.proofs.logic.truth_of_bool.Reads as truth-of-bool-reads
 use Rattle.truth.proofs.value.compare_values.Reads as compare-values-reads
 use Rattle.truth.proofs.value.same_values.Reads as same-values-reads
 

@@ -5,9 +5,9 @@ use Rattle.truth.proofs.value.connected.Statement.{statement}
 use Rattle.truth.proofs.value.connected.Tie as tie
 use Rattle.truth.proofs.value.connected.Reads as reads
 use Rattle.truth.proofs.value.connected.Lts as lts
-use Rattle.truth.proofs.logic.and_of.Reads as and-of-reads
-use Rattle.truth.proofs.logic.or_of.Reads as or-of-reads
-use Rattle.truth.proofs.logic.xor_of.Reads as xor-of-reads
+use Rattle.three_valued.proofs.logic.and_of.Reads as and-of-reads
+use Rattle.three_valued.proofs.logic.or_of.Reads as or-of-reads
+use Rattle.three_valued.proofs.logic.xor_of.Reads as xor-of-reads
 
 -- src/value.rt:112:15
 and-of-requires : tie.Need-and-of-requires

@@ -5,7 +5,7 @@ use Rattle.truth.proofs.value.truth_of_value.Statement.{statement}
 use Rattle.truth.proofs.value.truth_of_value.Tie as tie
 use Rattle.truth.proofs.value.truth_of_value.Reads as reads
 use Rattle.truth.proofs.value.truth_of_value.Lts as lts
-use Rattle.truth.proofs.logic.truth_of_bool.Reads as truth-of-bool-reads
+use Rattle.three_valued.proofs.logic.truth_of_bool.Reads as truth-of-bool-reads
 use Rattle.truth.proofs.scalar.scalar_cmp.Reads as scalar-cmp-reads
 use Rattle.truth.proofs.value.is_equal.Reads as is-equal-reads
 

@@ -1,0 +1,234 @@
+// Stage 1 of the merging: what the conjuncts say, into the columns' cells.
+ghost use mathlib.Core.Path.{_≡_};
+ghost use mathlib.Core.Bool.{Bool, cond};
+ghost use mathlib.Core.List.{List, map};
+ghost use Prim.Native.Nat.{ℕ, _+_, _<_, _≤_};
+ghost use lib.ListN.{length, getD, replicate};
+ghost use Rattle.truth.specs.FromBytes.{aexprOf};
+ghost use Rattle.constraints.specs.Lined.{onLine, lined};
+ghost use Rattle.constraints.specs.Mapped.{mapConstraint};
+ghost use Rattle.column_constraints.specs.Abstraction.{Conjuncts, conjuncts, numbered, columnOf};
+ghost use Rattle.merge.specs.Classify as m;
+ghost use Rattle.merge.specs.Collect as d;
+ghost use Rattle.read_operands.specs.Read.{saysIn};
+ghost use Rattle.rewrite.specs.Told.{Told, ToldConjunct};
+ghost use Rattle.stages.specs.Columns.{ColumnsBelow};
+ghost use Rattle.stages.specs.Rows.{stride};
+ghost use Rattle.column_table.specs.Words.{pastColumn, columnsOf};
+ghost use Rattle.collect_constraints.specs.NullLines.{isRequired, NullLines, NullKept};
+ghost use Rattle.column_table.specs.State.{ColumnTable, Shows, Fits, Entered, Added, Collects, collectTo};
+use column_constraints::column::ColumnConstraints;
+use column_constraints::column::require_nullability;
+use column_table::cells::load;
+use column_table::cells::store;
+use constraints::column::Nullability;
+use read_operands::operands::Conjunct;
+use read_operands::operands::Says;
+use reading::classify::classify;
+use records::record::Column;
+use records::record::Node;
+use stages::fields::bump;
+use stages::fields::slot;
+use stages::rows::add_in_row;
+
+/// How many columns entered, nodes are kept, equalities there are, conjuncts were bounds; whether one of these was a
+/// negation; whether a conjunct made its column impossible.
+pub struct Collection {
+    pub columns: usize,
+    pub keeps: usize,
+    pub edges: usize,
+    pub bounds: usize,
+    pub normalized: bool,
+    pub unsat: bool,
+}
+
+/// The column a enters; how many columns there are then.
+fn enter(seen: &mut [bool], order: &mut [u32], columns: usize, a: Column) -> usize
+    requires { ⌜ (a .0 < 64) × (columns < 260) × (length (now seen) ≡ 64) × (length (now order) ≡ 260) ⌝ }
+    ensures { λ r. ⌜ ((l : List ℕ) → Entered (now (order .entry)) columns (now (seen .entry)) l →
+        Entered (now (order .exit)) r (now (seen .exit)) (d.enter (a .0) l)) ⌝ }
+    ensures { λ r. ⌜ r ≤ columns + 1 ⌝ }
+{
+    let x = slot(a);
+    order[columns] = a.0;
+    let next = bump(seen[x], columns);
+    seen[x] = true;
+    next
+}
+
+fn is_required(n: Nullability) -> bool
+    ensures { λ r. ⌜ r ≡ isRequired n ⌝ }
+{
+    match n {
+        Nullability::Unconstrained => false,
+        Nullability::Null => true,
+        Nullability::NonNull => true,
+    }
+}
+
+// What the column c became under conjunct j: a null requirement that it had keeps its number, a new one gets j.
+fn with_null_line(mut d: ColumnConstraints, c: ColumnConstraints, j: u8) -> ColumnConstraints
+    ensures { λ r. ⌜ ((t : Conjuncts) (a : List ℕ) → columnOf t (numbered a r) ≡ columnOf t (numbered a d)) ⌝ }
+    ensures { λ r. ⌜ r .len ≡ d .len ⌝ }
+    ensures { λ r. ⌜ r .since ≡ cond (isRequired (c .nullability)) (c .since) j ⌝ }
+{
+    let nul = c.nullability;
+    if is_required(nul) {
+        d.since = c.since;
+        return d;
+    }
+    d.since = j as u64;
+    d
+}
+
+fn require_non_null(cells: &mut [u64], a: Column, j: u8)
+    requires { ⌜ (a .0 < 64) × (length (now cells) ≡ 704) ⌝ }
+    ensures { λ _. ⌜ ((t : Conjuncts) (marks : List ℕ) (T : ColumnTable) → Shows t (columnsOf (now (cells .entry))) marks T →
+        Shows t (columnsOf (now (cells .exit))) marks (d.requireNonNull lined (a .0) T)) ⌝ }
+    ensures { λ _. ⌜ length (now (cells .exit)) ≡ length (now (cells .entry)) ⌝ }
+    ensures { λ _. ⌜ NullKept (columnsOf (now (cells .entry))) (columnsOf (now (cells .exit))) j ⌝ }
+{
+    let x = slot(a);
+    let c = load(cells, x);
+    let d = require_nullability(c, Nullability::NonNull);
+    let r = with_null_line(d, c, j);
+    store(cells, x, r);
+}
+
+/// What conjunct j says of the column a; whether the column is then impossible.
+fn add_to_column(
+    kinds: &[u8],
+    values: &[u64],
+    starts: &[u32],
+    counts: &[u32],
+    pool: &[u8],
+    cells: &mut [u64],
+    marks: &mut [u8],
+    a: Column,
+    j: u8,
+    s: Says,
+) -> bool
+    requires { ⌜ Fits (now cells) (now marks) × (a .0 < 64) × (j < stride (now marks)) ⌝ }
+    requires { ⌜ Told (conjuncts (now kinds) (now values) (now starts) (now counts) (now pool)) j (saysIn (now pool) s) ⌝ }
+    ensures { λ r. ⌜ (let t = conjuncts (now (kinds .entry)) (now (values .entry)) (now (starts .entry))
+        (now (counts .entry)) (now (pool .entry)) in (T : ColumnTable) →
+        Shows t (columnsOf (now (cells .entry))) (now (marks .entry)) T →
+        Added t (columnsOf (now (cells .exit))) (now (marks .exit)) (a .0)
+        (map (mapConstraint (onLine j)) (saysIn (now (pool .entry)) s)) r T) ⌝ }
+    ensures { λ _. ⌜ length (now (cells .exit)) ≡ length (now (cells .entry)) ⌝ }
+    ensures { λ _. ⌜ length (now (marks .exit)) ≡ length (now (marks .entry)) ⌝ }
+    ensures { λ _. ⌜ NullKept (columnsOf (now (cells .entry))) (columnsOf (now (cells .exit))) j ⌝ }
+{
+    let x = slot(a);
+    let c = load(cells, x);
+    let d = add_in_row(kinds, values, starts, counts, pool, marks, x, c, j, s);
+    let r = with_null_line(d, c, j);
+    store(cells, x, r);
+    r.unsat
+}
+
+/// The first n of `nodes` are the screen's conjuncts. `cells` holds empty columns.
+pub fn collect(
+    rs: &[u8],
+    pool: &[u8],
+    nodes: &[u32],
+    n: usize,
+    kinds: &[u8],
+    values: &[u64],
+    starts: &[u32],
+    counts: &[u32],
+    cells: &mut [u64],
+    marks: &mut [u8],
+    order: &mut [u32],
+    kept: &mut [u32],
+    lefts: &mut [u32],
+    rights: &mut [u32],
+    equals: &mut [u32],
+) -> Collection
+    requires { ⌜ (n ≤ stride (now marks)) × (stride (now marks) ≤ 128) × (n ≤ length (now nodes))
+        × (length (now cells) ≡ 704) × (columnsOf (now cells) ≡ replicate 64 pastColumn) × (length (now order) ≡ 260)
+        × (length (now kept) ≡ 260) × (length (now lefts) ≡ 130) × (length (now rights) ≡ 130)
+        × (length (now equals) ≡ 130) ⌝ }
+    requires { ⌜ ((i : ℕ) → i < n → ToldConjunct (conjuncts (now kinds) (now values) (now starts) (now counts) (now pool)) i
+        (m.classify (aexprOf (now rs) (now pool)) (getD (now nodes) i 0))) ⌝ }
+    requires { ⌜ ((i : ℕ) → i < n → ColumnsBelow 64 (m.classify (aexprOf (now rs) (now pool)) (getD (now nodes) i 0))) ⌝ }
+    ensures { λ r. ⌜ ((seen : List Bool) × Collects (conjuncts (now (kinds .entry)) (now (values .entry)) (now (starts .entry))
+        (now (counts .entry)) (now (pool .entry))) (columnsOf (now (cells .exit))) (now (marks .exit)) seen
+        (now (order .exit)) (r .columns) (now (kept .exit)) (r .keeps) (now (lefts .exit)) (now (rights .exit))
+        (now (equals .exit)) (r .edges) (r .bounds) (r .normalized) (r .unsat)
+        (collectTo (aexprOf (now (rs .entry)) (now (pool .entry))) (now (nodes .entry)) n)) ⌝ }
+    ensures { λ r. ⌜ (r .columns ≤ n + n) × (r .keeps + r .edges ≤ n) × (r .bounds ≤ n)
+        × (length (now (cells .exit)) ≡ 704) × (length (now (marks .exit)) ≡ length (now (marks .entry)))
+        × NullLines (aexprOf (now (rs .entry)) (now (pool .entry))) (now (nodes .entry)) n (columnsOf (now (cells .exit))) ⌝ }
+{
+    let mut seen = [false; 64];
+    let mut columns: usize = 0;
+    let mut keeps: usize = 0;
+    let mut edges: usize = 0;
+    let mut bounds: usize = 0;
+    let mut normalized = false;
+    let mut unsat = false;
+    let mut i: usize = 0;
+    while (i < n) & !unsat {
+        let node = nodes[i];
+        let j = i as u8;
+        let k = classify(rs, Node(node));
+        i += 1;
+        match k {
+            Conjunct::Bounds(a, s) => {
+                columns = enter(&mut seen, order, columns, a);
+                unsat = add_to_column(kinds, values, starts, counts, pool, cells, marks, a, j, s);
+                bounds += 1;
+                continue;
+            }
+            Conjunct::Normalized(a, s) => {
+                columns = enter(&mut seen, order, columns, a);
+                unsat = add_to_column(kinds, values, starts, counts, pool, cells, marks, a, j, s);
+                bounds += 1;
+                normalized = true;
+                continue;
+            }
+            Conjunct::Equality(a, b) => {
+                columns = enter(&mut seen, order, columns, a);
+                require_non_null(cells, a, j);
+                columns = enter(&mut seen, order, columns, b);
+                require_non_null(cells, b, j);
+                lefts[edges] = a.0;
+                rights[edges] = b.0;
+                equals[edges] = node;
+                edges += 1;
+                continue;
+            }
+            Conjunct::Recorded(stops, a, s) => {
+                columns = enter(&mut seen, order, columns, a);
+                unsat = stops
+                    & add_to_column(kinds, values, starts, counts, pool, cells, marks, a, j, s);
+                kept[keeps] = node;
+                keeps += 1;
+                continue;
+            }
+            Conjunct::NonNullPair(a, b) => {
+                columns = enter(&mut seen, order, columns, a);
+                require_non_null(cells, a, j);
+                columns = enter(&mut seen, order, columns, b);
+                require_non_null(cells, b, j);
+                kept[keeps] = node;
+                keeps += 1;
+                continue;
+            }
+            Conjunct::Opaque => {
+                kept[keeps] = node;
+                keeps += 1;
+                continue;
+            }
+        }
+    }
+    Collection {
+        columns: columns,
+        keeps: keeps,
+        edges: edges,
+        bounds: bounds,
+        normalized: normalized,
+        unsat: unsat,
+    }
+}

@@ -1,0 +1,2 @@
+// Stage 1 of the merging: what the conjuncts say, into the table of columns.
+pub mod collect;

@@ -1,0 +1,145 @@
+use Rattle.truth.specs.FromBytes.{valuesFrom}
+use mathlib.Core.Path.{_≡_, sym, _∙_, ap}
+use mathlib.Core.Bool.{false}
+use mathlib.Core.List.{List}
+use Prim.Native.Nat.{ℕ, _≤_, _-_}
+use Rattle.constraints.specs.Payload.{payload}
+use Rattle.constraints.specs.Lined.{lined}
+use Rattle.constraints.specs.Resolve as z
+use Rattle.column_constraints.specs.Abstraction.{conjuncts, columnOf, numbered}
+use Rattle.column_constraints.specs.Steps.{anyOf}
+use Rattle.column_sets.proofs.Lists.{an-none, an-more, an-found, an-done, feasible-listed, list-as}
+use borrow.Author.Needs.{needs}
+use Rattle.column_changes.proofs.changes.any_feasible.Statement.{statement}
+use Rattle.column_changes.proofs.changes.any_feasible.Tie as tie
+
+abbrev Inv-loop : tie.InvT-loop
+Inv-loop index kinds values starts counts pool marks c f allowed disallowed s m i₀ i = (i ≤ m) × (anyOf (λ (v : ℕ). z.isFeasible lined (columnOf (conjuncts kinds values starts counts pool) (numbered marks c)) (payload .key v)) (valuesFrom pool s i) ≡ false)
+
+abbrev μ-loop : tie.MeasureT-loop
+μ-loop index kinds values starts counts pool marks c f allowed disallowed s m i₀ i = m - i
+
+kind-set-requires : tie.Need-kind-set-requires Inv-loop μ-loop
+kind-set-requires c κs =
+    let st = c .before .before .before .before .before .before .before in
+    st .pre .1
+
+kind-set-requires-2 : tie.Need-kind-set-requires-2 Inv-loop μ-loop
+kind-set-requires-2 c κs =
+    let st = c .before .before .before .before .before .before .before .before in
+    st .pre .1
+
+number-at-requires : tie.Need-number-at-requires Inv-loop μ-loop
+number-at-requires c κs = search needs
+
+cast-s : tie.Need-cast-s Inv-loop μ-loop
+cast-s c = search needs
+
+number-at-requires-2 : tie.Need-number-at-requires-2 Inv-loop μ-loop
+number-at-requires-2 c κs = search needs
+
+cast-m : tie.Need-cast-m Inv-loop μ-loop
+cast-m c = search needs
+
+loop-holds : tie.Need-loop-holds Inv-loop μ-loop
+loop-holds c =
+    (search needs, an-none _ _ _)
+
+slice-aggregate-is-feasible : tie.Need-slice-aggregate-is-feasible Inv-loop μ-loop
+slice-aggregate-is-feasible c =
+    let kind-set = c .before .before .before .before .before .before .kind-set in
+    search (needs, kind-set .ensures .size)
+
+slice-aggregate-is-feasible-2 : tie.Need-slice-aggregate-is-feasible-2 Inv-loop μ-loop
+slice-aggregate-is-feasible-2 c =
+    let kind-set2 = c .before .before .before .before .before .before .kind-set2 in
+    search (needs, kind-set2 .ensures .size)
+
+add-is-feasible : tie.Need-add-is-feasible Inv-loop μ-loop
+add-is-feasible c = search needs
+
+is-feasible-requires : tie.Need-is-feasible-requires Inv-loop μ-loop
+is-feasible-requires c κs =
+    let st = c .before .before .before .before .before .before .before .before .before .before .before .before
+    .before .before .before in
+    let kind-set = c .before .before .before .before .before .before .before .kind-set in
+    let kind-set2 = c .before .before .before .before .before .before .kind-set2 in
+    ((st .pre .0, search needs), (st .pre .1, kind-set .ensures, kind-set2 .ensures))
+
+returns : tie.Need-returns Inv-loop μ-loop
+returns c =
+    let st = c .before .before .before .before .before .before .before .before .before .before .before .before
+    .before .before .before .before .before in
+    let number-at = c .before .before .before .before .before .before .before .number-at in
+    let number-at2 = c .before .before .before .before .before .before .number-at2 in
+    let loop-test = c .before .before .before .before .loop-test in
+    let is-feasible = c .before .is-feasible in
+    let if1 = c .if1 in
+    let tables = conjuncts (st .args .kinds .now) (st .args .values .now) (st .args .starts .now) (st .args
+    .counts .now) (st .args .pool .now) in
+    let cc = columnOf tables (numbered (st .args .marks .now) (st .args .c)) in
+    an-found (λ (v : ℕ). z.isFeasible lined cc (payload .key v)) _ _ _ _ (loop-test .taken) (rw (← is-feasible
+    .ensures) (if1 .taken)) ∙ ap (λ (l : List ℕ). anyOf (λ (v : ℕ). z.isFeasible lined cc (payload .key v)) l)
+    (list-as (st .args .starts .now) (st .args .counts .now) (st .args .pool .now) (st .args .f) _ _ (number-at
+    .ensures) (number-at2 .ensures)) ∙ sym (feasible-listed (st .args .starts .now) (st .args .counts
+    .now) (st .args .pool .now) (st .args .f) cc)
+
+add-i : tie.Need-add-i Inv-loop μ-loop
+add-i c = search needs
+
+loop-less : tie.Need-loop-less Inv-loop μ-loop
+loop-less c = search needs
+
+loop-again : tie.Need-loop-again Inv-loop μ-loop
+loop-again c =
+    let st = c .before .before .before .before .before .before .before .before .before .before .before .before
+    .before .before .before .before .before in
+    let loop = c .before .before .before .before .before .loop in
+    let is-feasible = c .before .is-feasible in
+    let if1 = c .if1 in
+    let tables = conjuncts (st .args .kinds .now) (st .args .values .now) (st .args .starts .now) (st .args
+    .counts .now) (st .args .pool .now) in (
+      search needs,
+      an-more (λ (v : ℕ). z.isFeasible lined (columnOf tables (numbered (st .args .marks .now)
+          (st .args .c))) (payload .key v)) _ _ _ (loop .inv .1) (rw (← is-feasible .ensures) (if1 .left)),
+    )
+
+returns-2 : tie.Need-returns-2 Inv-loop μ-loop
+returns-2 c =
+    let st = c .before .before .before .before .before .before .before .before .before .before .before .before
+    .before in
+    let number-at = c .before .before .before .number-at in
+    let number-at2 = c .before .before .number-at2 in
+    let loop = c .before .loop in
+    let loop-test = c .loop-test in
+    let tables = conjuncts (st .args .kinds .now) (st .args .values .now) (st .args .starts .now) (st .args
+    .counts .now) (st .args .pool .now) in
+    let cc = columnOf tables (numbered (st .args .marks .now) (st .args .c)) in
+    an-done (λ (v : ℕ). z.isFeasible lined cc (payload .key v)) _ _ _ _ (loop .inv .0) (loop-test .left) (loop
+    .inv .1) ∙ ap (λ (l : List ℕ). anyOf (λ (v : ℕ). z.isFeasible lined cc (payload .key v)) l) (list-as (st
+    .args .starts .now) (st .args .counts .now) (st .args .pool .now) (st .args .f) _ _ (number-at .ensures)
+    (number-at2 .ensures)) ∙ sym (feasible-listed (st .args .starts .now) (st .args .counts .now) (st
+    .args .pool .now) (st .args .f) cc)
+
+pub any-feasible-spec : {M : Type 1} → statement M
+any-feasible-spec =
+    tie.close
+    (tie.spec
+    Inv-loop
+    μ-loop
+    kind-set-requires
+    kind-set-requires-2
+    number-at-requires
+    cast-s
+    number-at-requires-2
+    cast-m
+    loop-holds
+    slice-aggregate-is-feasible
+    slice-aggregate-is-feasible-2
+    add-is-feasible
+    is-feasible-requires
+    returns
+    add-i
+    loop-less
+    loop-again
+    returns-2)

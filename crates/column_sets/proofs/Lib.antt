@@ -1,0 +1,4 @@
+pub mod Numbers
+pub mod Insertions
+pub mod Lists
+pub mod Asked

@@ -1,0 +1,128 @@
+-- Columns as words: what is stored is what is loaded, and a store leaves the other columns as they were.
+use mathlib.Core.Path.{_≡_, refl, sym, _∙_, ap, subst}
+use mathlib.Core.Bool.{Bool, true, false}
+use mathlib.Core.List.{List, [], _∷_, _++_}
+use Prim.Native.Nat.{ℕ, zero, suc, _+_, _*_, _<_}
+use native.Mathlib.Omega.{arith}
+use lib.ListN.{length, getD, set, replicate, getD-replicate, length-append, length-set, List·getD-append}
+use lib.Seq.{getD-set-same, getD-set-other, getD-append-add, ext-getD}
+use lib.Dec.{eqb}
+use borrow.Author.Tests.{eqb-true, eqb-false}
+use Rattle.records.proofs.Laws.{by-test}
+use Rattle.constraints.specs.declared.column.Nullability.{Nullability}
+use Rattle.constraints.specs.declared.column.Nullability.the-variants.{Unconstrained, Null, NonNull}
+use Rattle.column_constraints.specs.declared.bound.Bound.{Bound}
+use Rattle.column_constraints.specs.declared.bound.Bound.the-variants.{Absent, Open, Closed}
+use Rattle.column_constraints.specs.declared.column.ColumnConstraints.{ColumnConstraints}
+use Rattle.stages.specs.Rows.{stride, rowOf, RowsKept}
+use Rattle.column_table.specs.Words.{pastColumn, kindWord, valueWord, lineWord, nullWord, flagWord, boundFrom, nullFrom}
+use Rattle.column_table.specs.Words.{columnFrom, wordsOf, columnsTo, columnsOf}
+
+-- ---- a column and its words
+bound-back : (b : Bound) → boundFrom (kindWord b) (valueWord b) (lineWord b) ≡ b
+bound-back Absent = refl
+bound-back (Open s) = refl
+bound-back (Closed s) = refl
+
+null-back : (n : Nullability) → nullFrom (nullWord n) ≡ n
+null-back Unconstrained = refl
+null-back Null = refl
+null-back NonNull = refl
+
+flag-back : (b : Bool) → eqb (flagWord b) 1 ≡ b
+flag-back true = refl
+flag-back false = refl
+
+pub words-back : (c : ColumnConstraints) → columnFrom (wordsOf c) ≡ c
+unfolding columnFrom wordsOf
+words-back c =
+    rw (bound-back (c .lower), bound-back (c .upper), flag-back (c .strict), null-back (c .nullability), flag-back (c .unsat))
+
+-- ---- the columns of a table
+pub columns-length : (ws : List ℕ) (n : ℕ) → length (columnsTo ws n) ≡ n
+unfolding columnsTo
+columns-length ws zero = refl
+columns-length ws (suc n) =
+    let p = length-append (columnsTo ws n) (columnFrom (rowOf ws n) ∷ []) in
+    let q = columns-length ws n in omega (arith, p, q)
+
+columns-at : (ws : List ℕ) (n i : ℕ) → i < n → getD (columnsTo ws n) i pastColumn ≡ columnFrom (rowOf ws i)
+unfolding columnsTo
+columns-at ws zero i h = absurd (omega (arith, h))
+columns-at ws (suc n) i h =
+    let l = columns-length ws n in
+    by-test (eqb i n)
+    (λ e. let k = eqb-true i n e in
+    let p : i ≡ length (columnsTo ws n) + 0 = omega (arith, l, k) in
+    ap (λ j. getD (columnsTo ws n ++ (columnFrom (rowOf ws n) ∷ [])) j pastColumn) p
+    ∙ getD-append-add (columnsTo ws n) (columnFrom (rowOf ws n) ∷ []) 0 pastColumn
+    ∙ ap (λ j. columnFrom (rowOf ws j)) (sym k))
+    (λ e. let d = eqb-false i n e in
+    let k : i < n = omega (arith, d, h) in
+    List·getD-append (columnsTo ws n) (columnFrom (rowOf ws n) ∷ []) pastColumn i (omega (arith, l, k))
+    ∙ columns-at ws n i k)
+
+pub column-loaded : (ws : List ℕ) (x : ℕ) → x < 64 → getD (columnsOf ws) x pastColumn ≡ columnFrom (rowOf ws x)
+unfolding columnsOf
+column-loaded ws x h = columns-at ws 64 x h
+
+pub columns-size : (ws : List ℕ) → length (columnsOf ws) ≡ 64
+unfolding columnsOf
+columns-size ws = columns-length ws 64
+
+-- A row was written with the words of c: the table is the one before with c at its place.
+pub column-stored : (ws ws′ : List ℕ) (x : ℕ) (c : ColumnConstraints) → x < 64 → RowsKept ws ws′ x
+    → rowOf ws′ x ≡ wordsOf c → columnsOf ws′ ≡ set (columnsOf ws) x c
+column-stored ws ws′ x c h K e = ext-getD pastColumn (columnsOf ws′) (set (columnsOf ws) x c) sizes same
+  where
+    sizes : length (columnsOf ws′) ≡ length (set (columnsOf ws) x c)
+    sizes = columns-size ws′ ∙ sym (length-set (columnsOf ws) x c ∙ columns-size ws)
+
+    at-x : getD (columnsOf ws′) x pastColumn ≡ getD (set (columnsOf ws) x c) x pastColumn
+    at-x = column-loaded ws′ x h ∙ ap columnFrom e ∙ words-back c
+        ∙ sym (getD-set-same (columnsOf ws) x c pastColumn (rw (columns-size ws) h))
+
+    same : (i : ℕ) → i < length (columnsOf ws′) → getD (columnsOf ws′) i pastColumn ≡ getD (set (columnsOf ws) x c) i pastColumn
+    same i l =
+        let k : i < 64 = let s = columns-size ws′ in omega (arith, s, l) in
+        by-test (eqb x i)
+        (λ p. subst (λ j. getD (columnsOf ws′) j pastColumn ≡ getD (set (columnsOf ws) x c) j pastColumn) (eqb-true x i p) at-x)
+        (λ p. let d : (i ≡ x → ⊥) = λ q. eqb-false x i p (sym q) in
+        column-loaded ws′ i k ∙ ap columnFrom (K .others i k p) ∙ sym (column-loaded ws i k)
+        ∙ sym (getD-set-other (columnsOf ws) x i c pastColumn d))
+
+-- A table of zeros holds empty columns.
+pub columns-empty : columnsOf (replicate 704 0) ≡ replicate 64 pastColumn
+unfolding columnsOf columnsTo columnFrom rowOf
+columns-empty = refl
+
+-- ---- what `store` ensures, read by `load`
+pub loads-stored : (ws ws′ : List ℕ) (x : ℕ) (c : ColumnConstraints) → x < 64 → columnsOf ws′ ≡ set (columnsOf ws) x c
+    → getD (columnsOf ws′) x pastColumn ≡ c
+loads-stored ws ws′ x c h e =
+    ap (λ t. getD t x pastColumn) e ∙ getD-set-same (columnsOf ws) x c pastColumn (rw (columns-size ws) h)
+
+pub loads-other : (ws ws′ : List ℕ) (x y : ℕ) (c : ColumnConstraints) → (y ≡ x → ⊥) → columnsOf ws′ ≡ set (columnsOf ws) x c
+    → getD (columnsOf ws′) y pastColumn ≡ getD (columnsOf ws) y pastColumn
+loads-other ws ws′ x y c d e = ap (λ t. getD t y pastColumn) e ∙ getD-set-other (columnsOf ws) x y c pastColumn d
+
+pub loads-empty : (x : ℕ) → x < 64 → getD (columnsOf (replicate 704 0)) x pastColumn ≡ pastColumn
+loads-empty x h = ap (λ t. getD t x pastColumn) columns-empty ∙ getD-replicate 64 x pastColumn pastColumn h
+
+-- ---- eleven words written
+pub eleven-set : (l : List ℕ) (a b c d e f g h i j k : ℕ) → length l ≡ 11
+    → set (set (set (set (set (set (set (set (set (set (set l 0 a) 1 b) 2 c) 3 d) 4 e) 5 f) 6 g) 7 h) 8 i) 9 j) 10 k
+    ≡ (a ∷ b ∷ c ∷ d ∷ e ∷ f ∷ g ∷ h ∷ i ∷ j ∷ k ∷ [])
+eleven-set [] a b c d e f g h i j k p = absurd (omega (arith, p))
+eleven-set (x0 ∷ []) a b c d e f g h i j k p = absurd (omega (arith, p))
+eleven-set (x0 ∷ x1 ∷ []) a b c d e f g h i j k p = absurd (omega (arith, p))
+eleven-set (x0 ∷ x1 ∷ x2 ∷ []) a b c d e f g h i j k p = absurd (omega (arith, p))
+eleven-set (x0 ∷ x1 ∷ x2 ∷ x3 ∷ []) a b c d e f g h i j k p = absurd (omega (arith, p))
+eleven-set (x0 ∷ x1 ∷ x2 ∷ x3 ∷ x4 ∷ []) a b c d e f g h i j k p = absurd (omega (arith, p))
+eleven-set (x0 ∷ x1 ∷ x2 ∷ x3 ∷ x4 ∷ x5 ∷ []) a b c d e f g h i j k p = absurd (omega (arith, p))
+eleven-set (x0 ∷ x1 ∷ x2 ∷ x3 ∷ x4 ∷ x5 ∷ x6 ∷ []) a b c d e f g h i j k p = absurd (omega (arith, p))
+eleven-set (x0 ∷ x1 ∷ x2 ∷ x3 ∷ x4 ∷ x5 ∷ x6 ∷ x7 ∷ []) a b c d e f g h i j k p = absurd (omega (arith, p))
+eleven-set (x0 ∷ x1 ∷ x2 ∷ x3 ∷ x4 ∷ x5 ∷ x6 ∷ x7 ∷ x8 ∷ []) a b c d e f g h i j k p = absurd (omega (arith, p))
+eleven-set (x0 ∷ x1 ∷ x2 ∷ x3 ∷ x4 ∷ x5 ∷ x6 ∷ x7 ∷ x8 ∷ x9 ∷ []) a b c d e f g h i j k p = absurd (omega (arith, p))
+eleven-set (x0 ∷ x1 ∷ x2 ∷ x3 ∷ x4 ∷ x5 ∷ x6 ∷ x7 ∷ x8 ∷ x9 ∷ x10 ∷ []) a b c d e f g h i j k p = refl
+eleven-set (x0 ∷ x1 ∷ x2 ∷ x3 ∷ x4 ∷ x5 ∷ x6 ∷ x7 ∷ x8 ∷ x9 ∷ x10 ∷ x11 ∷ l) a b c d e f g h i j k p = absurd (omega (arith, p))

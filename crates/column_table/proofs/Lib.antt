@@ -1,0 +1,4 @@
+pub mod Arrays
+pub mod Encoding
+pub mod Propagating
+pub mod Resolving

@@ -1,0 +1,85 @@
+-- A column as eleven words, and the table that a slice of 64 times eleven words stands for.
+use mathlib.Core.Bool.{Bool, true, false, cond}
+use mathlib.Core.List.{List, [], _∷_, _++_}
+use Prim.Native.Nat.{ℕ, zero, suc}
+use lib.ListN.{getD}
+use lib.Dec.{eqb}
+use Rattle.constraints.specs.declared.column.Nullability.{Nullability}
+use Rattle.constraints.specs.declared.column.Nullability.the-variants.{Unconstrained, Null, NonNull}
+use Rattle.column_constraints.specs.declared.bound.Limit.{Limit}
+use Rattle.column_constraints.specs.declared.bound.Bound.{Bound}
+use Rattle.column_constraints.specs.declared.bound.Bound.the-variants.{Absent, Open, Closed}
+use Rattle.column_constraints.specs.declared.column.ColumnConstraints.{ColumnConstraints}
+use Rattle.stages.specs.Rows.{rowOf}
+
+-- What a read past an array of columns gives: the empty column.
+abbrev pub pastColumn : ColumnConstraints
+pastColumn =
+    record {
+      lower = Absent;
+      upper = Absent;
+      len = 0;
+      strict = false;
+      nullability = Unconstrained;
+      since = 0;
+      unsat = false;
+    }
+
+abbrev pub kindWord : Bound → ℕ
+kindWord Absent = 0
+kindWord (Open s) = 1
+kindWord (Closed s) = 2
+
+abbrev pub valueWord : Bound → ℕ
+valueWord Absent = 0
+valueWord (Open s) = s .value .0
+valueWord (Closed s) = s .value .0
+
+abbrev pub lineWord : Bound → ℕ
+lineWord Absent = 0
+lineWord (Open s) = s .line
+lineWord (Closed s) = s .line
+
+abbrev pub nullWord : Nullability → ℕ
+nullWord Unconstrained = 0
+nullWord Null = 1
+nullWord NonNull = 2
+
+abbrev pub flagWord : Bool → ℕ
+flagWord b = cond b 1 0
+
+abbrev pub limitFrom : ℕ → ℕ → Limit
+limitFrom v l = record { value = record { 0 = v }; line = l }
+
+abbrev pub boundFrom : ℕ → ℕ → ℕ → Bound
+boundFrom k v l = cond (eqb k 0) Absent (cond (eqb k 1) (Open (limitFrom v l)) (Closed (limitFrom v l)))
+
+abbrev pub nullFrom : ℕ → Nullability
+nullFrom w = cond (eqb w 0) Unconstrained (cond (eqb w 1) Null NonNull)
+
+unfoldable pub columnFrom : List ℕ → ColumnConstraints
+columnFrom w =
+    record {
+      lower = boundFrom (getD w 0 0) (getD w 1 0) (getD w 8 0);
+      upper = boundFrom (getD w 2 0) (getD w 3 0) (getD w 9 0);
+      len = getD w 4 0;
+      strict = eqb (getD w 5 0) 1;
+      nullability = nullFrom (getD w 6 0);
+      since = getD w 10 0;
+      unsat = eqb (getD w 7 0) 1;
+    }
+
+unfoldable pub wordsOf : ColumnConstraints → List ℕ
+wordsOf c =
+    kindWord (c .lower) ∷ valueWord (c .lower) ∷ kindWord (c .upper) ∷ valueWord (c .upper) ∷ c .len ∷
+    flagWord (c .strict) ∷ nullWord (c .nullability) ∷ flagWord (c .unsat) ∷ lineWord (c .lower) ∷ lineWord (c .upper) ∷
+    c .since ∷ []
+
+-- The first n columns of a table of words.
+unfoldable pub columnsTo : List ℕ → ℕ → List ColumnConstraints
+columnsTo ws zero = []
+columnsTo ws (suc n) = columnsTo ws n ++ (columnFrom (rowOf ws n) ∷ [])
+
+-- All 64.
+unfoldable pub columnsOf : List ℕ → List ColumnConstraints
+columnsOf ws = columnsTo ws 64

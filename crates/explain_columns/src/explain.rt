@@ -1,0 +1,125 @@
+// The reasons of the comparisons of all columns as text (02, 2.6), column by column as the comparisons are written out. How
+// long the text is comes before its first byte.
+ghost use mathlib.Core.Path.{_≡_};
+ghost use Prim.Native.Nat.{ℕ, _+_, _<_, _≤_};
+ghost use lib.ListN.{length, getD};
+ghost use Rattle.constraints.specs.Comparisons.{collectColumnComparisons};
+ghost use Rattle.constraints.specs.Lined.{lined};
+ghost use Rattle.column_constraints.specs.Abstraction.{Conjuncts, numbered, columnOf, Fine};
+ghost use Rattle.column_reasons.specs.ColumnText.{columnText, tableText};
+ghost use Rattle.merge.specs.Write.{splice};
+ghost use Rattle.read_operands.specs.Walk.{firstOf};
+ghost use Rattle.stages.specs.Rows.{stride, rowOf};
+ghost use Rattle.column_table.specs.Words.{columnsOf};
+ghost use Rattle.column_table.specs.State.{Fits, shown};
+use column_constraints::column::ColumnConstraints;
+use column_reasons::column_length;
+use column_reasons::write_column_reasons;
+use column_table::cells::load;
+use records::record::Column;
+use stages::fields::slot;
+
+/// How many bytes the reasons of the column c in row x have.
+fn row_length(
+    a: Column,
+    kinds: &[u8],
+    values: &[u64],
+    marks: &[u8],
+    x: usize,
+    c: ColumnConstraints,
+) -> usize
+    requires { ⌜ (x < 64) × (stride (now marks) ≤ 128) × Fine (stride (now marks)) (rowOf (now marks) x) (c .len) ⌝ }
+    ensures { λ r. ⌜ ((s : Conjuncts) → s .kinds ≡ now (kinds .entry) → s .values ≡ now (values .entry) →
+        r ≡ length (columnText (a .0) (collectColumnComparisons lined
+        (columnOf s (numbered (rowOf (now (marks .entry)) x) c))))) ⌝ }
+    ensures { λ r. ⌜ r ≤ 8970 ⌝ }
+{
+    let size = marks.len() / 64;
+    let at = x * size;
+    let end = at + size;
+    column_length(a, kinds, values, &marks[at..end], c)
+}
+
+/// The reasons of the column c in row x from `next` on; the place behind them.
+fn write_row_reasons(
+    out: &mut [u8],
+    next: usize,
+    a: Column,
+    kinds: &[u8],
+    values: &[u64],
+    marks: &[u8],
+    x: usize,
+    c: ColumnConstraints,
+) -> usize
+    requires { ⌜ (x < 64) × (stride (now marks) ≤ 128) × Fine (stride (now marks)) (rowOf (now marks) x) (c .len) ⌝ }
+    requires { ⌜ ((s : Conjuncts) → s .kinds ≡ now kinds → s .values ≡ now values →
+        next + length (columnText (a .0) (collectColumnComparisons lined (columnOf s (numbered (rowOf (now marks) x) c))))
+        ≤ length (now out)) ⌝ }
+    ensures { λ r. ⌜ ((s : Conjuncts) → s .kinds ≡ now (kinds .entry) → s .values ≡ now (values .entry) →
+        r ≡ next + length (columnText (a .0) (collectColumnComparisons lined
+        (columnOf s (numbered (rowOf (now (marks .entry)) x) c))))) ⌝ }
+    ensures { λ _. ⌜ ((s : Conjuncts) → s .kinds ≡ now (kinds .entry) → s .values ≡ now (values .entry) →
+        now (out .exit) ≡ splice (now (out .entry)) next (columnText (a .0) (collectColumnComparisons lined
+        (columnOf s (numbered (rowOf (now (marks .entry)) x) c))))) ⌝ }
+{
+    let size = marks.len() / 64;
+    let at = x * size;
+    let end = at + size;
+    write_column_reasons(out, next, a, kinds, values, &marks[at..end], c)
+}
+
+/// How many bytes the reasons of the columns of `order` have.
+pub fn reasons_length(
+    kinds: &[u8],
+    values: &[u64],
+    cells: &[u64],
+    marks: &[u8],
+    order: &[u32],
+    columns: usize,
+) -> usize
+    requires { ⌜ Fits (now cells) (now marks) × (columns ≤ length (now order)) × (columns ≤ 256) ⌝ }
+    requires { ⌜ ((o : ℕ) → o < columns → getD (now order) o 0 < 64) ⌝ }
+    ensures { λ r. ⌜ ((s : Conjuncts) → s .kinds ≡ now (kinds .entry) → s .values ≡ now (values .entry) →
+        r ≡ length (tableText (firstOf (now (order .entry)) columns)
+        (shown s (columnsOf (now (cells .entry))) (now (marks .entry))))) ⌝ }
+{
+    let mut size: usize = 0;
+    let mut w: usize = 0;
+    while w < columns {
+        let a = Column(order[w]);
+        let x = slot(a);
+        let c = load(cells, x);
+        size = size + row_length(a, kinds, values, marks, x, c);
+        w += 1;
+    }
+    size
+}
+
+/// The reasons of the columns of `order` in the front of `out`.
+pub fn write_reasons(
+    out: &mut [u8],
+    kinds: &[u8],
+    values: &[u64],
+    cells: &[u64],
+    marks: &[u8],
+    order: &[u32],
+    columns: usize,
+)
+    requires { ⌜ Fits (now cells) (now marks) × (columns ≤ length (now order)) × (columns ≤ 256) ⌝ }
+    requires { ⌜ ((o : ℕ) → o < columns → getD (now order) o 0 < 64) ⌝ }
+    requires { ⌜ ((s : Conjuncts) → s .kinds ≡ now kinds → s .values ≡ now values →
+        length (tableText (firstOf (now order) columns) (shown s (columnsOf (now cells)) (now marks))) ≤ length (now out)) ⌝ }
+    ensures { λ _. ⌜ ((s : Conjuncts) → s .kinds ≡ now (kinds .entry) → s .values ≡ now (values .entry) →
+        now (out .exit) ≡ splice (now (out .entry)) 0 (tableText (firstOf (now (order .entry)) columns)
+        (shown s (columnsOf (now (cells .entry))) (now (marks .entry))))) ⌝ }
+{
+    let mut next: usize = 0;
+    let mut w: usize = 0;
+    while w < columns {
+        let a = Column(order[w]);
+        let x = slot(a);
+        let c = load(cells, x);
+        next = write_row_reasons(out, next, a, kinds, values, marks, x, c);
+        w += 1;
+    }
+}

@@ -1,0 +1,2 @@
+// The text of the comparisons' reasons.
+pub mod explain;

@@ -1,0 +1,2 @@
+pub mod Memberships
+pub mod Lists

@@ -1,0 +1,114 @@
+-- What the merging answers of the conjuncts in an array is the answer of rewriting.
+use mathlib.Core.Path.{_≡_, sym, _∙_, ap}
+use mathlib.Core.Bool.{true, false, true≢false}
+use mathlib.Core.List.{List, map}
+use Prim.Native.Nat.{ℕ, _≤_, min}
+use native.Mathlib.Omega.{arith}
+use lib.ListN.{length, getD}
+use Rattle.checking.specs.Check.{checkAnswer}
+use Rattle.checking.specs.Tree.{treeCount}
+use Rattle.checking.specs.declared.check.CheckAnswer.the-variants as check
+use Rattle.checking.proofs.Accepted.{checked}
+use Rattle.truth.specs.FromBytes.{aexprOf, aexprAt}
+use Rattle.constraints.specs.Payload.{payload}
+use Rattle.merge.specs.declared.answer.RewriteAnswer.{RewriteAnswer}
+use Rattle.merge.specs.declared.answer.RewriteAnswer.the-variants as answer
+use Rattle.merge.specs.declared.answer.Rewriting.{Rewriting}
+use Rattle.merge.specs.Minterms.{minterms}
+use Rattle.merge.specs.Classify.{classify, readConjuncts}
+use Rattle.merge.specs.Demand.{isRefused}
+use Rattle.merge.specs.Emit.{Outcome, mergeFilterConstraints}
+use Rattle.merge.specs.Passes.{mergePasses, rewritePasses}
+use Rattle.merge.specs.Write.{outcomeBytes}
+use Rattle.merge.specs.Lines.{linesFrom}
+use Rattle.merge.specs.Reasons.{reasonsOf}
+use Rattle.merge.specs.Rewrite.{outcomeOf, rewriteAnswer, writtenIf}
+use Rattle.constraints.specs.Lined.{lined}
+use Rattle.reasons.specs.Text.{reasonsText}
+use Rattle.reasons.specs.Explained.{refuseLong, textIf, lengthIf, explainedText, explainedAnswer, explainedBytes}
+use Rattle.filter_constraint.specs.Explained.{nodesText}
+use Rattle.read_operands.specs.Walk.{walked, firstOf}
+use Rattle.reckoning.specs.Reckon.{reckonedAnswer}
+use Rattle.stages.proofs.Answers.{walkedOutcome, rewrite-on}
+use Rattle.stages.proofs.Screens.{nodes-count, conjuncts-used}
+
+-- The merging of the first n nodes.
+abbrev mergedNodes : List ℕ → List ℕ → List ℕ → ℕ → Outcome ℕ
+mergedNodes rs p nodes n = mergeFilterConstraints payload (map (classify (aexprOf rs p)) (firstOf nodes n))
+
+-- Their passes.
+abbrev passesNodes : List ℕ → List ℕ → List ℕ → ℕ → ℕ
+passesNodes rs p nodes n = mergePasses payload (map (classify (aexprOf rs p)) (firstOf nodes n))
+
+-- A refusal says nothing of the passes.
+pub none-said : (a : RewriteAnswer) (k x y : ℕ) → a ≡ answer.Refused k → isRefused a ≡ false → x ≡ y
+none-said a k x y e h = absurd (true≢false (sym (ap isRefused e) ∙ h))
+
+pub rewrite-merged : (t rs p : List ℕ) (used root : ℕ) → checkAnswer t rs p used root ≡ check.Accepted
+    → (trees : List ℕ) → ((a : ℕ) → a ≤ root → getD trees a 0 ≡ min (treeCount rs a) 4097) → treeCount rs root ≤ 4096
+    → (nodes : List ℕ) (n : ℕ) → firstOf nodes n ≡ minterms (walked rs) root → n ≤ 128
+    → (r : Rewriting) (out buffer after : List ℕ)
+    → r .answer ≡ refuseLong (length (nodesText rs p nodes n)) (length buffer)
+    (reckonedAnswer (length rs) trees used (mergedNodes rs p nodes n))
+    → out ≡ writtenIf (r .answer) rs (outcomeBytes t rs used (mergedNodes rs p nodes n))
+    → r .passes ≡ passesNodes rs p nodes n
+    → after ≡ textIf (r .answer) buffer (nodesText rs p nodes n) → r .length ≡ lengthIf (r .answer) (nodesText rs p nodes n)
+    → (r .answer ≡ explainedAnswer t rs p used root (length buffer))
+    × ((out ≡ explainedBytes t rs p used root (length buffer))
+    × ((isRefused (r .answer) ≡ false → r .passes ≡ rewritePasses rs p used root)
+    × ((after ≡ textIf (r .answer) buffer (explainedText rs p used root))
+    × (r .length ≡ lengthIf (r .answer) (explainedText rs p used root)))))
+unfolding rewritePasses nodesText explainedText explainedAnswer explainedBytes
+rewrite-merged t rs p used root ok trees counted small nodes n are few r out buffer after e f g x l =
+    let good = checked t rs p used root ok in
+    let k : n ≡ length (minterms (walked rs) root) = nodes-count t rs p used root good nodes n are in
+    let on = rewrite-on t rs p used root ok trees counted small (omega (arith, k, few)) in
+    let o : mergedNodes rs p nodes n ≡ walkedOutcome rs p root =
+    ap (λ l. mergeFilterConstraints payload (map (classify (aexprOf rs p)) l)) are in
+    let read : map (classify (aexprOf rs p)) (firstOf nodes n) ≡ readConjuncts (aexprAt rs p used) root =
+    ap (map (classify (aexprOf rs p))) are ∙ sym (conjuncts-used t rs p used root good) in
+    let text : nodesText rs p nodes n ≡ explainedText rs p used root =
+    ap (λ c. reasonsText (reasonsOf (mergeFilterConstraints lined (linesFrom 0 c)))) read in
+    let a : r .answer ≡ explainedAnswer t rs p used root (length buffer) =
+    e
+    ∙ ap (λ c. refuseLong (length c) (length buffer) (reckonedAnswer (length rs) trees used (mergedNodes rs p nodes n))) text
+    ∙ ap (λ c. refuseLong (length (explainedText rs p used root)) (length buffer) c)
+    (ap (reckonedAnswer (length rs) trees used) o ∙ sym (on .0)) in (
+      a,
+      (
+        f
+            ∙ ap (λ c. writtenIf (r .answer) rs (outcomeBytes t rs used (mergeFilterConstraints payload c))) read
+            ∙ ap (λ c. writtenIf c rs (outcomeBytes t rs used (outcomeOf rs p used root))) a,
+        (
+          λ h. g
+              ∙ ap (λ l. mergePasses payload (map (classify (aexprOf rs p)) l)) are
+              ∙ sym (ap (mergePasses payload) (conjuncts-used t rs p used root good)),
+          (x ∙ ap (textIf (r .answer) buffer) text, l ∙ ap (lengthIf (r .answer)) text),
+        ),
+      ),
+    )
+
+-- A refusal before the merging: 1 to 7, 8 and 9 look for no text.
+pub refused-explained : (t rs p : List ℕ) (used root k : ℕ) (r : Rewriting) (buffer : List ℕ) → r .answer ≡ answer.Refused k
+    → r .length ≡ 0 → rewriteAnswer t rs p used root ≡ answer.Refused k
+    → (r .answer ≡ explainedAnswer t rs p used root (length buffer))
+    × ((rs ≡ explainedBytes t rs p used root (length buffer))
+    × ((isRefused (r .answer) ≡ false → r .passes ≡ rewritePasses rs p used root)
+    × ((buffer ≡ textIf (r .answer) buffer (explainedText rs p used root))
+    × (r .length ≡ lengthIf (r .answer) (explainedText rs p used root)))))
+unfolding explainedAnswer explainedBytes
+refused-explained t rs p used root k r buffer e l h =
+    let a : explainedAnswer t rs p used root (length buffer) ≡ answer.Refused k =
+    ap (refuseLong (length (explainedText rs p used root)) (length buffer)) h in (
+      e ∙ sym a,
+      (
+        sym (ap (λ c. writtenIf c rs (outcomeBytes t rs used (outcomeOf rs p used root))) a),
+        (
+          none-said (r .answer) k _ _ e,
+          (
+            sym (ap (λ c. textIf c buffer (explainedText rs p used root)) e),
+            l ∙ sym (ap (λ c. lengthIf c (explainedText rs p used root)) e),
+          ),
+        ),
+      ),
+    )

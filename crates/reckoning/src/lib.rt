@@ -1,0 +1,2 @@
+// Number 11 and the answer, reckoned before a byte is written.
+pub mod reckon;
