@@ -1,7 +1,7 @@
 /*
  * The hedge list over a chain of 1,024 rows. First a screen of 10 lines beside C written by hand for that very screen, which
  * makes the same checks of the rows, knows the screen and so checks none: goal 2 times. Then the slowest families of screens
- * known for rows: a full tree, the deepest ones, long lists; goal 15 ms each.
+ * known for rows: a full tree, the deepest ones, divisions, long lists; goal 15 ms each.
  *
  * A refused answer, or another list than screen_test_row or the C by hand gives, fails the run; a time never does.
  */
@@ -219,16 +219,31 @@ static int nots(void)
     return family("4,094 Nots");
 }
 
-static int divisions(void)
+/* One of the other, or by the other. */
+static int divisions(const char *name, int by)
 {
-    uint32_t top, divisor;
+    uint32_t top, one;
     make(&now, COLUMNS, SCREEN_TYPE_INT);
-    divisor = screen_put_int(&now.s, -1);
+    one = screen_put_int(&now.s, -1);
     top = screen_put_column(&now.s, 0);
     while (now.s.used < 2046)
-        top = screen_put_floor_divide(&now.s, top, divisor);
+        top = screen_put_floor_divide(&now.s, by ? one : top, by ? top : one);
     screen_put_is_not_null(&now.s, top);
-    return family("2,044 divisions, one of the other");
+    return family(name);
+}
+
+/* Both inputs are divisions, the second the deep one. */
+static int divisions_of_both(void)
+{
+    uint32_t top, one, column;
+    make(&now, COLUMNS, SCREEN_TYPE_INT);
+    one = screen_put_int(&now.s, -1);
+    column = screen_put_column(&now.s, 0);
+    top = column;
+    for (unsigned n = 0; n < 1022; n++)
+        top = screen_put_floor_divide(&now.s, screen_put_floor_divide(&now.s, column, one), top);
+    screen_put_is_not_null(&now.s, top);
+    return family("1,022 divisions of a division by the other");
 }
 
 static int divisions_beside(void)
@@ -255,13 +270,14 @@ static int truths(void)
     return family("1,364 comparisons of truths, one of the other");
 }
 
-/* `count` is_in of column 0, each over the pool from its own place on; no row is in a list, so each is searched whole. */
-static int lists(const char *name, unsigned count)
+/* `count` is_in of column 0, each over the pool from its own place on. The pool has the even numbers, and no row's value, or
+   the odd ones, and every row's. */
+static int lists(const char *name, unsigned count, unsigned odd)
 {
     uint32_t top = 0;
     make(&now, COLUMNS, SCREEN_TYPE_INT);
     for (unsigned i = 0; i < SCREEN_MAX_POOL_VALUES; i++)
-        screen_put_pool(&now.s, 2 * (int64_t)(i * 2654435761u % 8192));
+        screen_put_pool(&now.s, 2 * (int64_t)(i * 2654435761u % 8192) + odd);
     for (unsigned n = 0; n < count; n++) {
         uint32_t x = screen_put_column(&now.s, 0);
         uint32_t part = screen_put(&now.s, SCREEN_KIND_LIST, 0, SCREEN_TYPE_INT, n, SCREEN_MAX_POOL_VALUES - n, 0);
@@ -277,11 +293,14 @@ int main(void)
     make_plain_chain();
     differ |= full_tree();
     differ |= nots();
-    differ |= divisions();
+    differ |= divisions("2,044 divisions, one of the other", 0);
+    differ |= divisions("2,044 divisions, one by the other", 1);
+    differ |= divisions_of_both();
     differ |= divisions_beside();
     differ |= truths();
-    differ |= lists("one list of 8,192 values", 1);
-    differ |= lists("1,024 lists over parts of 8,192 values", 1024);
+    differ |= lists("one list of 8,192 values", 1, 0);
+    differ |= lists("1,024 lists over parts of 8,192 values", 1024, 0);
+    differ |= lists("1,024 lists that have every row's value", 1024, 1);
     printf("goals met: %u of %u\n", met, goals);
     return differ;
 }

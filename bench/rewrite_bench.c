@@ -28,7 +28,7 @@ static void equal_columns(uint32_t left, uint32_t right)
 }
 
 /* is_in of a column over values of the pool that stand there already. */
-static uint32_t listed(uint32_t number, uint32_t start, uint32_t count)
+static uint32_t list_of(uint32_t number, uint32_t start, uint32_t count)
 {
     uint32_t x = screen_put_column(&now.s, number);
     uint32_t values = screen_put(&now.s, SCREEN_KIND_LIST, 0, SCREEN_TYPE_INT, start, count, 0);
@@ -146,12 +146,12 @@ static void make_worst_allowed(void)
     repeated(7, 1);
     barred = repeated(8, 100);
     other = repeated(9, 100);
-    join(listed(0, first, 100));
+    join(list_of(0, first, 100));
     for (uint32_t n = 0; n < 31; n++)
-        join(listed(0, last, 100));
-    join(listed(0, barred, 100));
+        join(list_of(0, last, 100));
+    join(list_of(0, barred, 100));
     for (uint32_t n = 0; n < 32; n++)
-        join(listed(0, other, 100));
+        join(list_of(0, other, 100));
     join_chain(1);
 }
 

@@ -419,7 +419,7 @@ enum screen_line_answer {
  * never answered with SCREEN_NO_LINE. A line that stands twice is never found.
  *
  * The call merges the lines once as they are and, where nothing passes, once for each line left out, up to the one
- * found: at most 129 times, of the slowest screens known some 90 ms. It needs some 390 KB of stack, whatever the screen.
+ * found: at most 129 times, of the slowest screens known some 13 ms. It needs some 390 KB of stack, whatever the screen.
  */
 SCREEN_MUST_USE
 uint32_t screen_line_in_the_way(const uint8_t *table, size_t table_len, const uint8_t *records, size_t records_len,
@@ -524,8 +524,9 @@ enum screen_hedge_list_answer {
  *
  * `nulls` needs the alignment of uint64_t, `tally` that of its numbers.
  *
- * The call needs less than 96 KB of stack; with divisions of divisions its need follows their depth, and the deepest
- * screen, 2,046 of them, needs less than 800 KB.
+ * The call needs less than 128 KB of stack, and less than 384 KB if the screen asks its lists for 4,096 values or more,
+ * those of all is_in together. With divisions of divisions its need follows their depth: the deepest screen, 2,046 of
+ * them, needs less than 700 KB, and less than 960 KB with such lists beside them.
  */
 SCREEN_MUST_USE
 uint32_t screen_hedge_list(const uint8_t *table, size_t table_len, const uint8_t *records, size_t records_len,

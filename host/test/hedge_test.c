@@ -368,6 +368,67 @@ static void test_wide(void)
     expect("64 columns and the longest list", SCREEN_HEDGED);
 }
 
+/* Lists long enough that the pool is put in order, parts of one pool of `different` values: Xor, so that each of them counts. */
+static void long_lists(unsigned lists, unsigned longest, unsigned different, size_t n)
+{
+    uint32_t top = 0;
+    begin_mixed();
+    for (unsigned i = 0; i < SCREEN_MAX_POOL_VALUES; i++)
+        pool_value((int64_t)below(different) - different / 2);
+    for (unsigned k = 0; k < lists; k++) {
+        uint32_t count = longest - below(longest / 2);
+        uint32_t part = list(below(2), INT, below(SCREEN_MAX_POOL_VALUES - count + 1), count);
+        uint32_t next = is_in(below(2), below(4) == 0 ? binary(SCREEN_OP_MODULUS, column(0), literal(INT, 7)) : column(0), part);
+        top = k == 0 ? next : binary(SCREEN_OP_XOR, top, next);
+    }
+    zero_chain(n);
+    for (size_t r = 0; r < n; r++)
+        if (below(9) == 0)
+            null_cell(r, 0);
+        else
+            cell(r, 0, (int64_t)below(2 * different) - different);
+    expect("long lists", SCREEN_HEDGED);
+}
+
+static void test_lists(void)
+{
+    static const unsigned different[] = {2, 50, 3000, 100000};
+    for (unsigned i = 0; i < 4; i++) {
+        long_lists(60, 150, different[i], 300);
+        long_lists(50, 2000, different[i], 40);
+    }
+    long_lists(1, SCREEN_MAX_POOL_VALUES, 5000, 200);
+}
+
+/* Divisions in divisions, in the first input, the second or both. */
+static void test_divisions(void)
+{
+    for (unsigned k = 0; k < 40; k++) {
+        begin_mixed();
+        uint32_t last = column(0), top = last;
+        while (sent.used < 60 + 40 * (k % 4)) {
+            uint32_t leaf = below(2) == 0 ? column(3) : literal(INT, (int64_t)below(9) - 4);
+            unsigned code = below(3) == 0 ? SCREEN_OP_MODULUS : SCREEN_OP_FLOOR_DIVIDE;
+            unsigned shape = k % 5 == 4 ? below(4) : k % 5;
+            uint32_t next = shape == 0 ? binary(code, top, leaf)
+                : shape == 1           ? binary(code, leaf, top)
+                : shape == 2           ? binary(code, binary(code, leaf, leaf), top)
+                                       : binary(code, top, binary(code, leaf, leaf));
+            last = top;
+            top = next;
+        }
+        binary(SCREEN_OP_LT, last, top);
+        zero_chain(70);
+        for (size_t r = 0; r < rows; r++)
+            for (unsigned c = 0; c < 4; c += 3)
+                if (below(8) == 0)
+                    null_cell(r, c);
+                else
+                    cell(r, c, some_int());
+        expect("divisions in divisions", SCREEN_HEDGED);
+    }
+}
+
 /* ----------------------------------------------------------------------------------------------------------- the stack */
 
 static void *deep(void *unused)
@@ -393,7 +454,7 @@ static void *deep(void *unused)
 /* The call alone, since screen_test_row needs more. */
 static void *alone(void *answer)
 {
-    static uint8_t list[2 * 64];
+    static uint8_t list[2 * 128];
     struct screen_tally sums = {0, 0, 0};
     uint64_t count = 0;
     uint32_t got = screen_lent_hedge_list(&sent, values, values_len, nulls, rows, list, sizeof list, &sums, &count);
@@ -432,8 +493,28 @@ static void test_deep(void)
         top = binary(SCREEN_OP_FLOOR_DIVIDE, top, divisor);
     is_not_null(top);
     zero_chain(64);
-    on_thread(alone, &answer, 800 << 10);
-    report(answer == SCREEN_HEDGED, "2,046 divisions", "not every row on a thread of 800 KB");
+    on_thread(alone, &answer, 700 << 10);
+    report(answer == SCREEN_HEDGED, "2,046 divisions", "not every row on a thread of 700 KB");
+
+    begin_mixed();
+    for (unsigned i = 0; i < SCREEN_MAX_POOL_VALUES; i++)
+        pool_value(i);
+    is_in(0, column(0), list(0, INT, 0, SCREEN_MAX_POOL_VALUES));
+    zero_chain(128);
+    on_thread(alone, &answer, 384 << 10);
+    report(answer == SCREEN_HEDGED, "the longest list", "not every row on a thread of 384 KB");
+
+    begin_mixed();
+    for (unsigned i = 0; i < SCREEN_MAX_POOL_VALUES; i++)
+        pool_value(i);
+    divisor = literal(INT, -1);
+    top = column(0);
+    for (unsigned n = 0; n < 2044; n++)
+        top = binary(SCREEN_OP_FLOOR_DIVIDE, top, divisor);
+    is_in(0, top, list(0, INT, 0, SCREEN_MAX_POOL_VALUES));
+    zero_chain(128);
+    on_thread(alone, &answer, 960 << 10);
+    report(answer == SCREEN_HEDGED, "2,044 divisions and the longest list", "not every row on a thread of 960 KB");
 }
 
 static void test_texts(void)
@@ -452,6 +533,8 @@ int main(void)
     test_views();
     test_random();
     test_wide();
+    test_lists();
+    test_divisions();
     test_deep();
     test_texts();
     return finish();

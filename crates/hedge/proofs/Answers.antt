@@ -20,7 +20,7 @@ use Rattle.tally.specs.Sums.{grown, sumsFit, added}
 use Rattle.tally.proofs.Sums.{added-grown, added-none}
 use Rattle.hedge.specs.declared.list.HedgeAnswer.{HedgeAnswer}
 use Rattle.hedge.specs.declared.list.HedgeAnswer.the-variants.{Refused, Listed}
-use Rattle.hedge.specs.Chain.{answerAt, isTested}
+use Rattle.chain_rows.specs.Chain.{answerAt, isTested}
 use Rattle.hedge.specs.Hedge.{sumsAnswer, countsAnswer, rowsAnswer, roomOk, checkedAnswer, answerIf}
 use Rattle.hedge.specs.Hedge.{hedgeAnswer, hedgeBytes, listIf, tallyOut}
 use Rattle.hedge.specs.Calls.{passedOf, falseOf, unknownOf}

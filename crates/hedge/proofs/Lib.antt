@@ -1,4 +1,3 @@
-pub mod Rows
 pub mod Lists
 pub mod Answers
 pub mod Promised

@@ -2,21 +2,21 @@
 -- Assumes nothing.
 use mathlib.Core.Path.{_≡_, refl, sym, _∙_, subst}
 use mathlib.Core.Bool.{Bool, true, false, cond}
-use mathlib.Core.List.{List}
-use Prim.Native.Nat.{ℕ, zero, suc, _*_, _≤_}
-use native.Mathlib.Omega.{arith}
+use mathlib.Core.List.{List, [], _∷_}
+use Prim.Native.Nat.{ℕ, _*_, _≤_}
 use lib.Dec.{ltb, eqb}
 use lib.ListN.{length}
 use Rattle.records.specs.Bytes.{all}
 use Rattle.checking.specs.Tree.{treeCount}
 use Rattle.row_test.specs.declared.test.RowAnswer.{RowAnswer}
-use Rattle.hedge.specs.Chain.{answerAt, passes, isFalse, isUnknown, isTested, count}
+use Rattle.chain_rows.specs.Chain.{answerAt, passes, isFalse, isUnknown, isTested, count}
 use Rattle.checking.specs.Check.{checkAnswer}
 use Rattle.checking.specs.declared.check.CheckAnswer.{CheckAnswer}
 use Rattle.checking.specs.declared.check.CheckAnswer.the-variants as check
 use Rattle.checking.proofs.Answers.{refused-numbered}
 use Rattle.tally.specs.declared.Tally.{Tally}
 use Rattle.tally.specs.Sums.{grown, sumsFit, added}
+use Rattle.listed.proofs.Listed.{first-seven}
 use Rattle.tally.proofs.Sums.{added-grown, added-none}
 use Rattle.hedge.specs.declared.Hedged.{Hedged}
 use Rattle.hedge.specs.declared.list.HedgeAnswer.{HedgeAnswer}
@@ -48,18 +48,6 @@ sums-fit tally p f u = go (sumsFit tally p f u) refl
     go : (b : Bool) → sumsFit tally p f u ≡ b → fitsOf tally (cond b (Listed p f u) (Refused 21)) ≡ true
     go true e = e
     go false e = refl
-
--- 1 to 7 stand first in the list
-first-seven : (k : ℕ) → 1 ≤ k → k ≤ 7 → hedgeListed k ≡ true
-first-seven zero h g = absurd (omega (arith, h))
-first-seven (suc zero) h g = refl
-first-seven (suc (suc zero)) h g = refl
-first-seven (suc (suc (suc zero))) h g = refl
-first-seven (suc (suc (suc (suc zero)))) h g = refl
-first-seven (suc (suc (suc (suc (suc zero))))) h g = refl
-first-seven (suc (suc (suc (suc (suc (suc zero)))))) h g = refl
-first-seven (suc (suc (suc (suc (suc (suc (suc zero))))))) h g = refl
-first-seven (suc (suc (suc (suc (suc (suc (suc (suc k)))))))) h g = absurd (omega (arith, g))
 
 module _ (t rs p : List ℕ) (used root : ℕ) (values nulls : List ℕ) (bytes : ℕ) (tally : Tally) where
   abbrev A : ℕ → RowAnswer
@@ -110,7 +98,7 @@ module _ (t rs p : List ℕ) (used root : ℕ) (values nulls : List ℕ) (bytes 
 
   answer-listed : hedgeListed (hedgeNumber (hedgeAnswer t rs p used root values nulls bytes tally)) ≡ true
   answer-listed =
-      of-answer (λ a. hedgeListed (hedgeNumber a) ≡ true) first-seven refl refl refl refl sums-listed
+      of-answer (λ a. hedgeListed (hedgeNumber a) ≡ true) (first-seven (8 ∷ 20 ∷ 12 ∷ 13 ∷ 21 ∷ 256 ∷ [])) refl refl refl refl sums-listed
 
 pub promised : (t rs p : List ℕ) (used root : ℕ) (values nulls : List ℕ) (h : Hedged) (oldList list : List ℕ)
     (oldTally tally : Tally) (oldCount count : ℕ)

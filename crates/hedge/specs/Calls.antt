@@ -1,10 +1,10 @@
 -- What the call promises, and what the code inside it hands on.
 use mathlib.Core.Path.{_≡_}
-use mathlib.Core.Bool.{Bool, true, false, _||_}
+use mathlib.Core.Bool.{Bool, true}
 use mathlib.Core.List.{List, [], _∷_}
 use Prim.Native.Nat.{ℕ}
-use lib.Dec.{eqb}
 use lib.ListN.{length}
+use Rattle.listed.specs.Listed.{listed}
 use Rattle.tally.specs.declared.Tally.{Tally}
 use Rattle.hedge.specs.declared.Hedged.{Hedged}
 use Rattle.hedge.specs.declared.list.HedgeAnswer.{HedgeAnswer}
@@ -12,10 +12,6 @@ use Rattle.hedge.specs.declared.list.HedgeAnswer.the-variants.{Refused, 
 use Rattle.hedge.specs.Hedge.{hedgeAnswer, hedgeBytes, hedgeNumber, countOut, tallyOut}
 
 -- Every call ends in a listed answer: 1 to 7, 8, 20, 12, 13, 21, or 256.
-abbrev pub listed : List ℕ → ℕ → Bool
-listed [] r = false
-listed (k ∷ l) r = eqb r k || listed l r
-
 abbrev pub hedgeListed : ℕ → Bool
 hedgeListed r =
     listed (1 ∷ 2 ∷ 3 ∷ 4 ∷ 5 ∷ 6 ∷ 7 ∷ 8 ∷ 20 ∷ 12 ∷ 13 ∷ 21 ∷ 256 ∷ []) r

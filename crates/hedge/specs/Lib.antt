@@ -1,4 +1,2 @@
-pub mod Chain
 pub mod Hedge
-pub mod Classes
 pub mod Calls

@@ -13,7 +13,6 @@ use tally::add;
 use tally::risk_view;
 use tally::trader_view;
 
-pub mod judge;
 pub mod list;
 
 /// The answer's number, and the rows in each class that the tally grows by.

@@ -9,10 +9,12 @@ ghost use Rattle.checking.specs.Checked.{Checked};
 ghost use Rattle.checking.specs.Tree.{treeCount};
 ghost use Rattle.file_blocks.specs.Format.{overwrite};
 ghost use Rattle.row_test.specs.declared.test.RowAnswer.{RowAnswer};
-ghost use Rattle.hedge.specs.Chain.{answerAt, count, numbers, bytesOf};
+ghost use Rattle.chain_rows.specs.Chain.{answerAt, count, numbers, bytesOf};
 ghost use Rattle.hedge.specs.Hedge.{countsAnswer, checkedAnswer, listIf, hedgeAnswer, hedgeBytes};
-ghost use Rattle.hedge.specs.Classes.{Judged};
-use crate::judge::judge_rows;
+ghost use Rattle.chain_rows.specs.Classes.{Judged};
+use chain_rows::judge::judge_rows;
+use chain_rows::listing::count_class;
+use chain_rows::listing::write_list;
 use checking::check::CheckAnswer;
 use checking::check::check_counted;
 use records::record::Node;
@@ -23,61 +25,6 @@ use tally::sums_fit;
 pub enum HedgeAnswer {
     Refused(u32),
     Listed(u64, u64, u64),
-}
-
-fn one_if(a: u8, b: u8) -> u64
-    ensures { λ r. ⌜ r ≡ cond (eqb a b) 1 0 ⌝ }
-{
-    if a == b {
-        return 1;
-    }
-    0
-}
-
-// How many of the first `rows` classes are `class`.
-fn count_class(classes: &[u8], rows: usize, class: u8) -> u64
-    requires { ⌜ rows ≤ length (now classes) ⌝ }
-    ensures { λ r. ⌜ r ≡ count (λ (i : ℕ). eqb (getD (now (classes .entry)) i 0) class) rows ⌝ }
-{
-    let mut n: u64 = 0;
-    let mut i: usize = 0;
-    while i < rows {
-        n += one_if(classes[i], class);
-        i += 1;
-    }
-    n
-}
-
-// The number of a row that passes, two bytes, at `at`; where the next one goes.
-fn put_number(list: &mut [u8], at: usize, number: usize, class: u8) -> usize
-    requires { ⌜ at + 2 ≤ length (now list) ⌝ }
-    requires { ⌜ number < 1024 ⌝ }
-    ensures { λ r. ⌜ r ≡ at + cond (eqb class 2) 2 0 ⌝ }
-    ensures { λ _. ⌜ now (list .exit) ≡ cond (eqb class 2)
-        (overwrite (now (list .entry)) at (number % 256 ∷ number / 256 ∷ [])) (now (list .entry)) ⌝ }
-{
-    if class != 2 {
-        return at;
-    }
-    list[at] = (number % 256) as u8;
-    list[at + 1] = (number / 256) as u8;
-    at + 2
-}
-
-// The numbers of the rows whose class is 2, into the list's first places.
-fn write_list(classes: &[u8], rows: usize, list: &mut [u8])
-    requires { ⌜ rows ≤ length (now classes) ⌝ }
-    requires { ⌜ rows ≤ 1024 ⌝ }
-    requires { ⌜ 2 * rows ≤ length (now list) ⌝ }
-    ensures { λ _. ⌜ now (list .exit) ≡ overwrite (now (list .entry)) 0
-        (bytesOf (numbers (λ (i : ℕ). eqb (getD (now (classes .entry)) i 0) 2) rows)) ⌝ }
-{
-    let mut at: usize = 0;
-    let mut i: usize = 0;
-    while i < rows {
-        at = put_number(list, at, i, classes[i]);
-        i += 1;
-    }
 }
 
 // The rows are judged. 21, or the list is written.

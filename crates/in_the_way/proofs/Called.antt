@@ -1,16 +1,15 @@
 -- What the call ensures, of the answer that a match has told.
 use mathlib.Core.Path.{_≡_, refl, sym, _∙_, ap, subst}
 use mathlib.Core.Bool.{Bool, true, false, not, cond}
-use mathlib.Core.List.{List}
-use Prim.Native.Nat.{ℕ, zero, suc, _≤_}
-use native.Mathlib.Omega.{arith}
+use mathlib.Core.List.{List, [], _∷_}
+use Prim.Native.Nat.{ℕ}
 use lib.Dec.{ltb}
 use lib.ListN.{length}
 use Rattle.checking.specs.Check.{checkAnswer}
 use Rattle.checking.specs.Tree.{treeCount}
 use Rattle.checking.specs.declared.check.CheckAnswer.{CheckAnswer}
 use Rattle.checking.specs.declared.check.CheckAnswer.the-variants as check
-use Rattle.checking.proofs.Answers.{refused-numbered}
+use Rattle.listed.proofs.Listed.{refusal-listed}
 use Rattle.truth.specs.FromBytes.{aexprAt}
 use Rattle.merge.specs.Minterms.{minterms}
 use Rattle.merge.specs.Plain.{plainScreen}
@@ -20,17 +19,6 @@ use Rattle.in_the_way.specs.Lines.{without, nothingPasses, firstTrue}
 use Rattle.in_the_way.specs.Answer.{lineAnswer, wayChecked, wayIf, wayAnswer}
 use Rattle.in_the_way.specs.Calls.{wayNumber, lineOut, wayListed, WayPromise}
 use Rattle.in_the_way.proofs.Promised.{promised}
-
-first-seven : (k : ℕ) → 1 ≤ k → k ≤ 7 → wayListed k ≡ true
-first-seven zero h g = absurd (omega (arith, h))
-first-seven (suc zero) h g = refl
-first-seven (suc (suc zero)) h g = refl
-first-seven (suc (suc (suc zero))) h g = refl
-first-seven (suc (suc (suc (suc zero)))) h g = refl
-first-seven (suc (suc (suc (suc (suc zero))))) h g = refl
-first-seven (suc (suc (suc (suc (suc (suc zero)))))) h g = refl
-first-seven (suc (suc (suc (suc (suc (suc (suc zero))))))) h g = refl
-first-seven (suc (suc (suc (suc (suc (suc (suc (suc k)))))))) h g = absurd (omega (arith, g))
 
 way-listed : (t rs p : List ℕ) (used root : ℕ) → wayListed (wayNumber (wayAnswer t rs p used root)) ≡ true
 unfolding wayAnswer
@@ -56,7 +44,7 @@ way-listed t rs p used root = go (checkAnswer t rs p used root) refl
         (length (minterms (aexprAt rs p used) root))
 
     go : (a : CheckAnswer) → checkAnswer t rs p used root ≡ a → Ok (wayIf a (wayChecked t rs p used root))
-    go (check.Refused k) e = let n = refused-numbered t rs p used root k e in first-seven k (n .0) (n .1)
+    go (check.Refused k) e = refusal-listed t rs p used root (8 ∷ 9 ∷ 17 ∷ 256 ∷ 257 ∷ 258 ∷ []) k e
     go check.Accepted e =
         refused (ltb 4096 (treeCount rs root)) (ltb 128 (length (minterms (aexprAt rs p used) root)))
         (plainScreen t (aexprAt rs p used) root)

@@ -18,8 +18,9 @@ use Rattle.merge.specs.Classify.{Conjunct, Bounds, Normalized, Equality, Record
 use Rattle.merge.specs.Collect.{Collected, begin, collect, collectOne}
 use Rattle.read_operands.specs.Walk.{firstOf}
 use Rattle.read_operands.proofs.Walks.{first-kept, first-length}
+use Rattle.contradiction.specs.Labels.{dead}
 use Rattle.in_the_way.specs.Lines.{without, nothingPasses, firstTrue}
-use Rattle.in_the_way.proofs.Ends.{dead, nothing-dead}
+use Rattle.in_the_way.proofs.Ends.{nothing-dead}
 
 -- ---- Record 0 has no input.
 pub opaque-first : (R : ℕ → AExpr ℕ) → Inputs 0 (R 0) → classify R 0 ≡ Opaque 0

@@ -1,10 +1,10 @@
 -- What the C call gives for each answer, and what it promises in words of rows (02, 2.9).
 use mathlib.Core.Path.{_≡_}
-use mathlib.Core.Bool.{Bool, true, false, _||_}
+use mathlib.Core.Bool.{Bool, true}
 use mathlib.Core.List.{List, [], _∷_}
 use Prim.Native.Nat.{ℕ, _≤_, _<_}
-use lib.Dec.{eqb}
 use lib.ListN.{length, getD}
+use Rattle.listed.specs.Listed.{listed}
 use Rattle.truth.specs.AExpr.{AExpr}
 use Rattle.three_valued.specs.Logic.{isTrue}
 use Rattle.truth.specs.FromBytes.{aexprAt, truthIn}
@@ -29,10 +29,6 @@ lineOut (way.Line i) old = i
 lineOut way.NoLine old = old
 
 -- Every call ends in a listed answer: 1 to 7, 8, 9, 17, or 256 to 258.
-abbrev pub listed : List ℕ → ℕ → Bool
-listed [] r = false
-listed (k ∷ l) r = eqb r k || listed l r
-
 abbrev pub wayListed : ℕ → Bool
 wayListed r = listed (1 ∷ 2 ∷ 3 ∷ 4 ∷ 5 ∷ 6 ∷ 7 ∷ 8 ∷ 9 ∷ 17 ∷ 256 ∷ 257 ∷ 258 ∷ []) r
 

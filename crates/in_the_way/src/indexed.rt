@@ -1,5 +1,6 @@
-// The lines judged with an index of their lists, which is large and so has a frame of its own.
+// The lines judged with an index of their lists, where it is worth its making; it is large and so has a frame of its own.
 ghost use mathlib.Core.Path.{_≡_};
+ghost use mathlib.Core.Bool.{true};
 ghost use Prim.Native.Nat.{ℕ, _+_, _<_, _≤_};
 ghost use lib.ListN.{length, getD};
 ghost use Rattle.truth.specs.FromBytes.{aexprOf};
@@ -12,7 +13,28 @@ ghost use Rattle.stages.specs.Rows.{stride};
 ghost use Rattle.in_the_way.specs.Answer.{lineAnswer};
 use crate::answer::WayAnswer;
 use crate::lines::judge_lines;
+use column_sets::marks::number_at;
 use columns::index::make_index;
+
+/// Whether n lines' looks for values in lists, each line left out once, may take longer than making an index of the lists;
+/// `false` where a list ends behind the places that an index covers. The answer changes no result, only the time.
+pub fn looks_often(starts: &[u32], counts: &[u32], n: usize) -> bool
+    requires { ⌜ n ≤ 128 ⌝ }
+    ensures { λ r. ⌜ (r ≡ true → (j : ℕ) → j < 128 → getD (now (starts .entry)) j 0 + getD (now (counts .entry)) j 0 ≤ 8192) ⌝ }
+{
+    let mut total: usize = 0;
+    let mut j: usize = 0;
+    while j < 128 {
+        let start = number_at(starts, j) as usize;
+        let count = number_at(counts, j) as usize;
+        if 8192 < start + count {
+            return false;
+        }
+        total = total + count;
+        j += 1;
+    }
+    40000 < n * total
+}
 
 /// `judge_lines` with an index of the lists, each of which ends before place 8192.
 pub fn judge_indexed(

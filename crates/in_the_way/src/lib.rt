@@ -22,6 +22,7 @@ pub mod merged;
 
 use crate::answer::WayAnswer;
 use crate::indexed::judge_indexed;
+use crate::indexed::looks_often;
 use crate::lines::judge_lines;
 use checking::check::CheckAnswer;
 use checking::check::check_counted;
@@ -63,7 +64,7 @@ fn judge_plain(
         &mut starts,
         &mut counts,
     );
-    if travels_far(rs, nodes, n, &starts, &counts) {
+    if looks_often(&starts, &counts, n) {
         return judge_indexed(
             rs,
             p,

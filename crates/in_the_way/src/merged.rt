@@ -1,4 +1,4 @@
-// The merging of lines, as far as whether it says that nothing passes.
+// Whether lines let nothing pass, of plain lines exactly if no row does.
 ghost use mathlib.Core.Path.{_≡_};
 ghost use Prim.Native.Nat.{ℕ, _<_, _≤_};
 ghost use lib.ListN.{length, getD};
@@ -11,9 +11,7 @@ ghost use Rattle.rewrite.specs.Told.{ToldConjunct};
 ghost use Rattle.stages.specs.Columns.{ColumnsBelow};
 ghost use Rattle.stages.specs.Rows.{stride};
 ghost use Rattle.in_the_way.specs.Lines.{nothingPasses};
-use collect_constraints::collect::collect;
-use propagate_equalities::propagate::propagate_equalities;
-use resolve_columns::conclude::resolve_all;
+use contradiction::contradict;
 
 /// The first n of `nodes` are the lines; kinds, values, starts and counts are their tables, `index` is the index of the lists or
 /// has none, `marks` has room for the columns' numbers.
@@ -36,57 +34,5 @@ pub fn lets_nothing_pass(
     requires { ⌜ ((i : ℕ) → i < n → ColumnsBelow 64 (classify (aexprOf (now rs) (now p)) (getD (now nodes) i 0))) ⌝ }
     ensures { λ r. ⌜ r ≡ nothingPasses (aexprOf (now (rs .entry)) (now (p .entry))) (firstOf (now (nodes .entry)) n) ⌝ }
 {
-    let mut cells = [0u64; 704];
-    let mut order = [0u32; 260];
-    let mut kept = [0u32; 260];
-    let mut lefts = [0u32; 130];
-    let mut rights = [0u32; 130];
-    let mut equals = [0u32; 130];
-    let s = collect(
-        rs,
-        p,
-        nodes,
-        n,
-        kinds,
-        values,
-        starts,
-        counts,
-        &mut cells,
-        marks,
-        &mut order,
-        &mut kept,
-        &mut lefts,
-        &mut rights,
-        &mut equals,
-    );
-    if s.unsat {
-        return true;
-    }
-    propagate_equalities(
-        index,
-        kinds,
-        values,
-        starts,
-        counts,
-        p,
-        &mut cells,
-        marks,
-        &lefts,
-        &rights,
-        s.edges,
-        s.columns,
-    );
-    let r = resolve_all(
-        index,
-        kinds,
-        values,
-        starts,
-        counts,
-        p,
-        &mut cells,
-        marks,
-        &order,
-        s.columns,
-    );
-    r.unsat
+    contradict(rs, p, nodes, n, kinds, values, starts, counts, index, marks)
 }

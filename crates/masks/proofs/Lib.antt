@@ -3,9 +3,5 @@ pub mod Tables
 pub mod Columns
 pub mod Blocks
 pub mod Comparing
-pub mod Members
 pub mod Operands
 pub mod Reaching
-pub mod Turns
-pub mod Worths
-pub mod Working

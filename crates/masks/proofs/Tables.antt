@@ -5,12 +5,10 @@ use mathlib.Core.Bool.{Bool, true, false, not, _&&_, _||_}
 use Prim.Native.Nat.{ℕ, _<_}
 use lib.Bits.{bitAnd, bitOr, bitXor}
 use Rattle.checking.specs.Columns.{bit}
-use Rattle.checking.proofs.Bits.{bit-or, bit-zero}
+use Rattle.checking.proofs.Bits.{bit-or}
 use Rattle.three_valued.specs.declared.logic.Truth.{Truth}
 use Rattle.three_valued.specs.declared.logic.Truth.the-variants.{False, Unknown, True}
-use Rattle.three_valued.specs.Logic.{and3, or3, xor3, not3, ofBool, isTrue}
-use Rattle.truth.specs.Comparison.{Eq, Lt}
-use Rattle.truth.specs.Evaluate.{comparing, same, nullTest, ofTruth}
+use Rattle.three_valued.specs.Logic.{and3, or3, xor3, not3, isTrue}
 use Rattle.masks.specs.declared.Masks.{Masks}
 use Rattle.masks.specs.Masks.{isUnknown, inverse, Tells}
 use Rattle.masks.proofs.Bits.{bit-and, bit-xor, bit-inverse, either}
@@ -95,84 +93,6 @@ not-unknown True = refl
 not-unknown Unknown = refl
 not-unknown False = refl
 
-equal-true : (a b : Truth) → not (either (isTrue a) (isTrue b) || (isUnknown a || isUnknown b)) ≡ isTrue (comparing Eq (ofTruth
-    a) (ofTruth b))
-equal-true True True = refl
-equal-true True Unknown = refl
-equal-true True False = refl
-equal-true Unknown True = refl
-equal-true Unknown Unknown = refl
-equal-true Unknown False = refl
-equal-true False True = refl
-equal-true False Unknown = refl
-equal-true False False = refl
-
-equal-unknown : (a b : Truth) → (isUnknown a || isUnknown b) ≡ isUnknown (comparing Eq (ofTruth a) (ofTruth b))
-equal-unknown True True = refl
-equal-unknown True Unknown = refl
-equal-unknown True False = refl
-equal-unknown Unknown True = refl
-equal-unknown Unknown Unknown = refl
-equal-unknown Unknown False = refl
-equal-unknown False True = refl
-equal-unknown False Unknown = refl
-equal-unknown False False = refl
-
-same-true : (a b : Truth) → not (either (isTrue a) (isTrue b) || either (isUnknown a) (isUnknown b)) ≡ isTrue (ofBool (same
-    (ofTruth a) (ofTruth b)))
-same-true True True = refl
-same-true True Unknown = refl
-same-true True False = refl
-same-true Unknown True = refl
-same-true Unknown Unknown = refl
-same-true Unknown False = refl
-same-true False True = refl
-same-true False Unknown = refl
-same-true False False = refl
-
-same-unknown : (a b : Truth) → false ≡ isUnknown (ofBool (same (ofTruth a) (ofTruth b)))
-same-unknown True True = refl
-same-unknown True Unknown = refl
-same-unknown True False = refl
-same-unknown Unknown True = refl
-same-unknown Unknown Unknown = refl
-same-unknown Unknown False = refl
-same-unknown False True = refl
-same-unknown False Unknown = refl
-same-unknown False False = refl
-
-less-true : (a b : Truth) → (isTrue b && not (isTrue a || (isUnknown a || isUnknown b))) ≡ isTrue (comparing Lt (ofTruth a) (ofTruth b))
-less-true True True = refl
-less-true True Unknown = refl
-less-true True False = refl
-less-true Unknown True = refl
-less-true Unknown Unknown = refl
-less-true Unknown False = refl
-less-true False True = refl
-less-true False Unknown = refl
-less-true False False = refl
-
-less-unknown : (a b : Truth) → (isUnknown a || isUnknown b) ≡ isUnknown (comparing Lt (ofTruth a) (ofTruth b))
-less-unknown True True = refl
-less-unknown True Unknown = refl
-less-unknown True False = refl
-less-unknown Unknown True = refl
-less-unknown Unknown Unknown = refl
-less-unknown Unknown False = refl
-less-unknown False True = refl
-less-unknown False Unknown = refl
-less-unknown False False = refl
-
-null-true : (a : Truth) → isUnknown a ≡ isTrue (ofBool (nullTest (ofTruth a)))
-null-true True = refl
-null-true Unknown = refl
-null-true False = refl
-
-null-unknown : (a : Truth) → false ≡ isUnknown (ofBool (nullTest (ofTruth a)))
-null-unknown True = refl
-null-unknown Unknown = refl
-null-unknown False = refl
-
 -- ---- the words
 module _ (rows : ℕ) (x y : Masks) (f g : ℕ → Truth) (hx : Tells rows x f) (hy : Tells rows y g) where
   pub and-tells : (r : Masks) (inv : ℕ) → inv ≡ inverse (bitAnd (x .truths) (y .truths))
@@ -235,64 +155,6 @@ module _ (rows : ℕ) (x y : Masks) (f g : ℕ → Truth) (hx : Tells rows x f) 
             (xor-true (f i) (g i)),
         ap (λ w. bit w i) eu ∙ u ∙ xor-unknown (f i) (g i),
       )
-
-  abbrev U : ℕ
-  U = bitOr (x .unknowns) (y .unknowns)
-
-  pub equal-tells : (r : Masks) → r .truths ≡ inverse (bitOr (bitXor (x .truths) (y .truths)) U) → r .unknowns ≡ U
-      → Tells rows r (λ i. comparing Eq (ofTruth (f i)) (ofTruth (g i)))
-  unfolding Tells
-  equal-tells r et eu i h k =
-      let a = hx i h k in
-      let b = hy i h k in
-      let u : bit U i ≡ (isUnknown (f i) || isUnknown (g i)) = bit-or (x .unknowns) (y .unknowns) i ∙ rw (a .1, b .1) in (
-        ap (λ w. bit w i) et ∙ bit-inverse (bitOr (bitXor (x .truths) (y .truths)) U) i h
-            ∙ rw (bit-or (bitXor (x .truths) (y .truths)) U i, bit-xor (x .truths) (y .truths) i, u, a .0, b .0)
-            (equal-true (f i) (g i)),
-        ap (λ w. bit w i) eu ∙ u ∙ equal-unknown (f i) (g i),
-      )
-
-  pub same-tells : (r : Masks)
-      → r .truths ≡ inverse (bitOr (bitXor (x .truths) (y .truths)) (bitXor (x .unknowns) (y .unknowns))) → r .unknowns ≡ 0
-      → Tells rows r (λ i. ofBool (same (ofTruth (f i)) (ofTruth (g i))))
-  unfolding Tells
-  same-tells r et eu i h k =
-      let a = hx i h k in
-      let b = hy i h k in (
-        ap (λ w. bit w i) et
-            ∙ bit-inverse (bitOr (bitXor (x .truths) (y .truths)) (bitXor (x .unknowns) (y .unknowns))) i h
-            ∙ rw (
-              bit-or (bitXor (x .truths) (y .truths)) (bitXor (x .unknowns) (y .unknowns)) i,
-              bit-xor (x .truths) (y .truths) i,
-              bit-xor (x .unknowns) (y .unknowns) i,
-              a .0,
-              a .1,
-              b .0,
-              b .1,
-            )
-            (same-true (f i) (g i)),
-        ap (λ w. bit w i) eu ∙ bit-zero i ∙ same-unknown (f i) (g i),
-      )
-
-  pub less-tells : (r : Masks) (inv : ℕ) → inv ≡ inverse (bitOr (x .truths) U) → r .truths ≡ bitAnd (y .truths) inv
-      → r .unknowns ≡ U → Tells rows r (λ i. comparing Lt (ofTruth (f i)) (ofTruth (g i)))
-  unfolding Tells
-  less-tells r inv ei et eu i h k =
-      let a = hx i h k in
-      let b = hy i h k in
-      let u : bit U i ≡ (isUnknown (f i) || isUnknown (g i)) = bit-or (x .unknowns) (y .unknowns) i ∙ rw (a .1, b .1) in (
-        ap (λ w. bit w i) et ∙ bit-and (y .truths) inv i
-            ∙ rw (ei, bit-inverse (bitOr (x .truths) U) i h, bit-or (x .truths) U i, u, a .0, b .0) (less-true (f i) (g i)),
-        ap (λ w. bit w i) eu ∙ u ∙ less-unknown (f i) (g i),
-      )
-
-pub null-tells : (rows : ℕ) (x : Masks) (f : ℕ → Truth) → Tells rows x f → (r : Masks) → r .truths ≡ x .unknowns → r .unknowns ≡ 0
-    → Tells rows r (λ i. ofBool (nullTest (ofTruth (f i))))
-unfolding Tells
-null-tells rows x f hx r et eu i h k = (
-  ap (λ w. bit w i) et ∙ hx i h k .1 ∙ null-true (f i),
-  ap (λ w. bit w i) eu ∙ bit-zero i ∙ null-unknown (f i),
-)
 
 pub not-tells : (rows : ℕ) (x : Masks) (f : ℕ → Truth) → Tells rows x f → (r : Masks) → r .truths ≡ inverse (bitOr (x .truths)
     (x .unknowns))

@@ -7,9 +7,9 @@ ghost use lib.Bits.{bitOr};
 ghost use lib.Dec.{ltb, eqb};
 ghost use lib.ListN.{length, getD};
 ghost use Rattle.three_valued.specs.declared.logic.Truth.{Truth};
-ghost use Rattle.three_valued.specs.Logic.{and3, or3, xor3, not3, ofBool};
+ghost use Rattle.three_valued.specs.Logic.{and3, or3, xor3, not3};
 ghost use Rattle.truth.specs.Comparison.{Eq, Lt};
-ghost use Rattle.truth.specs.Evaluate.{comparing, same, nullTest, ofTruth};
+ghost use Rattle.truth.specs.Evaluate.{comparing};
 ghost use mathlib.Core.Option.{Option, some};
 ghost use lib.IntN.{ℤ};
 ghost use Rattle.truth.specs.Halves.{key, biasOf};
@@ -17,11 +17,7 @@ ghost use Rattle.masks.specs.Masks.{inverse, maskTo, Tells, Shown};
 
 pub mod block;
 pub mod compare;
-pub mod member;
-pub mod operand;
 pub mod reach;
-pub mod record;
-pub mod rows;
 
 /// Bit i of `truths`: true of row i. Bit i of `unknowns`: unknown of row i. Neither: false.
 pub struct Masks {
@@ -78,75 +74,12 @@ pub fn not_masks(x: Masks) -> Masks
     }
 }
 
-// Truths as values: false is below true, and unknown is null. The other comparisons are Not of these, or these turned round.
-
-/// Eq.
-pub fn equal_masks(x: Masks, y: Masks) -> Masks
-    ensures { λ r. ⌜ ((rows : ℕ) (f g : ℕ → Truth) → Tells rows x f → Tells rows y g
-        → Tells rows r (λ i. comparing Eq (ofTruth (f i)) (ofTruth (g i)))) ⌝ }
-{
-    let u = x.unknowns | y.unknowns;
-    let differ = x.truths ^ y.truths;
-    Masks {
-        truths: inverted(differ | u),
-        unknowns: u,
-    }
-}
-
-/// EqValidity: null is a value like another.
-pub fn same_masks(x: Masks, y: Masks) -> Masks
-    ensures { λ r. ⌜ ((rows : ℕ) (f g : ℕ → Truth) → Tells rows x f → Tells rows y g
-        → Tells rows r (λ i. ofBool (same (ofTruth (f i)) (ofTruth (g i))))) ⌝ }
-{
-    let differ = (x.truths ^ y.truths) | (x.unknowns ^ y.unknowns);
-    Masks {
-        truths: inverted(differ),
-        unknowns: 0,
-    }
-}
-
-/// Lt.
-pub fn less_masks(x: Masks, y: Masks) -> Masks
-    ensures { λ r. ⌜ ((rows : ℕ) (f g : ℕ → Truth) → Tells rows x f → Tells rows y g
-        → Tells rows r (λ i. comparing Lt (ofTruth (f i)) (ofTruth (g i)))) ⌝ }
-{
-    let u = x.unknowns | y.unknowns;
-    Masks {
-        truths: y.truths & inverted(x.truths | u),
-        unknowns: u,
-    }
-}
-
-/// is_null of a truth.
-pub fn null_masks(x: Masks) -> Masks
-    ensures { λ r. ⌜ ((rows : ℕ) (f : ℕ → Truth) → Tells rows x f → Tells rows r (λ i. ofBool (nullTest (ofTruth (f i))))) ⌝ }
-{
-    Masks {
-        truths: x.unknowns,
-        unknowns: 0,
-    }
-}
-
 pub fn with_bit(m: u64, i: u32, b: bool) -> u64
     requires { ⌜ i < 64 ⌝ }
     ensures { λ r. ⌜ r ≡ cond b (bitOr m (2 ^ i)) m ⌝ }
 {
     if b {
         return m | (1 << i);
-    }
-    m
-}
-
-/// Of which of 64 keys, from the one numbered `at` on, the key is below w.
-pub fn mask_less(keys: &[u64], at: usize, w: u64) -> u64
-    requires { ⌜ at + 64 ≤ length (now keys) ⌝ }
-    ensures { λ r. ⌜ r ≡ maskTo (λ (i : ℕ). ltb (getD (now (keys .entry)) (at + i) 0) w) 64 ⌝ }
-{
-    let mut m: u64 = 0;
-    let mut i: usize = 0;
-    while i < 64 {
-        m = with_bit(m, i as u32, keys[at + i] < w);
-        i += 1;
     }
     m
 }
@@ -163,20 +96,6 @@ pub fn mask_equal(keys: &[u64], at: usize, w: u64) -> u64
         i += 1;
     }
     m
-}
-
-/// Lt of a column and a literal: the column's 64 keys, the word of its nulls, and the literal's key.
-pub fn less_than(keys: &[u64], at: usize, nulls: u64, w: u64) -> Masks
-    requires { ⌜ at + 64 ≤ length (now keys) ⌝ }
-    ensures { λ r. ⌜ ((rows : ℕ) (value : ℕ → Option ℤ) (b : ℕ) → Shown rows (now (keys .entry)) at nulls value → b < 2 ^ 64
-        → w ≡ biasOf b
-        → Tells rows r (λ i. comparing Lt (value i) (some (key b)))) ⌝ }
-{
-    let m = mask_less(keys, at, w);
-    Masks {
-        truths: m & inverted(nulls),
-        unknowns: nulls,
-    }
 }
 
 /// Eq of a column and a literal.
@@ -217,10 +136,10 @@ pub fn less_columns(keys: &[u64], at: usize, nulls: u64, other: usize, others: u
         → Shown rows (now (keys .entry)) other others second → Tells rows r (λ i. comparing Lt (value i) (second i))) ⌝ }
 {
     let m = mask_less_pairs(keys, at, other);
-    let u = nulls | others;
+    let either = nulls | others;
     Masks {
-        truths: m & inverted(u),
-        unknowns: u,
+        truths: m & inverted(either),
+        unknowns: either,
     }
 }
 

@@ -4,10 +4,22 @@ ghost use mathlib.Core.Bool.{cond};
 ghost use Prim.Native.Nat.{_+_, _*_, _≤_, _<_};
 ghost use lib.Dec.{ltb};
 ghost use lib.ListN.{length, getD, set};
-ghost use Rattle.masks.specs.Block.{Closed};
-use crate::operand::is_kept;
+ghost use Rattle.masks.specs.Block.{isKept, Closed};
+use records::record::Fields;
 use records::record::Node;
 use records::record::fields_in;
+
+pub fn is_kept(f: Fields) -> bool
+    ensures { λ r. ⌜ r ≡ isKept f ⌝ }
+{
+    if f.kind == 4 {
+        return (f.code < 8) | (15 <= f.code);
+    }
+    if f.kind == 9 {
+        return false;
+    }
+    (3 < f.kind) & (f.kind < 11)
+}
 
 // An input is below its record.
 fn mark(marks: &mut [u8], m: u32, n: u32)

@@ -1,7 +1,6 @@
 pub mod Accepted
 pub mod BoundKeys
 pub mod Carried
-pub mod Cases
 pub mod Chains
 pub mod Compared
 pub mod Classified
@@ -19,16 +18,15 @@ pub mod Operators
 pub mod Passes
 pub mod PassesEnd
 pub mod PlainForms
-pub mod ReadingCases
 pub mod ReadBack
 pub mod Readings
 pub mod Rebuilding
 pub mod RebuiltBytes
 pub mod RebuiltChain
-pub mod ReasonCases
 pub mod Reread
 pub mod Returned
 pub mod Settled
+pub mod Smallest
 pub mod Sound
 pub mod Splices
 pub mod StillPasses

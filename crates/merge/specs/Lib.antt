@@ -15,4 +15,3 @@ pub mod Twice
 pub mod Passes
 pub mod Reasons
 pub mod LineBehind
-pub mod Cases

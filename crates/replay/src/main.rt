@@ -110,8 +110,8 @@ fn print_number(x: u64) {
 fn check_and_columns(table: &[u8], records: &[u8], pool: &[u8], used: u64, root: u64) {
     let mut columns: u64 = 7;
     let mut count: u64 = 9;
-    let checked = screen::screen_check(table, records, pool, used, root);
-    let read = screen::screen_columns_read(
+    let checked = screen_rows::screen_check(table, records, pool, used, root);
+    let read = screen_rows::screen_columns_read(
         table,
         records,
         pool,
@@ -131,7 +131,7 @@ fn test_row(table: &[u8], records: &[u8], pool: &[u8], row: &[u8], head: &[u8]) 
     let used = number_at(head, 1);
     let root = number_at(head, 9);
     let nulls = number_at(head, 17);
-    let answer = screen::screen_test_row(table, records, pool, used, root, row, nulls);
+    let answer = screen_rows::screen_test_row(table, records, pool, used, root, row, nulls);
     io::print_decimal(1, wide(answer));
     io::write_all(1, b"\n");
 }

@@ -2,4 +2,3 @@ pub mod Kept
 pub mod Listed
 pub mod Promised
 pub mod Slowest
-pub mod Filed

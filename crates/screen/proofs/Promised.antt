@@ -1,6 +1,6 @@
 -- What the call of rewriting promises, from demand 3 of the definitions.
 use mathlib.Core.Path.{_≡_, refl, sym, _∙_, ap, subst}
-use mathlib.Core.Bool.{Bool, true, false, cond, true≢false}
+use mathlib.Core.Bool.{Bool, true, false, cond}
 use mathlib.Core.List.{List}
 use mathlib.Core.Logic.{_↔_, _⊎_, inl, inr}
 use Prim.Native.Nat.{ℕ, suc, _≤_, _<_}
@@ -31,19 +31,14 @@ use Rattle.merge.proofs.Demand.{demand-3}
 use Rattle.merge.proofs.PassesEnd.{rewrite-passes-at-most}
 use Rattle.merge.proofs.TwiceBytes.{twice-unchanged}
 use Rattle.merge.proofs.Usable.{returned-usable, returned-tests-same}
-use Rattle.screen.specs.Answers.{rewriteNumber, newRootOut, newUsedOut, passesOut, reasonsUsedOut}
+use Rattle.rewrite_number.proofs.Numbers.{SmallRefusal, accepted, nothing-number, number-nothing}
+use Rattle.rewrite_number.specs.Answers.{rewriteNumber, newRootOut, newUsedOut, passesOut, reasonsUsedOut}
 use Rattle.screen.specs.Promises.{returned, BytesKept, RewritePromise}
 use Rattle.screen.specs.Listed.{rewriteListed}
 use Rattle.screen.proofs.Kept.{kept-all, rewrite-kept}
 use Rattle.screen.proofs.Listed.{explained-listed}
 
 -- ---- A refusal's number is below 256.
-abbrev SmallRefusal : RewriteAnswer → Type 0
-SmallRefusal (answer.Refused k) = k < 256
-SmallRefusal answer.Unchanged = Unit {0}
-SmallRefusal (answer.NothingPasses root used) = Unit {0}
-SmallRefusal (answer.Rewritten root used) = Unit {0}
-
 cond-small : (b : Bool) (x y : RewriteAnswer) → SmallRefusal x → SmallRefusal y → SmallRefusal (cond b x y)
 cond-small true x y h k = h
 cond-small false x y h k = k
@@ -74,25 +69,7 @@ small t rs p used root = go (checkAnswer t rs p used root) refl
         cond-small (ltb 4096 (treeCount rs root)) (answer.Refused 8) (cond many (answer.Refused 9) x) (omega arith)
         (cond-small many (answer.Refused 9) x (omega arith) (outcome-small t rs used (outcomeOf rs p used root)))
 
--- ---- The number says which answer it is.
-accepted : (a : RewriteAnswer) → SmallRefusal a → 256 ≤ rewriteNumber a → isRefused a ≡ false
-accepted (answer.Refused k) h n = absurd (omega (arith, h, n))
-accepted answer.Unchanged h n = refl
-accepted (answer.NothingPasses root used) h n = refl
-accepted (answer.Rewritten root used) h n = refl
-
-nothing-number : (a : RewriteAnswer) → SmallRefusal a → rewriteNumber a ≡ 257 → isNothing a ≡ true
-nothing-number (answer.Refused k) h e = absurd (omega (arith, h, e))
-nothing-number answer.Unchanged h e = absurd (omega (arith, e))
-nothing-number (answer.NothingPasses root used) h e = refl
-nothing-number (answer.Rewritten root used) h e = absurd (omega (arith, e))
-
-number-nothing : (a : RewriteAnswer) → isNothing a ≡ true → rewriteNumber a ≡ 257
-number-nothing (answer.Refused k) e = absurd (true≢false (sym e))
-number-nothing answer.Unchanged e = absurd (true≢false (sym e))
-number-nothing (answer.NothingPasses root used) e = refl
-number-nothing (answer.Rewritten root used) e = absurd (true≢false (sym e))
-
+-- ---- What is returned, and the passes.
 used-returned : (a : RewriteAnswer) (used old : ℕ) → SmallRefusal a
     → usedAfter a used ≡ returned (rewriteNumber a) used (newUsedOut a old)
 used-returned (answer.Refused k) used old h = rw (le-ltb 256 k (omega arith))

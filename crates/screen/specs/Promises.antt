@@ -1,26 +1,18 @@
--- What the calls promise beyond being equal to their definitions, in 01's own words.
+-- What rewriting promises beyond being equal to its definition, in 01's own words.
 use Prim.Native.Nat.{ℕ, _*_, _≤_, _<_}
 use mathlib.Core.Bool.{true, cond}
 use mathlib.Core.List.{List}
 use mathlib.Core.Logic.{_↔_}
 use mathlib.Core.Path.{_≡_}
-use lib.Count.{ones}
 use lib.Dec.{ltb}
 use lib.ListN.{length, getD}
-use Rattle.checking.specs.Columns.{bit, reaches}
 use Rattle.truth.specs.FromBytes.{aexprAt}
 use Rattle.merge.specs.Plain.{plainScreen}
 use Rattle.merge.specs.Demand.{Row, IsRow, IsChain, passes, rowsPassing}
 use Rattle.merge.specs.Usable.{Usable, SameTests}
 use Rattle.merge.specs.Passes.{edgeColumns, screenEqualities}
 use Rattle.reasons.specs.Explained.{explainedAnswer}
-use Rattle.screen.specs.Answers.{rewriteNumber}
-
--- columns read answered 256: bit c of the word is set exactly if the root reaches column c, and the count is the number of
--- ones in the word
-abbrev pub ColumnsPromise : List ℕ → ℕ → ℕ → ℕ → ℕ → Type 0
-ColumnsPromise rs root answer word count =
-    answer ≡ 256 → ((c : ℕ) → c < 64 → bit word c ≡ reaches rs c root) × (count ≡ ones word)
+use Rattle.rewrite_number.specs.Answers.{rewriteNumber}
 
 -- The root, or the used count, of the screen returned: what an answer over 256 wrote, or what was sent.
 abbrev pub returned : ℕ → ℕ → ℕ → ℕ

@@ -3,7 +3,7 @@ use Rattle.hedge.proofs.list.list_checked.Statement.{statement}
 use Rattle.hedge.proofs.list.list_checked.Tie as tie
 use Rattle.hedge.proofs.list.list_checked.Reads as reads
 use Rattle.hedge.proofs.list.list_checked.Lts as lts
-use Rattle.hedge.proofs.judge.judge_rows.Reads as judge-rows-reads
+use Rattle.chain_rows.proofs.judge.judge_rows.Reads as judge-rows-reads
 use Rattle.hedge.proofs.list.list_rows.Reads as list-rows-reads
 use mathlib.Core.Path.{_≡_, refl, sym, _∙_}
 use Prim.Native.Nat.{_*_, _≤_, _<_}
@@ -12,7 +12,7 @@ use native.Mathlib.Omega.{arith}
 use borrow.Author.Tests.{not-false}
 use Rattle.records.proofs.Loops.{flag-no, flag-yes}
 use Rattle.row_test.proofs.Ready.{columns-small}
-use Rattle.hedge.specs.Chain.{answerAt}
+use Rattle.chain_rows.specs.Chain.{answerAt}
 use Rattle.hedge.proofs.Answers.{values-small, tree-refused, rows-refused, places-refused, values-refused, row-refused, rows-listed}
 
 -- src/list.rt:126:9

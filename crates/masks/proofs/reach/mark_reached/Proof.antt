@@ -2,7 +2,7 @@ use Rattle.masks.proofs.reach.mark_reached.Statement.{statement}
 use Rattle.masks.proofs.reach.mark_reached.Tie as tie
 use Rattle.masks.proofs.reach.mark_reached.Reads as reads
 use Rattle.masks.proofs.reach.mark_reached.Lts as lts
-use Rattle.masks.proofs.operand.is_kept.Reads as is-kept-reads
+use Rattle.masks.proofs.reach.is_kept.Reads as is-kept-reads
 use Rattle.masks.proofs.reach.mark.Reads as mark-reads
 use Rattle.records.proofs.record.fields_in.Reads as fields-in-reads
 use Prim.Native.Nat.{ℕ, suc, _+_, _-_, _*_, _≤_, _<_}

@@ -1,0 +1,84 @@
+// Whether lines contradict each other, so that the merging would say that nothing passes. The merging carries what a column says
+// along the equalities, pass by pass; here columns that equalities make equal are one column from the start, so that no passes
+// are made. It says the same of whether a row is left:
+// labels: one label for columns that equalities make equal;
+// told: what the lines say, told to the columns' cells by their labels.
+ghost use mathlib.Core.Path.{_≡_};
+ghost use Prim.Native.Nat.{ℕ, _<_, _≤_};
+ghost use lib.ListN.{length, getD};
+ghost use Rattle.truth.specs.FromBytes.{aexprOf};
+ghost use Rattle.constraints.specs.Lined.{lined};
+ghost use Rattle.column_constraints.specs.Abstraction.{conjuncts};
+ghost use Rattle.column_sets.specs.Index.{Indexed};
+ghost use Rattle.merge.specs.Classify.{classify};
+ghost use Rattle.rewrite.specs.Told.{ToldConjunct};
+ghost use Rattle.stages.specs.Columns.{ColumnsBelow};
+ghost use Rattle.stages.specs.Rows.{stride};
+ghost use Rattle.column_table.specs.State.{collectTo};
+ghost use Rattle.contradiction.specs.Labels.{dead};
+
+pub mod labels;
+pub mod told;
+
+use crate::labels::label_lines;
+use crate::labels::number_columns;
+use crate::told::tell_lines;
+use resolve_columns::conclude::resolve_all;
+
+/// The first n of `nodes` are the lines; kinds, values, starts and counts are their tables, `index` is the index of the lists or
+/// has none, `marks` has room for the columns' numbers.
+pub fn contradict(
+    rs: &[u8],
+    p: &[u8],
+    nodes: &[u32],
+    n: usize,
+    kinds: &[u8],
+    values: &[u64],
+    starts: &[u32],
+    counts: &[u32],
+    index: &[u64],
+    marks: &mut [u8],
+) -> bool
+    requires { ⌜ (n ≤ stride (now marks)) × (stride (now marks) ≤ 128) × (n ≤ length (now nodes))
+        × Indexed (now starts) (now counts) (now p) (now index) ⌝ }
+    requires { ⌜ ((i : ℕ) → i < n → ToldConjunct (conjuncts (now kinds) (now values) (now starts) (now counts) (now p)) i
+        (classify (aexprOf (now rs) (now p)) (getD (now nodes) i 0))) ⌝ }
+    requires { ⌜ ((i : ℕ) → i < n → ColumnsBelow 64 (classify (aexprOf (now rs) (now p)) (getD (now nodes) i 0))) ⌝ }
+    ensures { λ r. ⌜ r ≡ dead lined (collectTo (aexprOf (now (rs .entry)) (now (p .entry))) (now (nodes .entry)) n) ⌝ }
+{
+    let mut cells = [0u64; 704];
+    let mut labels = [0u32; 64];
+    let mut order = [0u32; 64];
+    number_columns(&mut labels);
+    number_columns(&mut order);
+    label_lines(rs, nodes, n, &mut labels);
+    let stopped = tell_lines(
+        rs,
+        p,
+        nodes,
+        n,
+        kinds,
+        values,
+        starts,
+        counts,
+        &labels,
+        &mut cells,
+        marks,
+    );
+    if stopped {
+        return true;
+    }
+    let r = resolve_all(
+        index,
+        kinds,
+        values,
+        starts,
+        counts,
+        p,
+        &mut cells,
+        marks,
+        &order,
+        64,
+    );
+    r.unsat
+}

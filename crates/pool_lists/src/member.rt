@@ -1,0 +1,112 @@
+// Membership of 64 values in a list of the pool.
+ghost use mathlib.Core.Path.{_≡_};
+ghost use mathlib.Core.Bool.{Bool};
+ghost use Prim.Native.Nat.{ℕ, _+_, _*_, _^_, _≤_, _<_};
+ghost use mathlib.Core.Option.{Option};
+ghost use lib.IntN.{ℤ};
+ghost use lib.ListN.{length};
+ghost use Rattle.checking.specs.Columns.{bit};
+ghost use Rattle.truth.specs.FromBytes.{valuesFrom};
+ghost use Rattle.truth.specs.Evaluate.{holdsKey, memberOf};
+ghost use Rattle.truth.specs.Halves.{key, biasOf};
+ghost use Rattle.masks.specs.Masks.{Tells, Shown};
+ghost use Rattle.masks.specs.Block.{Finds};
+ghost use Rattle.pool_lists.specs.Order.{Ordered};
+use crate::asking::holds;
+use masks::Masks;
+use masks::block::biased;
+use masks::inverted;
+use masks::with_bit;
+use records::bytes::value_in;
+use records::record::Fields;
+
+// Every bit, or none.
+fn all_if(b: bool) -> u64
+    ensures { λ r. ⌜ ((i : ℕ) → i < 64 → bit r i ≡ b) ⌝ }
+{
+    if b {
+        return 18446744073709551615;
+    }
+    0
+}
+
+// Whether a key is that of one of `count` values of the pool, from the one numbered `start` on.
+fn find_key(pool: &[u8], start: u32, count: u32, w: u64) -> bool
+    requires { ⌜ 8 * (start + count) ≤ length (now pool) ⌝ }
+    ensures { λ r. ⌜ ((bits : ℕ) → bits < 2 ^ 64 → w ≡ biasOf bits
+        → r ≡ holdsKey (key bits) (valuesFrom (now (pool .entry)) start count)) ⌝ }
+{
+    let mut i = start as usize;
+    let end = start as usize + count as usize;
+    while i < end {
+        let x = biased(value_in(pool, i));
+        if x == w {
+            return true;
+        }
+        i += 1;
+    }
+    false
+}
+
+// The same by the order of the pool, where there is one and the list is long enough for it.
+fn find_one(pool: &[u8], order: &[u64], start: u32, count: u32, w: u64) -> bool
+    requires { ⌜ Ordered (now pool) (now order) ⌝ }
+    requires { ⌜ 8 * (start + count) ≤ length (now pool) ⌝ }
+    ensures { λ r. ⌜ ((bits : ℕ) → bits < 2 ^ 64 → w ≡ biasOf bits
+        → r ≡ holdsKey (key bits) (valuesFrom (now (pool .entry)) start count)) ⌝ }
+{
+    if order.len() < 16386 {
+        return find_key(pool, start, count, w);
+    }
+    if count < 16 {
+        return find_key(pool, start, count, w);
+    }
+    holds(pool, order, start, count, w)
+}
+
+// The same of 64 keys.
+fn find_keys(pool: &[u8], order: &[u64], start: u32, count: u32, keys: &[u64], at: usize) -> u64
+    requires { ⌜ Ordered (now pool) (now order) ⌝ }
+    requires { ⌜ 8 * (start + count) ≤ length (now pool) ⌝ }
+    requires { ⌜ at + 64 ≤ length (now keys) ⌝ }
+    ensures { λ r. ⌜ Finds (now (keys .entry)) at (valuesFrom (now (pool .entry)) start count) r ⌝ }
+{
+    let mut m: u64 = 0;
+    let mut i: usize = 0;
+    while i < 64 {
+        m = with_bit(
+            m,
+            i as u32,
+            find_one(pool, order, start, count, keys[at + i]),
+        );
+        i += 1;
+    }
+    m
+}
+
+/// is_in of a column and the record of a list; `equal` is nulls_equal.
+pub fn member_masks(
+    pool: &[u8],
+    order: &[u64],
+    list: Fields,
+    equal: bool,
+    keys: &[u64],
+    at: usize,
+    nulls: u64,
+) -> Masks
+    requires { ⌜ Ordered (now pool) (now order) ⌝ }
+    requires { ⌜ 8 * (list .a + list .b) ≤ length (now pool) ⌝ }
+    requires { ⌜ at + 64 ≤ length (now keys) ⌝ }
+    ensures { λ r. ⌜ ((rows : ℕ) (value : ℕ → Option ℤ) → Shown rows (now (keys .entry)) at nulls value
+        → Tells rows r (λ i. memberOf (now (pool .entry)) list equal (value i))) ⌝ }
+{
+    let holds = list.code == 1;
+    let found = find_keys(pool, order, list.a, list.b, keys, at);
+    let certain = all_if(equal & holds);
+    let likely = all_if(!equal & (holds | (list.b != 0)));
+    let unsure = all_if(!equal & holds);
+    Masks {
+        truths: (found & inverted(nulls)) | (certain & nulls),
+        unknowns: (likely & nulls) | (unsure & inverted(found | nulls)),
+    }
+}

@@ -1,0 +1,4 @@
+pub mod Turns
+pub mod Worths
+pub mod Working
+pub mod Dividing

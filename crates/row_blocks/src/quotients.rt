@@ -1,0 +1,187 @@
+// The value of a record in each row of a block, where no truth is kept of it: divisions, 64 rows at a time.
+ghost use mathlib.Core.Path.{_≡_};
+ghost use mathlib.Core.Bool.{true, cond};
+ghost use mathlib.Core.Option.{Option};
+ghost use Prim.Native.Nat.{ℕ, _+_, _≤_, _<_};
+ghost use lib.IntN.{ℤ};
+ghost use lib.ListN.{length, getD};
+ghost use Rattle.truth.specs.Evaluate.{keyed, dividedOf};
+ghost use Rattle.masks.specs.Masks.{KeyAt, Shown};
+ghost use Rattle.masks.specs.Block.{chainWorth, Ready};
+use crate::operand::fill_keys;
+use crate::operand::fill_rows;
+use crate::operand::join;
+use crate::operand::value_key;
+use masks::block::biased;
+use masks::block::fill_column;
+use masks::reach::is_kept;
+use masks::with_bit;
+use records::record::Fields;
+use records::record::Node;
+use records::record::fields_in;
+use truth::read::null_marked;
+use truth::scalar::Scalar;
+use truth::value::Value;
+use truth::value::divided;
+use truth::value::is_null;
+
+fn value_from(null: bool, k: u64) -> Value
+    ensures { λ r. ⌜ ((v : Option ℤ) → KeyAt null k v → keyed r ≡ v) ⌝ }
+{
+    if null {
+        return Value::Null;
+    }
+    Value::Known(Scalar(biased(k)))
+}
+
+// The 64 keys from `one` on divided by those from `two` on, into the place from `at` on; the word of the quotients' nulls.
+fn divide_keys(
+    code: u8,
+    keys: &mut [u64],
+    at: usize,
+    one: usize,
+    two: usize,
+    rows: usize,
+    x: u64,
+    y: u64,
+) -> u64
+    requires { ⌜ rows ≤ 64 ⌝ }
+    requires { ⌜ at ≤ one ⌝ }
+    requires { ⌜ at ≤ two ⌝ }
+    requires { ⌜ one + 64 ≤ length (now keys) ⌝ }
+    requires { ⌜ two + 64 ≤ length (now keys) ⌝ }
+    ensures { λ r. ⌜ ((value second : ℕ → Option ℤ) → Shown rows (now (keys .entry)) one x value
+        → Shown rows (now (keys .entry)) two y second
+        → Shown rows (now (keys .exit)) at r (λ i. dividedOf code (value i) (second i))) ⌝ }
+    ensures { λ _. ⌜ ((j : ℕ) → j < at → getD (now (keys .exit)) j 0 ≡ getD (now (keys .entry)) j 0) ⌝ }
+{
+    let mut marks: u64 = 0;
+    let mut i: usize = 0;
+    while i < rows {
+        let a = value_from(null_marked(x, i as u32), keys[one + i]);
+        let b = value_from(null_marked(y, i as u32), keys[two + i]);
+        let v = divided(code, a, b);
+        keys[at + i] = value_key(v);
+        marks = with_bit(marks, i as u32, is_null(v));
+        i += 1;
+    }
+    marks
+}
+
+// The 64 keys from `at` on and the next 64 are those of a division's inputs, or, turned round, of the second and the first.
+fn divide_turned(
+    code: u8,
+    turned: bool,
+    keys: &mut [u64],
+    at: usize,
+    rows: usize,
+    p: u64,
+    q: u64,
+) -> u64
+    requires { ⌜ rows ≤ 64 ⌝ }
+    requires { ⌜ at + 128 ≤ length (now keys) ⌝ }
+    ensures { λ r. ⌜ ((value second : ℕ → Option ℤ)
+        → Shown rows (now (keys .entry)) at p (λ i. cond turned (second i) (value i))
+        → Shown rows (now (keys .entry)) (at + 64) q (λ i. cond turned (value i) (second i))
+        → Shown rows (now (keys .exit)) at r (λ i. dividedOf code (value i) (second i))) ⌝ }
+    ensures { λ _. ⌜ ((j : ℕ) → j < at → getD (now (keys .exit)) j 0 ≡ getD (now (keys .entry)) j 0) ⌝ }
+{
+    if turned {
+        return divide_keys(code, keys, at, at + 64, at, rows, q, p);
+    }
+    divide_keys(code, keys, at, at, at + 64, rows, p, q)
+}
+
+fn pick_input(b: bool, on: u32, off: u32) -> u32
+    ensures { λ r. ⌜ r ≡ cond b on off ⌝ }
+{
+    if b {
+        return on;
+    }
+    off
+}
+
+// A division, and so many words as it takes.
+fn divides(f: Fields, room: usize, need: usize) -> bool
+    ensures { λ r. ⌜ (r ≡ true → (f .kind ≡ 4) × (8 ≤ f .code) × (f .code < 15) × (need ≤ room)) ⌝ }
+{
+    if f.kind != 4 {
+        return false;
+    }
+    if is_kept(f) {
+        return false;
+    }
+    need <= room
+}
+
+/// The value of record n: its keys from `at` on, and the word of its nulls. What stands before `at` stays. A division has its
+/// inputs' keys there and in the next 64 words; where there are not so many, rows are worked one by one.
+pub fn fill_worth(
+    records: &[u8],
+    pool: &[u8],
+    values: &[u8],
+    nulls: &[u64],
+    columns: usize,
+    base: usize,
+    rows: usize,
+    n: Node,
+    keys: &mut [u64],
+    at: usize,
+) -> u64
+    requires { ⌜ Ready (now records) (now pool) columns (now values) (now nulls) base rows (n .0) ⌝ }
+    requires { ⌜ at + 64 ≤ length (now keys) ⌝ }
+    ensures { λ r. ⌜ Shown rows (now (keys .exit)) at r (λ (i : ℕ). chainWorth (now (records .entry)) (now (pool .entry))
+        columns (now (values .entry)) (now (nulls .entry)) (n .0) (base + i)) ⌝ }
+    ensures { λ _. ⌜ ((j : ℕ) → j < at → getD (now (keys .exit)) j 0 ≡ getD (now (keys .entry)) j 0) ⌝ }
+{
+    let f = fields_in(records, n);
+    if f.kind == 1 {
+        return fill_column(values, nulls, columns, f.a, base, rows, keys, at);
+    }
+    if f.kind == 2 {
+        fill_keys(keys, at, 0, 0, biased(join(f.b, f.c)));
+        return 0;
+    }
+    if !divides(f, keys.len(), at + 128) {
+        return fill_rows(
+            records,
+            pool,
+            values,
+            nulls,
+            columns,
+            base,
+            rows,
+            n,
+            keys,
+            at,
+        );
+    }
+    // The deeper input first, so that its scratch is free again: one that is no division is not deep.
+    let g = fields_in(records, Node(f.a));
+    let turned = g.kind != 4;
+    let p = fill_worth(
+        records,
+        pool,
+        values,
+        nulls,
+        columns,
+        base,
+        rows,
+        Node(pick_input(turned, f.b, f.a)),
+        keys,
+        at,
+    );
+    let q = fill_worth(
+        records,
+        pool,
+        values,
+        nulls,
+        columns,
+        base,
+        rows,
+        Node(pick_input(turned, f.a, f.b)),
+        keys,
+        at + 64,
+    );
+    divide_turned(f.code, turned, keys, at, rows, p, q)
+}

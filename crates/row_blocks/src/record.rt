@@ -1,0 +1,445 @@
+// A record's truths in a block from those of its inputs.
+ghost use mathlib.Core.Path.{_≡_};
+ghost use mathlib.Core.List.{List};
+ghost use Prim.Native.Nat.{ℕ, _+_, _≤_, _<_};
+ghost use mathlib.Core.Option.{Option};
+ghost use lib.IntN.{ℤ};
+ghost use lib.ListN.{length};
+ghost use Rattle.three_valued.specs.Logic.{ofBool};
+ghost use Rattle.truth.specs.Evaluate.{nullTest};
+ghost use Rattle.masks.specs.Masks.{Tells, Shown};
+ghost use Rattle.masks.specs.Block.{chainTruth, Turn};
+ghost use Rattle.pool_lists.specs.Order.{Ordered};
+use crate::operand::operand;
+use crate::operand::truth_input;
+use masks::Masks;
+use masks::compare::between_columns;
+use masks::compare::compare_columns;
+use masks::compare::connect_masks;
+use masks::not_masks;
+use pool_lists::member::member_masks;
+use records::record::Fields;
+use records::record::Node;
+use records::record::fields_in;
+
+// is_null of a column.
+fn null_word(nulls: u64) -> Masks
+    ensures { λ r. ⌜ ((rows : ℕ) (keys : List ℕ) (at : ℕ) (value : ℕ → Option ℤ) → Shown rows keys at nulls value
+        → Tells rows r (λ i. ofBool (nullTest (value i)))) ⌝ }
+{
+    Masks {
+        truths: nulls,
+        unknowns: 0,
+    }
+}
+
+// Codes 0 to 7: the values of both inputs.
+fn compare_record(
+    records: &[u8],
+    pool: &[u8],
+    values: &[u8],
+    nulls: &[u64],
+    columns: usize,
+    base: usize,
+    rows: usize,
+    truths: &[u64],
+    unknowns: &[u64],
+    n: Node,
+    f: Fields,
+    keys: &mut [u64],
+) -> Masks
+    requires { ⌜ Turn (now records) (now pool) columns (now values) (now nulls) base rows (now truths) (now unknowns) n f ⌝ }
+    requires { ⌜ 192 ≤ length (now keys) ⌝ }
+    requires { ⌜ f .kind ≡ 4 ⌝ }
+    requires { ⌜ f .code < 8 ⌝ }
+    ensures { λ r. ⌜ Tells rows r (λ (i : ℕ). chainTruth (now (records .entry)) (now (pool .entry)) columns
+        (now (values .entry)) (now (nulls .entry)) (n .0) (base + i)) ⌝ }
+{
+    let x = operand(
+        records,
+        pool,
+        values,
+        nulls,
+        columns,
+        base,
+        rows,
+        truths,
+        unknowns,
+        Node(f.a),
+        keys,
+        0,
+    );
+    let y = operand(
+        records,
+        pool,
+        values,
+        nulls,
+        columns,
+        base,
+        rows,
+        truths,
+        unknowns,
+        Node(f.b),
+        keys,
+        64,
+    );
+    compare_columns(f.code, keys, 0, x, 64, y)
+}
+
+// Codes 15 to 19: the truths of both inputs.
+fn connect_record(
+    records: &[u8],
+    pool: &[u8],
+    values: &[u8],
+    nulls: &[u64],
+    columns: usize,
+    base: usize,
+    rows: usize,
+    truths: &[u64],
+    unknowns: &[u64],
+    n: Node,
+    f: Fields,
+    keys: &mut [u64],
+) -> Masks
+    requires { ⌜ Turn (now records) (now pool) columns (now values) (now nulls) base rows (now truths) (now unknowns) n f ⌝ }
+    requires { ⌜ 192 ≤ length (now keys) ⌝ }
+    requires { ⌜ f .kind ≡ 4 ⌝ }
+    requires { ⌜ 8 ≤ f .code ⌝ }
+    ensures { λ r. ⌜ Tells rows r (λ (i : ℕ). chainTruth (now (records .entry)) (now (pool .entry)) columns
+        (now (values .entry)) (now (nulls .entry)) (n .0) (base + i)) ⌝ }
+{
+    let s = truth_input(
+        records,
+        pool,
+        values,
+        nulls,
+        columns,
+        base,
+        rows,
+        truths,
+        unknowns,
+        Node(f.a),
+        keys,
+    );
+    let t = truth_input(
+        records,
+        pool,
+        values,
+        nulls,
+        columns,
+        base,
+        rows,
+        truths,
+        unknowns,
+        Node(f.b),
+        keys,
+    );
+    connect_masks(f.code, s, t)
+}
+
+// is_null and is_not_null.
+fn null_record(
+    records: &[u8],
+    pool: &[u8],
+    values: &[u8],
+    nulls: &[u64],
+    columns: usize,
+    base: usize,
+    rows: usize,
+    truths: &[u64],
+    unknowns: &[u64],
+    n: Node,
+    f: Fields,
+    keys: &mut [u64],
+) -> Masks
+    requires { ⌜ Turn (now records) (now pool) columns (now values) (now nulls) base rows (now truths) (now unknowns) n f ⌝ }
+    requires { ⌜ 192 ≤ length (now keys) ⌝ }
+    requires { ⌜ 5 < f .kind ⌝ }
+    requires { ⌜ f .kind < 8 ⌝ }
+    ensures { λ r. ⌜ Tells rows r (λ (i : ℕ). chainTruth (now (records .entry)) (now (pool .entry)) columns
+        (now (values .entry)) (now (nulls .entry)) (n .0) (base + i)) ⌝ }
+{
+    let m = null_word(operand(
+        records,
+        pool,
+        values,
+        nulls,
+        columns,
+        base,
+        rows,
+        truths,
+        unknowns,
+        Node(f.a),
+        keys,
+        0,
+    ));
+    if f.kind == 6 {
+        return m;
+    }
+    not_masks(m)
+}
+
+// is_between.
+fn between_record(
+    records: &[u8],
+    pool: &[u8],
+    values: &[u8],
+    nulls: &[u64],
+    columns: usize,
+    base: usize,
+    rows: usize,
+    truths: &[u64],
+    unknowns: &[u64],
+    n: Node,
+    f: Fields,
+    keys: &mut [u64],
+) -> Masks
+    requires { ⌜ Turn (now records) (now pool) columns (now values) (now nulls) base rows (now truths) (now unknowns) n f ⌝ }
+    requires { ⌜ 192 ≤ length (now keys) ⌝ }
+    requires { ⌜ f .kind ≡ 8 ⌝ }
+    ensures { λ r. ⌜ Tells rows r (λ (i : ℕ). chainTruth (now (records .entry)) (now (pool .entry)) columns
+        (now (values .entry)) (now (nulls .entry)) (n .0) (base + i)) ⌝ }
+{
+    let x = operand(
+        records,
+        pool,
+        values,
+        nulls,
+        columns,
+        base,
+        rows,
+        truths,
+        unknowns,
+        Node(f.a),
+        keys,
+        0,
+    );
+    let low = operand(
+        records,
+        pool,
+        values,
+        nulls,
+        columns,
+        base,
+        rows,
+        truths,
+        unknowns,
+        Node(f.b),
+        keys,
+        64,
+    );
+    let high = operand(
+        records,
+        pool,
+        values,
+        nulls,
+        columns,
+        base,
+        rows,
+        truths,
+        unknowns,
+        Node(f.c),
+        keys,
+        128,
+    );
+    between_columns(f.code, keys, x, low, high)
+}
+
+// is_in.
+fn member_record(
+    records: &[u8],
+    pool: &[u8],
+    order: &[u64],
+    values: &[u8],
+    nulls: &[u64],
+    columns: usize,
+    base: usize,
+    rows: usize,
+    truths: &[u64],
+    unknowns: &[u64],
+    n: Node,
+    f: Fields,
+    keys: &mut [u64],
+) -> Masks
+    requires { ⌜ Turn (now records) (now pool) columns (now values) (now nulls) base rows (now truths) (now unknowns) n f ⌝ }
+    requires { ⌜ 192 ≤ length (now keys) ⌝ }
+    requires { ⌜ f .kind ≡ 10 ⌝ }
+    requires { ⌜ Ordered (now pool) (now order) ⌝ }
+    ensures { λ r. ⌜ Tells rows r (λ (i : ℕ). chainTruth (now (records .entry)) (now (pool .entry)) columns
+        (now (values .entry)) (now (nulls .entry)) (n .0) (base + i)) ⌝ }
+{
+    let list = fields_in(records, Node(f.b));
+    let x = operand(
+        records,
+        pool,
+        values,
+        nulls,
+        columns,
+        base,
+        rows,
+        truths,
+        unknowns,
+        Node(f.a),
+        keys,
+        0,
+    );
+    member_masks(pool, order, list, f.code == 1, keys, 0, x)
+}
+
+// The tests of values.
+fn test_record(
+    records: &[u8],
+    pool: &[u8],
+    order: &[u64],
+    values: &[u8],
+    nulls: &[u64],
+    columns: usize,
+    base: usize,
+    rows: usize,
+    truths: &[u64],
+    unknowns: &[u64],
+    n: Node,
+    f: Fields,
+    keys: &mut [u64],
+) -> Masks
+    requires { ⌜ Turn (now records) (now pool) columns (now values) (now nulls) base rows (now truths) (now unknowns) n f ⌝ }
+    requires { ⌜ 192 ≤ length (now keys) ⌝ }
+    requires { ⌜ 5 < f .kind ⌝ }
+    requires { ⌜ Ordered (now pool) (now order) ⌝ }
+    ensures { λ r. ⌜ Tells rows r (λ (i : ℕ). chainTruth (now (records .entry)) (now (pool .entry)) columns
+        (now (values .entry)) (now (nulls .entry)) (n .0) (base + i)) ⌝ }
+{
+    if f.kind < 8 {
+        return null_record(
+            records,
+            pool,
+            values,
+            nulls,
+            columns,
+            base,
+            rows,
+            truths,
+            unknowns,
+            n,
+            f,
+            keys,
+        );
+    }
+    if f.kind == 8 {
+        return between_record(
+            records,
+            pool,
+            values,
+            nulls,
+            columns,
+            base,
+            rows,
+            truths,
+            unknowns,
+            n,
+            f,
+            keys,
+        );
+    }
+    member_record(
+        records,
+        pool,
+        order,
+        values,
+        nulls,
+        columns,
+        base,
+        rows,
+        truths,
+        unknowns,
+        n,
+        f,
+        keys,
+    )
+}
+
+// The truth of record n.
+pub fn record_masks(
+    records: &[u8],
+    pool: &[u8],
+    order: &[u64],
+    values: &[u8],
+    nulls: &[u64],
+    columns: usize,
+    base: usize,
+    rows: usize,
+    truths: &[u64],
+    unknowns: &[u64],
+    n: Node,
+    f: Fields,
+    keys: &mut [u64],
+) -> Masks
+    requires { ⌜ Turn (now records) (now pool) columns (now values) (now nulls) base rows (now truths) (now unknowns) n f ⌝ }
+    requires { ⌜ 192 ≤ length (now keys) ⌝ }
+    requires { ⌜ Ordered (now pool) (now order) ⌝ }
+    ensures { λ r. ⌜ Tells rows r (λ (i : ℕ). chainTruth (now (records .entry)) (now (pool .entry)) columns
+        (now (values .entry)) (now (nulls .entry)) (n .0) (base + i)) ⌝ }
+{
+    if f.kind == 4 {
+        if f.code < 8 {
+            return compare_record(
+                records,
+                pool,
+                values,
+                nulls,
+                columns,
+                base,
+                rows,
+                truths,
+                unknowns,
+                n,
+                f,
+                keys,
+            );
+        }
+        return connect_record(
+            records,
+            pool,
+            values,
+            nulls,
+            columns,
+            base,
+            rows,
+            truths,
+            unknowns,
+            n,
+            f,
+            keys,
+        );
+    }
+    if f.kind == 5 {
+        return not_masks(truth_input(
+            records,
+            pool,
+            values,
+            nulls,
+            columns,
+            base,
+            rows,
+            truths,
+            unknowns,
+            Node(f.a),
+            keys,
+        ));
+    }
+    test_record(
+        records,
+        pool,
+        order,
+        values,
+        nulls,
+        columns,
+        base,
+        rows,
+        truths,
+        unknowns,
+        n,
+        f,
+        keys,
+    )
+}
