@@ -1,0 +1,4 @@
+pub mod Merging
+pub mod Halves
+pub mod Ranking
+pub mod RankKeys
