@@ -4,6 +4,8 @@
 
 #include "make.h"
 
+enum { LIST = 100 };
+
 static struct made now;
 static uint32_t top;
 static unsigned lines;

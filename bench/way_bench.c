@@ -10,19 +10,10 @@
 #include <stdio.h>
 #include <time.h>
 
-enum { LINES = 128, LIST = 100, DESK_MS = 47 };
+enum { LINES = 128, DESK_MS = 47 };
 
 static unsigned met, goals;
 static uint8_t scratch[16 * 4096];
-
-/* From the far end on, so that a pass carries a fact by one step. */
-static void chain(uint32_t columns)
-{
-    for (uint32_t c = columns - 1; c-- > 0;) {
-        uint32_t left = screen_put_column(&now.s, c);
-        join(screen_put_binary(&now.s, SCREEN_OP_EQ, left, screen_put_column(&now.s, c + 1)));
-    }
-}
 
 /* Both halves of the chain are impossible, which only the passes find out: then no single line helps. */
 static void halves(void)
@@ -32,16 +23,6 @@ static void halves(void)
     compare(SCREEN_OP_LT, 31, 5);
     compare(SCREEN_OP_GT, 32, 5);
     compare(SCREEN_OP_LT, 63, 5);
-}
-
-static void list(uint32_t column, int64_t first, int negated)
-{
-    int64_t values[LIST];
-    for (unsigned i = 0; i < LIST; i++)
-        values[i] = first + i;
-    uint32_t x = screen_put_column(&now.s, column);
-    uint32_t in = screen_put_is_in(&now.s, x, screen_put_list(&now.s, SCREEN_TYPE_INT, values, LIST, 0), 0);
-    join(negated ? screen_put_not(&now.s, in) : in);
 }
 
 static double seconds(void)

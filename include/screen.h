@@ -66,7 +66,7 @@
  *
  * PLATFORM
  *
- * x86-64 Linux, two's complement. The archive needs nothing but memcpy and memset, has some 54 KB of code, keeps no
+ * x86-64 Linux, two's complement. The archive needs nothing but memcpy and memset, has some 161 KB of code, keeps no
  * state and opens no file. MIT licence: LICENSE, and NOTICE for the Rust sources that it follows.
  *
  * "Document 01" in this file and in the sources is docs/01-scope.md, the paper that the library is made from.
@@ -79,8 +79,8 @@
 
 /* Of this interface: the major number rises if a host must be changed to compile, the minor one if something is new. */
 #define SCREEN_VERSION_MAJOR 4
-#define SCREEN_VERSION_MINOR 1
-#define SCREEN_VERSION "4.1"
+#define SCREEN_VERSION_MINOR 2
+#define SCREEN_VERSION "4.2"
 
 /* A host that leaves an answer unread is warned, by compilers that can. */
 #if defined(__GNUC__)
@@ -104,6 +104,7 @@ enum screen_limit {
     SCREEN_VALUE_BYTES = 8,
     SCREEN_MAX_ROWS = 1024,         /* of a chain */
     SCREEN_PLACE_BYTES = 2,         /* of a hedge list: a row's number */
+    SCREEN_CELL_BYTES = 16,         /* of a row with halves: a column's whole part and its half part */
     SCREEN_MAX_REASONS_BYTES = 34816, /* 1,024 lines of at most 34 bytes: every text of screen_rewrite fits */
     SCREEN_BLOCK_BYTES = 512,       /* a saved screen is whole blocks */
     SCREEN_MAX_FILE_BYTES = 137216  /* 268 blocks: 64 columns, 4,096 records and 8,192 values */
@@ -163,9 +164,9 @@ enum screen_closed {
 /*
  * Why a call refused. The numbers are looked for in this order and the first that applies is given: 1, 2, 3; then the
  * used records from record 0 up, reached by the root or not, and for each of them 4, 5, 6, 7; then 7 for the root.
- * After these come the numbers of the single calls, in rising order but for three: the hedge list looks for 20 before 12,
- * loading looks first at the file: 15, then 14, then 1 to 7 of the screen that it holds; building the slowest screen looks
- * for 19, then 11.
+ * After these come the numbers of the single calls, in rising order but for four: the hedge list looks for 20 before 12,
+ * showing a row looks for 17 before 14, loading looks first at the file: 15, then 14, then 1 to 7 of the screen that it
+ * holds; building the slowest screen looks for 19, then 11.
  */
 enum screen_refusal {
     /* Over 64 columns, or a byte of the table that is no type. */
@@ -210,7 +211,10 @@ enum screen_refusal {
      * eight bytes are not zero. Every column counts, read by the root or not.
      */
     SCREEN_REFUSED_ROW = 13,
-    /* A lent buffer is too short: saving's file, or one of loading's table, records and pool. */
+    /*
+     * A lent buffer is too short: saving's file, one of loading's table, records and pool, or the row that is shown,
+     * which has a place for each column; that is looked at whether some row passes or not.
+     */
     SCREEN_REFUSED_SHORT = 14,
     /*
      * Not a saved screen: a wrong checksum, block order, kind or count, an unused byte that is not zero, a used count
@@ -219,9 +223,14 @@ enum screen_refusal {
     SCREEN_REFUSED_FILE = 15,
     /* The lent text buffer cannot hold the reasons of the rewritten screen. */
     SCREEN_REFUSED_REASONS = 16,
-    /* The line in the way: a screen that is not plain (screen_rewrite says which are). */
+    /* The line in the way, and showing and checking a row: a screen that is not plain (screen_rewrite says which are). */
     SCREEN_REFUSED_PLAIN = 17,
-    /* 18 is not used: no refusal has this number. */
+    /*
+     * Checking a row: it has not exactly 16 bytes for each column, a half part is not -1, 0 or +1, a null mark is at or
+     * above the number of columns, or a column marked null has a part that is not zero. Every column counts, read by the
+     * root or not.
+     */
+    SCREEN_REFUSED_CELLS = 18,
     /* Building the slowest screen: not 2 to 64 columns. */
     SCREEN_REFUSED_COLUMNS = 19,
     /* A chain of over 1,024 rows, or a list buffer with fewer places than the chain has rows. */
@@ -270,13 +279,16 @@ static inline const char *screen_refusal_text(uint32_t answer)
         return "The row has a null mark beyond its columns, a value outside its column's type, or a null whose value "
                "is not zero.";
     case SCREEN_REFUSED_SHORT:
-        return "A lent buffer is too short for the file, or for what the file holds.";
+        return "A lent buffer is too short for the file, for what the file holds, or for the row shown.";
     case SCREEN_REFUSED_FILE:
         return "This is not a saved screen, or it was damaged.";
     case SCREEN_REFUSED_REASONS:
         return "The text buffer is too short for the reasons of the rewritten screen.";
     case SCREEN_REFUSED_PLAIN:
         return "The screen is not plain: a line is not one of the plain forms, or a Truth column is read.";
+    case SCREEN_REFUSED_CELLS:
+        return "The row does not have exactly 16 bytes for each column, or it has a half part other than -1, 0 and +1, a "
+               "null mark beyond its columns, or a null whose parts are not zero.";
     case SCREEN_REFUSED_COLUMNS:
         return "The slowest screen is built for 2 to 64 columns.";
     case SCREEN_REFUSED_CHAIN:
@@ -304,7 +316,7 @@ enum screen_check_answer {
  *   used                  how many of the records belong to the screen; any number, one too large is refused
  *   root                  the record that the screen means; any number, one not below used is refused
  *
- * The call needs some 50 KB of stack, whatever the screen.
+ * The call needs some 50 KB of stack, and less than 88 KB where the pool has over 128 values.
  */
 SCREEN_MUST_USE
 uint32_t screen_check(const uint8_t *table, size_t table_len, const uint8_t *records, size_t records_len,
@@ -391,7 +403,8 @@ enum screen_rewrite_answer {
  *
  * A conjunct with a FloorDivide or Modulus in it is none of these: it stays as it is and says nothing of its columns.
  *
- * The call needs some 62 KB of stack, and less than 384 KB where many lists are carried by many equalities.
+ * The call needs some 62 KB of stack, less than 100 KB where the pool has over 128 values, and less than 384 KB where many
+ * lists are carried by many equalities.
  */
 SCREEN_MUST_USE
 uint32_t screen_rewrite(const uint8_t *table, size_t table_len, uint8_t *records, size_t records_len,
@@ -424,6 +437,76 @@ enum screen_line_answer {
 SCREEN_MUST_USE
 uint32_t screen_line_in_the_way(const uint8_t *table, size_t table_len, const uint8_t *records, size_t records_len,
                                 const uint8_t *pool, size_t pool_len, uint64_t used, uint64_t root, uint64_t *line);
+
+/*
+ * A row with halves, as the next two calls take it: for each column in the table's order 16 bytes, its whole part and then
+ * its half part, each 8 bytes, two's complement, little-endian; and a word of null marks, bit i for column i. The half
+ * part is -1, 0 or +1, and the value is the whole part and half of the half part: (3, +1) is three and a half, and
+ * so is (4, -1). Whole parts may be any 64-bit numbers, in a Day column too. A null has both parts zero.
+ */
+
+/* The answers of screen_show_row. */
+enum screen_show_row_answer {
+    SCREEN_NO_ROW = 256,   /* no row passes; nothing is written */
+    SCREEN_ROW_SHOWN = 257 /* the row written passes */
+};
+
+/*
+ * Shows one row that passes a plain screen. Answers one of the above, or a refusal: 1 to 7, 8, 9, 17, 14, in this order.
+ *
+ *   table .. root  as in screen_check; nothing is written to them
+ *   row, row_len   the buffer for the row with halves; row_len is in bytes and at least 16 times the number of columns,
+ *                  or it is 14. Written with SCREEN_ROW_SHOWN are the first 16 bytes for each column; bytes behind them,
+ *                  and with another answer all bytes, keep their values
+ *   nulls          not NULL. Written with SCREEN_ROW_SHOWN: the null marks. Keeps its value otherwise
+ *
+ * SCREEN_NO_ROW is answered exactly if no row of whole numbers, values half way between two of them, and nulls passes:
+ * exactly if screen_rewrite answers SCREEN_NOTHING_PASSES. Else the row is this one, after what the equalities carry from
+ * column to column:
+ *
+ *   null     of a column that must be null, and of one that the root does not reach
+ *   (v, 0)   where is_in lines say which values it may have: the smallest v in all of their lists that the other lines allow
+ *   (v, 0)   else, where it must be v
+ *   (v, +1)  else, where it must be v or more, or more than v: half a step above the greatest such v
+ *   (v, -1)  else, where it must be v or less, or less than v: half a step below the least such v
+ *   (0, +1)  else
+ *
+ * So a whole number is shown where a list or an equality names it, and otherwise a value half way between two whole
+ * numbers, which no other line can exclude: "c0 > 3" shows three and a half, and so do "c0 > 3" and "c0 < 4", which no
+ * whole number passes. screen_check_row answers SCREEN_PASSES of the row shown; screen_test_row, which takes whole
+ * numbers only, answers SCREEN_TRUE of it if all of its half parts are zero.
+ *
+ * The call merges the lines once, and looks for the smallest value that all lists of a column allow: of the slowest screen
+ * known, 65 lists of 100 values on 64 equal columns, some 20 ms. It needs some 390 KB of stack, whatever the screen.
+ */
+SCREEN_MUST_USE
+uint32_t screen_show_row(const uint8_t *table, size_t table_len, const uint8_t *records, size_t records_len,
+                         const uint8_t *pool, size_t pool_len, uint64_t used, uint64_t root,
+                         uint8_t *row, size_t row_len, uint64_t *nulls);
+
+/* The answers of screen_check_row. */
+enum screen_check_row_answer {
+    SCREEN_DOES_NOT_PASS = 256, /* some line is false or unknown of the row */
+    SCREEN_PASSES = 257         /* every line is true of the row */
+};
+
+/*
+ * Does this row with halves pass a plain screen? Answers one of the above, or a refusal: 1 to 7, 8, 9, 17, 18. Writes
+ * nothing.
+ *
+ *   table .. root  as in screen_check
+ *   row, row_len   the row with halves; row_len is exactly 16 times the number of columns
+ *   nulls          its null marks
+ *
+ * The row may be anyone's, not only one that screen_show_row wrote. Of a row without halves whose values are within their
+ * columns' types the answer is SCREEN_PASSES exactly if screen_test_row answers SCREEN_TRUE.
+ *
+ * The call needs some 68 KB of stack, and less than 104 KB where the pool has over 128 values.
+ */
+SCREEN_MUST_USE
+uint32_t screen_check_row(const uint8_t *table, size_t table_len, const uint8_t *records, size_t records_len,
+                          const uint8_t *pool, size_t pool_len, uint64_t used, uint64_t root,
+                          const uint8_t *row, size_t row_len, uint64_t nulls);
 
 /* The answer of screen_slowest. */
 enum screen_slowest_answer {
@@ -567,7 +650,7 @@ enum screen_columns_read_answer {
  *   count          not NULL, and not the same as columns. Written with SCREEN_COLUMNS: the number of ones in *columns.
  *                  Keeps its value with a refusal
  *
- * The call needs some 75 KB of stack, whatever the screen.
+ * The call needs some 75 KB of stack, and less than 112 KB where the pool has over 128 values.
  */
 SCREEN_MUST_USE
 uint32_t screen_columns_read(const uint8_t *table, size_t table_len, const uint8_t *records, size_t records_len,
@@ -637,7 +720,7 @@ enum screen_load_answer {
  * that lends the room above, and 1 or 2 by one that lends more. A file with room for all is never answered 14.
  *
  * The records and the pool lie in pieces in the file, so they are copied for the checks: the call needs less than
- * 192 KB of stack, whatever the screen; saving needs some 50 KB.
+ * 224 KB of stack, whatever the screen; saving needs as much as screen_check.
  */
 SCREEN_MUST_USE
 uint32_t screen_load(const uint8_t *file, size_t file_len, uint8_t *table, size_t table_len, uint8_t *records,

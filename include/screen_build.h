@@ -442,6 +442,42 @@ static inline uint32_t screen_lent_line_in_the_way(const struct screen_lent *s, 
                                   s->root, line);
 }
 
+/* As screen_show_row. */
+SCREEN_MUST_USE
+static inline uint32_t screen_lent_show_row(const struct screen_lent *s, uint8_t *row, size_t row_len, uint64_t *nulls)
+{
+    return screen_show_row(s->table, s->table_len, s->records, s->records_len, s->pool, s->pool_len, s->used, s->root,
+                           row, row_len, nulls);
+}
+
+/* As screen_check_row. */
+SCREEN_MUST_USE
+static inline uint32_t screen_lent_check_row(const struct screen_lent *s, const uint8_t *row, size_t row_len,
+                                             uint64_t nulls)
+{
+    return screen_check_row(s->table, s->table_len, s->records, s->records_len, s->pool, s->pool_len, s->used, s->root,
+                            row, row_len, nulls);
+}
+
+/* The whole part of a column of a row with halves. */
+static inline int64_t screen_whole_at(const uint8_t *row, uint64_t column)
+{
+    return screen_fetch_value(row + SCREEN_CELL_BYTES * column);
+}
+
+/* Its half part: -1, 0 or +1. */
+static inline int64_t screen_half_at(const uint8_t *row, uint64_t column)
+{
+    return screen_fetch_value(row + SCREEN_CELL_BYTES * column + SCREEN_VALUE_BYTES);
+}
+
+/* Puts both parts of a column into a row with halves. */
+static inline void screen_store_cell(uint8_t *row, uint64_t column, int64_t whole, int64_t half)
+{
+    screen_store_value(row + SCREEN_CELL_BYTES * column, whole);
+    screen_store_value(row + SCREEN_CELL_BYTES * column + SCREEN_VALUE_BYTES, half);
+}
+
 /* As screen_slowest, into the rooms of s, which becomes the screen built; it has no pool. A refusal leaves s. */
 SCREEN_MUST_USE
 static inline uint32_t screen_lent_slowest(struct screen_lent *s, uint64_t columns)

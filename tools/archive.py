@@ -62,12 +62,16 @@ class Archive:
         answer, _ = self._call("screen_columns_read", s, *map(ctypes.byref, out))
         return answer, out[0].value, out[1].value
 
-    def test_row(self, s, row, nulls):
+    def _row(self, call, s, row, nulls):
+        """The answer of a call that takes a row."""
         lent = (ctypes.c_uint8 * len(row)).from_buffer_copy(row) if row else None
-        answer, _ = self._call("screen_test_row", s, lent, ctypes.c_size_t(len(row)), ctypes.c_uint64(nulls))
+        answer, _ = self._call(call, s, lent, ctypes.c_size_t(len(row)), ctypes.c_uint64(nulls))
         if bytes(lent or b"") != row:
-            raise Changed("screen_test_row")
+            raise Changed(call)
         return answer
+
+    def test_row(self, s, row, nulls):
+        return self._row("screen_test_row", s, row, nulls)
 
     def rewrite(self, s, room=TEXT_ROOM):
         """The answer, new root, new used, length of the text and passes, which stand at FOUR_MARKS before the call, the
@@ -83,6 +87,17 @@ class Archive:
         line = ctypes.c_uint64(MARKS[0])
         answer, _ = self._call("screen_line_in_the_way", s, ctypes.byref(line))
         return answer, line.value
+
+    def show_row(self, s, room):
+        """The answer, the lent row of `room` bytes, where filler(9, room) stood, and the null marks, which stand at a mark
+        before the call."""
+        lent = (ctypes.c_uint8 * room).from_buffer_copy(filler(9, room)) if room else None
+        nulls = ctypes.c_uint64(MARKS[0])
+        answer, _ = self._call("screen_show_row", s, lent, ctypes.c_size_t(room), ctypes.byref(nulls))
+        return answer, bytes(lent or b""), nulls.value
+
+    def check_row(self, s, row, nulls):
+        return self._row("screen_check_row", s, row, nulls)
 
     def slowest(self, columns, *rooms):
         """The answer, root and used, which stand at MARKS before the call, and the lent table and records of `rooms`

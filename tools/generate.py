@@ -418,6 +418,24 @@ def long_list(rng):
     return b.screen(b.conjunction(lines), room(rng))
 
 
+def far_lists(rng):
+    """Many lists, some negated, on columns that equalities join: merging then keeps an index of them. Those that are not
+    negated have two values in common, but for few; those that are may have one of the two."""
+    n, common = rng.choice((5, 20, 64)), rng.sample(range(300), 2)
+    b = Builder(rng, [m.INT] * n, 300, 0.5)
+    b.values = [v for _ in range(100) for v in (*common, rng.randrange(300))]
+    b.values += [rng.choice((common[0], rng.randrange(300))) for _ in range(100)]
+    lines = [b.put(m.BINARY, m.EQ, 0, b.column(i), b.column(i + 1)) for i in range(n - 1)]
+    rng.shuffle(lines)
+    for _ in range(rng.choice((10, 30, 60))):
+        negated, count = rng.random() < 0.2, 2 if rng.random() < 0.01 else rng.choice((3, 10, 50, 100))
+        start = rng.randrange(300, 401 - count) if negated else rng.randrange(301 - count)
+        in_ = b.put(m.IS_IN, rng.randrange(2), 0, b.column(rng.randrange(n)), b.put(m.LIST, 0, m.INT, start, count))
+        lines.insert(rng.randrange(len(lines) + 1), b.put(m.NOT, a=in_) if negated else in_)
+    lines += [b.comparison(rng.randrange(n)) for _ in range(rng.choice((0, 0, 1)))]
+    return b.screen(b.conjunction(lines), room(rng))
+
+
 LIMITS = (many_conjuncts, chain_of_equalities, tree_limit, rebuilt_tree, full_records, full_pool, wide_table, long_list)
 
 
@@ -599,4 +617,46 @@ def lent_row(rng, s, damage=0.1):
             nulls |= 1 << rng.choice((len(row) % 64, 63))
         elif data:
             data[rng.randrange(len(data))] = rng.randrange(1, 256)
+    return bytes(data), nulls
+
+
+def place(rng, values):
+    """Both parts of a value: one of these or far from all, a half above or below it or none."""
+    whole = rng.choice(EXTREMES[m.INT]) if rng.random() < 0.05 else min(max(rng.choice(values), -2**63), 2**63 - 1)
+    return whole, rng.choice((-1, 0, 0, 1))
+
+
+def places(rng, s, known):
+    """A row with halves: for each column None or its two parts. Half of them are `known`, a row that passes, with some
+    columns changed; columns that lines may compare often have one value."""
+    values, one = literals(s), None
+    if known is not None and rng.random() < 0.5:
+        row = list(known)
+        for i in range(len(row)):
+            if rng.random() < 0.2:
+                row[i] = rng.choice((None, place(rng, values)))
+        return row
+    if rng.random() < 0.4:
+        one = place(rng, values)
+    nulls = rng.choice((0, 0, 0.2, 0.5))
+    return [None if rng.random() < nulls else one or place(rng, values) for _ in s.table]
+
+
+def damaged_places(rng, row, nulls):
+    """The bytes and null marks of a row with halves, with something wrong with them; sometimes with nothing."""
+    data, kind = bytearray(row), rng.randrange(5)
+    columns = len(data) // 16
+    if kind == 0:
+        some = rng.choice((1, 8, 16))
+        data = data[:max(0, len(data) - some)] if rng.random() < 0.5 else data + bytes(some)
+    elif kind == 1:
+        nulls |= 1 << rng.choice((columns % 64, 63))
+    elif columns:
+        at = 16 * rng.randrange(columns)
+        if kind == 2:
+            data[at + 8:at + 16] = value_bytes(rng.choice((2, -2, 3, 256, 2**63 - 1, -2**63, 2**32)))
+        elif kind == 3:
+            data[at + rng.randrange(16)] = rng.randrange(256)
+        else:
+            nulls ^= 1 << at // 16
     return bytes(data), nulls

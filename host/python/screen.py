@@ -16,9 +16,10 @@ Refused, which has the library's number; then nothing is changed. include/screen
 
 import ctypes
 import datetime
+import fractions
 import os
 
-VERSION = (4, 1)  # of include/screen.h
+VERSION = (4, 2)  # of include/screen.h
 
 INT, DAY, TRUTH = 1, 2, 3
 TYPES = {"Int": INT, "Day": DAY, "Truth": TRUTH}
@@ -29,7 +30,7 @@ AND, OR, XOR = 15, 16, 17
 CLOSED = {"both": 0, "left": 1, "right": 2, "none": 3}
 INPUTS = {BINARY: 2, NOT: 1, IS_NULL: 1, IS_NOT_NULL: 1, IS_BETWEEN: 3, IS_IN: 2}
 MAX_RECORDS, MAX_POOL_VALUES, RECORD_BYTES, VALUE_BYTES, MAX_FILE_BYTES = 4096, 8192, 16, 8, 137216
-MAX_ROWS, PLACE_BYTES, MAX_REASONS_BYTES = 1024, 2, 34816
+MAX_ROWS, PLACE_BYTES, CELL_BYTES, MAX_REASONS_BYTES = 1024, 2, 16, 34816
 
 REFUSALS = {
     1: "The table has more than 64 columns, or a column of an unknown type.",
@@ -48,10 +49,12 @@ REFUSALS = {
     12: "The row does not have exactly eight bytes for each column.",
     13: "The row has a null mark beyond its columns, a value outside its column's type, or a null whose value is not "
         "zero.",
-    14: "A lent buffer is too short for the file, or for what the file holds.",
+    14: "A lent buffer is too short for the file, for what the file holds, or for the row shown.",
     15: "This is not a saved screen, or it was damaged.",
     16: "The text buffer is too short for the reasons of the rewritten screen.",
     17: "The screen is not plain: a line is not one of the plain forms, or a Truth column is read.",
+    18: "The row does not have exactly 16 bytes for each column, or it has a half part other than -1, 0 and +1, a null mark "
+        "beyond its columns, or a null whose parts are not zero.",
     19: "The slowest screen is built for 2 to 64 columns.",
     20: "The chain has more than 1,024 rows, or the list buffer has fewer places than the chain has rows.",
     21: "A sum of the tally, or its false and unknown rows together, would pass 64 bits.",
@@ -103,6 +106,18 @@ def _number(value, kind):
     if isinstance(value, datetime.date) or not isinstance(value, int):
         raise TypeError(f"{value!r} is no value of this column's type")
     return int(value)
+
+
+def _half(value, kind):
+    """A value as its whole part and its half part; a Fraction may be half way between two whole numbers."""
+    if not isinstance(value, fractions.Fraction):
+        return _number(value, kind), 0
+    if value.denominator > 2:
+        raise ValueError(f"{value} is no whole number and not half way between two")
+    whole = value.numerator // value.denominator
+    if value.denominator == 1:
+        return whole, 0
+    return (whole, 1) if whole >= -2**63 else (whole + 1, -1)
 
 
 def _kind_of(value):
@@ -343,11 +358,42 @@ class Screen:
         answer = _call("screen_line_in_the_way", *self._lent(), ctypes.byref(line))
         return ("passes", line.value, None)[answer - 256]
 
-    def _cells(self, row):
-        """A row's values as bytes, and its null marks."""
+    def show_row(self):
+        """screen_show_row: a row that passes, as test_row and check_row take it, or None if none does.
+
+        Each column has its value by its name, None for null; half way between two whole numbers it is a
+        fractions.Fraction. A Day is its number. Refused with 1 to 7, 8, 9, 17.
+        """
+        row, nulls = ctypes.create_string_buffer(CELL_BYTES * len(self.names)), ctypes.c_uint64()
+        if _call("screen_show_row", *self._lent(), *_slice(row, len(row)), ctypes.byref(nulls)) == 256:
+            return None
+        parts = [int.from_bytes(row.raw[at:at + 8], "little", signed=True) for at in range(0, len(row), 8)]
+        values = [whole + fractions.Fraction(half, 2) if half else whole for whole, half in zip(parts[::2], parts[1::2])]
+        return {name: None if nulls.value >> i & 1 else values[i] for i, name in enumerate(self.names)}
+
+    def check_row(self, row):
+        """screen_check_row: does this row pass a plain screen? True or False.
+
+        `row` is as test_row takes it, but values may also be a fractions.Fraction half way between two whole numbers, and
+        a Day any 64-bit number. Refused with 1 to 7, 8, 9, 17.
+        """
+        self._known(row)
+        nulls, cells = 0, b""
+        for number, (name, kind) in enumerate(zip(self.names, self.kinds)):
+            value = row.get(name)
+            nulls |= (value is None) << number
+            for part in (0, 0) if value is None else _half(value, kind):
+                cells += part.to_bytes(8, "little", signed=True)
+        return _call("screen_check_row", *self._lent(), *_slice(cells, len(cells)), ctypes.c_uint64(nulls)) == 257
+
+    def _known(self, row):
         unknown = set(row) - set(self.names)
         if unknown:
             raise KeyError(f"no column named {sorted(unknown)[0]}")
+
+    def _cells(self, row):
+        """A row's values as bytes, and its null marks."""
+        self._known(row)
         nulls, cells = 0, b""
         for number, (name, kind) in enumerate(zip(self.names, self.kinds)):
             value = row.get(name)

@@ -20,6 +20,8 @@ static int calls_refuse(void)
            screen_rewrite(NONE, 0, NONE, 0, NONE, 0, 0, 0, NONE, 0, &root, &used, &count, &columns) ==
                SCREEN_REFUSED_ROOT &&
            screen_line_in_the_way(NONE, 0, NONE, 0, NONE, 0, 0, 0, &count) == SCREEN_REFUSED_ROOT &&
+           screen_show_row(NONE, 0, NONE, 0, NONE, 0, 0, 0, NONE, 0, &count) == SCREEN_REFUSED_ROOT &&
+           screen_check_row(NONE, 0, NONE, 0, NONE, 0, 0, 0, NONE, 0, 0) == SCREEN_REFUSED_ROOT &&
            screen_slowest(1, NONE, 0, NONE, 0, &root, &used) == SCREEN_REFUSED_COLUMNS &&
            screen_save(NONE, 0, NONE, 0, NONE, 0, 0, 0, NONE, 0, &count) == SCREEN_REFUSED_ROOT &&
            screen_load(NONE, 0, NONE, 0, NONE, 0, NONE, 0, &root, &columns, &used, &count) == SCREEN_REFUSED_FILE &&
@@ -50,7 +52,7 @@ static uint32_t put_screen(struct screen_lent *s)
 static int wrappers_answer(void)
 {
     uint8_t table[2], records[16 * 40], reached[16 * 40], pool[16], file[5 * SCREEN_BLOCK_BYTES];
-    uint8_t row[16] = {0}, list[2] = {1, 1}, reasons[SCREEN_MAX_REASONS_BYTES];
+    uint8_t row[16] = {0}, cells[2 * SCREEN_CELL_BYTES] = {0}, list[2] = {1, 1}, reasons[SCREEN_MAX_REASONS_BYTES];
     uint64_t columns = 0, count = 0, length = 0, marks = 0;
     struct screen_reason reason;
     size_t at = 0;
@@ -60,8 +62,13 @@ static int wrappers_answer(void)
     if (put_screen(&s) != s.root || screen_is_full(&s) || screen_lent_check(&s) != SCREEN_ACCEPTED)
         return 0;
     screen_store_value(row, 1);
+    screen_store_cell(cells, 1, 3, -1);
+    if (screen_whole_at(cells, 1) != 3 || screen_half_at(cells, 1) != -1 || screen_whole_at(cells, 0) != 0)
+        return 0;
     return screen_lent_columns_read(&s, &columns, &count) == SCREEN_COLUMNS && columns == 3 && count == 2 &&
            screen_lent_line_in_the_way(&s, &length) == SCREEN_REFUSED_PLAIN &&
+           screen_lent_show_row(&s, cells, sizeof cells, &marks) == SCREEN_REFUSED_PLAIN &&
+           screen_lent_check_row(&s, cells, sizeof cells, 0) == SCREEN_REFUSED_PLAIN &&
            !screen_refused(screen_lent_rewrite(&s)) && screen_record_at(&s, 0).kind == SCREEN_KIND_COLUMN &&
            !screen_refused(screen_lent_rewrite_told(&s, reasons, sizeof reasons, &length, &count)) &&
            !screen_next_reason(reasons, length, &at, &reason) &&

@@ -521,7 +521,7 @@ static void test_texts(void)
 {
     report(strstr(screen_refusal_text(SCREEN_REFUSED_CHAIN), "1,024 rows") != NULL, "the text of 20", "another");
     report(strstr(screen_refusal_text(SCREEN_REFUSED_TALLY), "64 bits") != NULL, "the text of 21", "another");
-    report(strcmp(screen_refusal_text(18), screen_refusal_text(10)) == 0, "a number that is not used", "has a text");
+    report(strcmp(screen_refusal_text(22), screen_refusal_text(10)) == 0, "a number that is not used", "has a text");
 }
 
 int main(void)

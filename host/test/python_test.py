@@ -6,6 +6,7 @@ Ends with one line 'N passed, M failed'.
 """
 
 import datetime
+import fractions
 import inspect
 import os
 import random
@@ -141,6 +142,36 @@ def test_line_in_the_way():
     report(s.line_in_the_way() is None, "no single line")
     s.add(s.c2.is_null())
     refused(17, "a screen that is not plain", s.line_in_the_way)
+
+
+def test_rows():
+    half = fractions.Fraction(1, 2)
+    s = screen.Screen(c0="Int", c1="Int", c2="Day", c3="Truth")
+    s.add(s.c0 > 3, s.c0 < 4)
+    row = s.show_row()
+    report(row == {"c0": 3 + half, "c1": None, "c2": None, "c3": None}, "a row half way between two")
+    report(s.check_row(row) is True and s.check_row({"c0": 4 - half}) is True, "it passes")
+    report(s.check_row({"c0": 3}) is False and s.check_row({}) is False, "its neighbour and null do not")
+    s = screen.Screen(c0="Int", c1="Int", c2="Day")
+    s.add(s.c0.is_in([2, 1]), s.c1.is_in([1, 2]), s.c0 == s.c1, s.c2 == DAY(2026, 12, 18))
+    row = s.show_row()
+    report(row == {"c0": 1, "c1": 1, "c2": 20805}, "the smallest value of both lists")
+    report(s.check_row(row) is True and s.test_row(row) is True, "it passes both")
+    report(s.check_row({**row, "c2": DAY(2026, 12, 18), "c1": 2}) is False, "values that are not equal")
+    s.add(s.c0 > 2)
+    report(s.show_row() is None, "no row")
+    s = screen.Screen(c0="Int")
+    s.add(s.c0 <= -2**63)
+    report(s.show_row() == {"c0": -2**63 - half}, "below the least")
+    report(s.check_row(s.show_row()) is True and s.check_row({"c0": half - 2**63}) is False, "the least and a half")
+    report(s.check_row({"c0": fractions.Fraction(-2**63)}) is True, "a whole Fraction")
+    raises(ValueError, "a third", lambda: s.check_row({"c0": half / 3}))
+    raises(OverflowError, "beyond 64 bits", lambda: s.check_row({"c0": 2**63}))
+    raises(KeyError, "an unknown cell", lambda: s.check_row({"c9": 1}))
+    raises(TypeError, "a cell that is no number", lambda: s.check_row({"c0": 0.5}))
+    s.add((s.c0 > 1) | (s.c0 > 2))
+    refused(17, "showing of a screen that is not plain", s.show_row)
+    refused(17, "checking of a screen that is not plain", lambda: s.check_row({}))
 
 
 def test_refusals():
@@ -315,7 +346,7 @@ def test_told():
                  "MODULUS", "AND", "OR", "XOR"):
         report(getattr(screen, name) == numbers[f"OP_{name}"], f"the operator {name}")
     for name in ("MAX_RECORDS", "MAX_POOL_VALUES", "RECORD_BYTES", "VALUE_BYTES", "MAX_FILE_BYTES", "MAX_ROWS",
-                 "PLACE_BYTES", "MAX_REASONS_BYTES"):
+                 "PLACE_BYTES", "CELL_BYTES", "MAX_REASONS_BYTES"):
         report(getattr(screen, name) == numbers[name], name)
     version = tuple(int(re.search(rf"SCREEN_VERSION_{part} (\d+)", header)[1]) for part in ("MAJOR", "MINOR"))
     report(screen.VERSION == version, "the version")
@@ -324,8 +355,8 @@ def test_told():
     report(calls == used, f"the calls of the header: {calls ^ used}")
 
 
-for test in (test_cases, test_types, test_reasons, test_slowest, test_line_in_the_way, test_refusals, test_hedge_list,
-             test_files, test_python, test_divisions, test_random, test_told):
+for test in (test_cases, test_types, test_reasons, test_slowest, test_line_in_the_way, test_rows, test_refusals,
+             test_hedge_list, test_files, test_python, test_divisions, test_random, test_told):
     test()
 print(f"{counts[True]} passed, {counts[False]} failed")
 sys.exit(counts[False] != 0)

@@ -133,6 +133,25 @@ static void add_chain(struct text *out, const struct tidied *tidied, const struc
              outcome->same ? "The same rows pass as typed and as tidied." : "NOT THE SAME ROWS PASS.");
 }
 
+static void add_row(struct text *out, const struct tidied *tidied, const struct shown_row *row)
+{
+    struct text said = {NULL, 0, 0};
+    text_add(out, "<h2>A row that passes</h2>\n");
+    if (row_is_shown(row)) {
+        text_add(out, "<table id=\"row\">\n");
+        for (size_t i = 0; i < tidied->build->lent.table_len; i++) {
+            text_add(out, "<tr><th>%s</th><td>", tidied->build->columns[i].name);
+            add_cell_text(out, tidied, row, i);
+            text_add(out, "</td></tr>\n");
+        }
+        text_add(out, "</table>\n");
+    }
+    add_row_text(&said, tidied, row);
+    if (said.len > 0)
+        text_add(out, "<p class=\"key\">%s</p>\n", said.bytes);
+    text_free(&said);
+}
+
 /* A column's name and type, and the lines on it that the picture cannot show. */
 static void add_caption(struct text *out, const struct tidied *tidied, size_t column)
 {
@@ -180,6 +199,8 @@ void html_page(struct text *out, const struct tidied *tidied, const struct run_f
     add_links(out, tidied);
     add_tidied(out, tidied);
     text_add(out, "</div>\n");
+    if (files->row != NULL)
+        add_row(out, tidied, files->row);
     if (files->chain != NULL)
         add_chain(out, tidied, files);
     add_columns(out, tidied, files);

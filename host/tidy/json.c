@@ -166,6 +166,38 @@ static void add_chain(struct text *out, const struct build *build, const struct 
     text_add(out, "]\n  },\n");
 }
 
+/* Of a null both parts are null. */
+static void add_cell(struct text *out, const struct tidied *tidied, const struct shown_row *row, size_t column)
+{
+    struct text text = {NULL, 0, 0};
+    add_word(out, "name", tidied->build->columns[column].name);
+    text_add(out, ", ");
+    add_cell_text(&text, tidied, row, column);
+    add_word(out, "text", text.bytes);
+    if (row->nulls >> column & 1)
+        text_add(out, ", \"whole\": null, \"half\": null");
+    else
+        text_add(out, ", \"whole\": %lld, \"half\": %lld", (long long)screen_whole_at(row->cells, column),
+                 (long long)screen_half_at(row->cells, column));
+    text_free(&text);
+}
+
+static void add_row(struct text *out, const struct tidied *tidied, const struct shown_row *row)
+{
+    size_t columns = row_is_shown(row) ? tidied->build->lent.table_len : 0;
+    bool none = tidied->answer == SCREEN_NOTHING_PASSES;
+    text_add(out, "  \"row\": {\"answer\": \"%s\", ", none ? "none" : row_is_shown(row) ? "shown" : "not plain");
+    if (!none && !row_is_shown(row))
+        text_add(out, "\"line\": %zu, ", tidied->build->lines[row->line].number);
+    text_add(out, "\"columns\": [");
+    for (size_t i = 0; i < columns; i++) {
+        text_add(out, "%s{", next_item(i));
+        add_cell(out, tidied, row, i);
+        text_add(out, "}");
+    }
+    text_add(out, "%s]},\n", columns > 0 ? "\n  " : "");
+}
+
 static void add_head(struct text *out, const char *screen, const char *answer)
 {
     text_add(out, "{\n  \"version\": \"%s\",\n  ", SCREEN_VERSION);
@@ -181,6 +213,8 @@ void json_tidied(struct text *out, const struct tidied *tidied, const struct run
     add_columns(out, tidied);
     add_typed(out, tidied);
     add_tidied(out, tidied);
+    if (files->row != NULL)
+        add_row(out, tidied, files->row);
     if (files->chain != NULL)
         add_chain(out, tidied->build, files);
     add_faults(out, faults);

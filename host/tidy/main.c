@@ -16,7 +16,7 @@ enum status {
     STATUS_FAULTY = 1, /* a file, its text, or the library refused the screen */
     STATUS_USAGE = 2,
     STATUS_NOTHING_PASSES = 3,
-    STATUS_DIFFERS = 4 /* a row's fate changed, which is promised never to happen */
+    STATUS_DIFFERS = 4 /* a row's fate changed, or the row shown does not pass, which is promised never to happen */
 };
 
 static const char HELP[] =
@@ -26,7 +26,7 @@ static const char HELP[] =
 enum color { COLOR_AUTO, COLOR_ALWAYS, COLOR_NEVER };
 
 struct options {
-    bool help, version, only, json, verbose;
+    bool help, version, only, json, verbose, row;
     const char *html, *save;
     enum color color;
     const char *files[2];
@@ -93,6 +93,8 @@ static bool read_word(struct options *options, const char *word, char **next, in
         return options->json = true;
     if (strcmp(word, "--verbose") == 0)
         return options->verbose = true;
+    if (strcmp(word, "--row") == 0)
+        return options->row = true;
     if (strncmp(word, "--color=", 8) == 0)
         return read_color(options, word + 8);
     if (is_option(word, "--html"))
@@ -121,6 +123,8 @@ static bool read_words(struct options *options, int argc, char **argv)
         return usage("standard input can be the screen or the chain, not both", "");
     if (options->only && options->json)
         return usage("--only and --json exclude each other", "");
+    if (options->only && options->row)
+        return usage("--only and --row exclude each other", "");
     return true;
 }
 
@@ -160,6 +164,7 @@ struct session {
     struct text texts[2]; /* the files */
     struct build build;
     struct tidied tidied;
+    struct shown_row row; /* with --row */
     struct chain chain;
     struct outcome outcome;
     struct text out;
@@ -199,6 +204,8 @@ static bool work(struct session *session)
         refusal_told(&session->tidied, faults);
         return false;
     }
+    if (session->options.row)
+        row_show(&session->row, &session->tidied);
     if (session->options.file_count < 2)
         return true;
     faults->file = session->options.files[1];
@@ -213,7 +220,7 @@ static struct run_files files_of(const struct session *session)
 {
     bool chain = session->options.file_count == 2;
     struct run_files files = {session->options.files[0], session->options.files[1], chain ? &session->chain : NULL,
-                              chain ? &session->outcome : NULL};
+                              chain ? &session->outcome : NULL, session->options.row ? &session->row : NULL};
     return files;
 }
 
@@ -229,6 +236,8 @@ static void print_tidied(struct session *session)
         report_screen(&session->out, page, &session->tidied);
         if (session->options.verbose)
             report_passes(&session->out, &session->tidied);
+        if (files.row != NULL)
+            report_row(&session->out, page, &session->tidied, files.row);
         if (files.chain != NULL)
             report_chain(&session->out, page, &session->tidied, files.chain, files.outcome, files.chain_name);
     }
@@ -268,6 +277,12 @@ static enum status differs(const struct session *session)
     return STATUS_DIFFERS;
 }
 
+static enum status row_differs(void)
+{
+    fprintf(stderr, "tidy: THE ROW SHOWN DOES NOT PASS, or no row does\n");
+    return STATUS_DIFFERS;
+}
+
 static enum status run(struct session *session)
 {
     bool good = work(session);
@@ -285,6 +300,8 @@ static enum status run(struct session *session)
         return STATUS_FAULTY;
     if (session->options.file_count == 2 && (!session->outcome.same || session->outcome.typed.refusal != 0))
         return differs(session);
+    if (session->options.row && !session->row.right)
+        return row_differs();
     return session->tidied.answer == SCREEN_NOTHING_PASSES ? STATUS_NOTHING_PASSES : STATUS_DONE;
 }
 

@@ -305,6 +305,19 @@ module _ {K Val : Type 0} (S : Scalars K Val) (H : HalfPoints S) where
   Complete N l Unchanged = (ρ : ℕ → Option K) × HoldsAll S ρ (N ρ) l
   Complete N l (Rebuilt ns ws) = (ρ : ℕ → Option K) × HoldsAll S ρ (N ρ) l
 
+  -- what was collected of plain conjuncts that do not let nothing pass is true of the witness row itself
+  pub witness-holds : (N : (ℕ → Option K) → ℕ → Bool) (l : List (Conjunct Val)) →
+      ((ρ : ℕ → Option K) → ExactAll ρ (N ρ) l) →
+      let s = collect S l begin in
+      (s .unsat || anyUnsat (s .order) (resolved S s)) ≡ false → HoldsAll S (witnessRow s) (N (witnessRow s)) l
+  witness-holds N l e h =
+      let s = collect S l begin in
+      let d = or-no (s .unsat) (anyUnsat (s .order) (resolved S s)) h in
+      all-fit-hold (witnessRow s) (N (witnessRow s)) l (e (witnessRow s))
+      (collect-fits (witnessRow s) (N (witnessRow s)) l (begin) (d .0)
+      (conclude-full s (N (witnessRow s)) (collect-in S l (begin) tt) (collect-consistent l (begin) (λ c h. refl))
+      (d .1)))
+
   pub merge-is-complete : (N : (ℕ → Option K) → ℕ → Bool) (l : List (Conjunct Val)) →
       ((ρ : ℕ → Option K) → ExactAll ρ (N ρ) l) → Complete N l (mergeFilterConstraints S l)
   merge-is-complete N l e = go (s .unsat || anyUnsat (s .order) (resolved S s)) refl (rewrites S s)
@@ -312,23 +325,13 @@ module _ {K Val : Type 0} (S : Scalars K Val) (H : HalfPoints S) where
       s : Collected Val
       s = collect S l (begin)
 
-      there : (s .unsat || anyUnsat (s .order) (resolved S s)) ≡ false → (ρ : ℕ → Option K) × HoldsAll S ρ (N ρ) l
-      there h = let d = or-no (s .unsat) (anyUnsat (s .order) (resolved S s)) h in (
-        witnessRow s,
-        all-fit-hold (witnessRow s) (N (witnessRow s)) l (e (witnessRow s))
-            (collect-fits (witnessRow s) (N (witnessRow s)) l (begin) (d .0)
-            (conclude-full s (N (witnessRow s)) (collect-in S l (begin) tt)
-            (collect-consistent l (begin) (λ c h. refl))
-            (d .1))),
-      )
-
       go : (b : Bool) → (s .unsat || anyUnsat (s .order) (resolved S s)) ≡ b → (d : Bool) →
           Complete N l (cond b NothingPasses (cond d (Rebuilt
           (s .opaque ++ keptEqualities S (propagated S s) (s .edges))
           (comparisons S (s .order) (resolved S s))) Unchanged))
       go true h d = tt
-      go false h true = there h
-      go false h false = there h
+      go false h true = (witnessRow s, witness-holds N l e h)
+      go false h false = (witnessRow s, witness-holds N l e h)
 
   -- ---- `nothing` is answered exactly when no row passes
   abbrev pub isNothingPasses : Outcome Val → Bool

@@ -92,7 +92,7 @@ pub merged-is : (rs p : List ℕ) (used root : ℕ) → outcomeOf rs p used root
 merged-is rs p used root = ap (λ S. mergeFilterConstraints S (readConjuncts (aexprAt rs p used) root)) payload-is
 
 -- ---- The keys of 64-bit values leave room between them.
-pub halves : HalfPoints payload
+unfoldable pub halves : HalfPoints payload
 halves =
     record {
       hi = sucℤ;

@@ -12,10 +12,10 @@ int tidy_main(int argc, char **argv);
 
 static int run(const char *folder, int number)
 {
-    static char *const OPTIONS[] = {"--color=always", "--json", "--only", "--html=/dev/null",
+    static char *const OPTIONS[] = {"--color=always", "--json", "--only", "--html=/dev/null", "--row",
                                     "--color=never", "--save=/dev/null", "--html=/dev/null"};
     char screen[4096], chain[4096];
-    char *words[5] = {"tidy", OPTIONS[number % 7], screen, chain, NULL};
+    char *words[5] = {"tidy", OPTIONS[number % 8], screen, chain, NULL};
     int count = number % 3 == 0 ? 3 : 4;
     snprintf(screen, sizeof screen, "%s/%d.screen", folder, number);
     snprintf(chain, sizeof chain, "%s/%d.csv", folder, number);

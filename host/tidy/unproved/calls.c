@@ -15,6 +15,8 @@ void screen_save(void);
 void screen_load(void);
 void screen_slowest(void);
 void screen_line_in_the_way(void);
+void screen_show_row(void);
+void screen_check_row(void);
 
 void screen_check(void)
 {
@@ -67,6 +69,16 @@ void screen_slowest(void)
 }
 
 void screen_line_in_the_way(void)
+{
+    _Exit(77);
+}
+
+void screen_show_row(void)
+{
+    _Exit(77);
+}
+
+void screen_check_row(void)
 {
     _Exit(77);
 }

@@ -1,0 +1,4 @@
+pub mod Meeting
+pub mod Arms
+pub mod Passing
+pub mod Answers

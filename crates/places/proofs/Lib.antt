@@ -1,0 +1,4 @@
+pub mod Order
+pub mod Parts
+pub mod Reading
+pub mod Cases

@@ -1,0 +1,3 @@
+pub mod Cases
+pub mod Smallest
+pub mod Witness

@@ -1,0 +1,9 @@
+pub mod Nothing
+pub mod Writing
+pub mod Ends
+pub mod Answers
+pub mod Reading
+pub mod Back
+pub mod Passing
+pub mod Promised
+pub mod Called

@@ -1,0 +1,4 @@
+pub mod Answer
+pub mod Calls
+pub mod Written
+pub mod Low
