@@ -3,7 +3,7 @@
  * rows shown by hand, values at the ends of 64 bits, and random plain screens: the row shown passes the check and, if it is
  * whole, the row test, and none is shown exactly if rewriting says that nothing passes.
  */
-#include "lend.h"
+#include "typed_lines.h"
 
 #include <pthread.h>
 
@@ -14,31 +14,6 @@ enum { NO_ROW = SCREEN_NO_ROW, SHOWN = SCREEN_ROW_SHOWN, FAILS = SCREEN_DOES_NOT
 enum { CELL = SCREEN_CELL_BYTES, ROOM = CELL * 64 };
 #define LEAST INT64_MIN
 #define MOST INT64_MAX
-static const uint64_t MARK = UINT64_C(0x0123456789abcdef);
-
-/* The lines under construction, by their records. */
-static uint32_t lines[200];
-static size_t count;
-
-static void begin_lines(void)
-{
-    begin_mixed();
-    count = 0;
-}
-
-static void add(uint32_t record)
-{
-    lines[count++] = record;
-}
-
-/* Their And, nested to the left, is the root. */
-static void join(void)
-{
-    uint32_t top = lines[0];
-    for (size_t i = 1; i < count; i++)
-        top = binary(i % 3 ? SCREEN_OP_AND : SCREEN_OP_LOGICAL_AND, top, lines[i]);
-    sent.root = top;
-}
 
 /* ------------------------------------------------------------------------------------------------------- both calls */
 

@@ -2,35 +2,10 @@
  * screen_line_in_the_way: every refusal in its order, the answers on screens made by hand, and random plain screens beside
  * screen_rewrite of the same lines with one left out. `line` keeps its value with every answer but SCREEN_LINE_FOUND.
  */
-#include "lend.h"
+#include "typed_lines.h"
 
 enum { INT = SCREEN_TYPE_INT, DAY = SCREEN_TYPE_DAY, TRUTH = SCREEN_TYPE_TRUTH };
 enum { EQ = SCREEN_OP_EQ, NOT_EQ = SCREEN_OP_NOT_EQ, LT = SCREEN_OP_LT, GT = SCREEN_OP_GT, GT_EQ = SCREEN_OP_GT_EQ };
-static const uint64_t MARK = UINT64_C(0x0123456789abcdef);
-
-/* The lines under construction, by their records. */
-static uint32_t lines[200];
-static size_t count;
-
-static void begin_lines(void)
-{
-    begin_mixed();
-    count = 0;
-}
-
-static void add(uint32_t record)
-{
-    lines[count++] = record;
-}
-
-/* Their And, nested to the left, is the root. */
-static void join(void)
-{
-    uint32_t top = lines[0];
-    for (size_t i = 1; i < count; i++)
-        top = binary(i % 3 ? SCREEN_OP_AND : SCREEN_OP_LOGICAL_AND, top, lines[i]);
-    sent.root = top;
-}
 
 static uint32_t ask(const char *name, uint64_t *found)
 {
