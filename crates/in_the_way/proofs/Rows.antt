@@ -41,7 +41,7 @@ module _ (t rs p : List ℕ) (used root : ℕ) (ok : Checked t rs p used root) w
   abbrev R : ℕ → AExpr ℕ
   R n = aexprAt rs p used n
 
-  good : WF R
+  pub good : WF R
   good n = inputs-fall t rs p used root ok n
 
   -- Node n is true of the row.
@@ -49,7 +49,7 @@ module _ (t rs p : List ℕ) (used root : ℕ) (ok : Checked t rs p used root) w
   M row n = holdsAt payload truthKeys R good row n
 
   module _ (row : Row) where
-    hold : (l : List ℕ) → HoldsAll payload row (M row) (map (classify R) l) → allTrue (M row) l ≡ true
+    pub hold : (l : List ℕ) → HoldsAll payload row (M row) (map (classify R) l) → allTrue (M row) l ≡ true
     hold [] h = refl
     hold (n ∷ l) h =
         and-both (M row n) (allTrue (M row) l)
@@ -65,7 +65,7 @@ module _ (t rs p : List ℕ) (used root : ℕ) (ok : Checked t rs p used root) w
     fair [] = tt
     fair (n ∷ l) = (classified-rightly payload halves truthKeys R good row n .1, fair l)
 
-    exact : (l : List ℕ) → forms.plainConjuncts R l ≡ true → ExactAll payload halves row (M row) (map (classify R) l)
+    pub exact : (l : List ℕ) → forms.plainConjuncts R l ≡ true → ExactAll payload halves row (M row) (map (classify R) l)
     exact [] h = tt
     exact (n ∷ l) h =
         let b = and-eq-true-iff (forms.plainConjunct R n) (forms.plainConjuncts R l) .0 h in

@@ -1,12 +1,12 @@
 -- The row shown is the witness of the completeness theorem, and passes.
 use mathlib.Core.Path.{_≡_, refl, sym, _∙_, ap}
-use mathlib.Core.Bool.{Bool, true, false, not, cond, _||_, and-eq-true-iff}
+use mathlib.Core.Bool.{Bool, true, false, not, cond, _||_}
 use mathlib.Core.List.{List, [], _∷_, map}
 use mathlib.Core.Option.{none, some}
 use Prim.Native.Nat.{ℕ, zero, suc}
 use lib.ListN.{length}
 use Rattle.checking.specs.Checked.{Checked}
-use Rattle.truth.specs.AExpr.{AExpr, WF}
+use Rattle.truth.specs.AExpr.{AExpr}
 use Rattle.truth.specs.FromBytes.{aexprAt, truthKeys}
 use Rattle.constraints.specs.Scalars.{Scalars}
 use Rattle.constraints.specs.Column.{ColumnConstraints}
@@ -23,17 +23,15 @@ use Rattle.merge.specs.Propagate.{pass, passAny, propagate}
 use Rattle.merge.specs.Minterms.{minterms}
 use Rattle.merge.specs.Plain.{plainConjuncts}
 use Rattle.merge.specs.Demand.{Row, passes}
-use Rattle.merge.proofs.Accepted.{inputs-fall}
-use Rattle.merge.proofs.Chains.{allTrue, holdsAt, minterms-true}
-use Rattle.merge.proofs.Complete.{AllConsistent, ExactAll, collect-consistent, pass-consistent, witness-holds, witnessRow}
+use Rattle.merge.proofs.Chains.{holdsAt, minterms-true}
+use Rattle.merge.proofs.Complete.{AllConsistent, collect-consistent, pass-consistent, witness-holds, witnessRow}
 use Rattle.merge.proofs.Demand.{payload, halves}
-use Rattle.merge.proofs.PlainForms as forms
 use Rattle.merge.proofs.PlainForms.{plain-same}
-use Rattle.merge.proofs.Readings.{classified-rightly}
-use Rattle.merge.proofs.Sound.{HoldsAll, and-both, isIn-in, unsat-none}
+use Rattle.merge.proofs.Sound.{isIn-in, unsat-none}
 use Rattle.merge.proofs.Witness.{HalfPoints, rowValue, valueBy, witness}
 use Rattle.in_the_way.specs.Lines.{nothingPasses}
 use Rattle.in_the_way.proofs.Ends.{nothing-dead}
+use Rattle.in_the_way.proofs.Rows.{good, hold, exact}
 use Rattle.row_shown.specs.Shown.{exactly, valuePlace, nullShown, placeShown}
 use Rattle.row_shown.proofs.Witness.{keyOf, value-key}
 use Rattle.show_row.specs.Answer.{collectedOf}
@@ -55,24 +53,8 @@ module _ (t rs p : List ℕ) (used root : ℕ) (ok : Checked t rs p used root) w
   abbrev R : ℕ → AExpr ℕ
   R n = aexprAt rs p used n
 
-  good : WF R
-  good n = inputs-fall t rs p used root ok n
-
   abbrev M : Row → ℕ → Bool
-  M row n = holdsAt payload truthKeys R good row n
-
-  hold : (row : Row) (l : List ℕ) → HoldsAll payload row (M row) (map (classify R) l) → allTrue (M row) l ≡ true
-  hold row [] h = refl
-  hold row (n ∷ l) h =
-      and-both (M row n) (allTrue (M row) l)
-      (classified-rightly payload halves truthKeys R good row n .0 .0 (h .0)) (hold row l (h .1))
-
-  exact : (row : Row) (l : List ℕ) → forms.plainConjuncts R l ≡ true
-      → ExactAll payload halves row (M row) (map (classify R) l)
-  exact row [] h = tt
-  exact row (n ∷ l) h =
-      let b = and-eq-true-iff (forms.plainConjunct R n) (forms.plainConjuncts R l) .0 h in
-      (classified-rightly payload halves truthKeys R good row n .2 (b .0), exact row l (b .1))
+  M row n = holdsAt payload truthKeys R (good t rs p used root ok) row n
 
   module _ (plain : plainConjuncts R (minterms R root) ≡ true) (lives : nothingPasses R (minterms R root) ≡ false) where
     abbrev s : Collected ℕ
@@ -89,10 +71,10 @@ module _ (t rs p : List ℕ) (used root : ℕ) (ok : Checked t rs p used root) w
     pub witness-passes : passes rs p used root witnessed ≡ true
     unfolding values.payload
     witness-passes =
-        sym (minterms-true payload truthKeys R good witnessed root)
-        ∙ hold witnessed (minterms R root)
+        sym (minterms-true payload truthKeys R (good t rs p used root ok) witnessed root)
+        ∙ hold t rs p used root ok witnessed (minterms R root)
         (witness-holds payload halves M (map (classify R) (minterms R root))
-        (λ ρ. exact ρ (minterms R root) (sym (plain-same R (minterms R root)) ∙ plain)) live)
+        (λ ρ. exact t rs p used root ok ρ (minterms R root) (sym (plain-same R (minterms R root)) ∙ plain)) live)
 
     -- A column that entered has bounds that do not cross.
     straight : (c : ℕ) → isIn c (s .order) ≡ true
