@@ -9,10 +9,13 @@
 #include "make.h"
 #include "measure.h"
 
-enum { COLUMNS = 8, ROWS = SCREEN_MAX_ROWS, ROW_BYTES = 8 * COLUMNS, GOAL_MS = 15 };
+enum { COLUMNS = 8, ROWS = SCREEN_MAX_ROWS, ROW_BYTES = 8 * COLUMNS, GOAL_MS = 15, WIDE_BYTES = 8 * SCREEN_MAX_COLUMNS };
 
 static struct made now;
 static uint8_t values[ROWS * ROW_BYTES];
+static uint8_t wide[ROWS * WIDE_BYTES];
+static const uint8_t *cells = values; /* or wide */
+static size_t cells_len = sizeof values;
 static uint64_t nulls[ROWS];
 static uint8_t list[2 * ROWS];
 static unsigned met, goals;
@@ -22,7 +25,7 @@ static uint64_t call_ours(void)
 {
     struct screen_tally tally = {0, 0, 0};
     uint64_t count = 0;
-    uint32_t answer = screen_lent_hedge_list(&now.s, values, sizeof values, nulls, ROWS, list, sizeof list, &tally, &count);
+    uint32_t answer = screen_lent_hedge_list(&now.s, cells, cells_len, nulls, ROWS, list, sizeof list, &tally, &count);
     return screen_refused(answer) ? 0 : answer + count + (tally.is_false << 20) + (tally.unknown << 40);
 }
 
@@ -287,6 +290,82 @@ static int lists(const char *name, unsigned count, unsigned odd)
     return family(name);
 }
 
+/* ----------------------------------------------------------------------- values that no branch of the code can foretell */
+
+static uint64_t drawn_state = 88172645463325252u;
+
+static uint64_t drawn(void)
+{
+    drawn_state ^= drawn_state << 13;
+    drawn_state ^= drawn_state >> 7;
+    return drawn_state ^= drawn_state << 17;
+}
+
+/* 64 columns: odd numbers below 16,384, or numbers of any size and sign. */
+static void make_wide_chain(int any)
+{
+    cells = wide;
+    cells_len = sizeof wide;
+    memset(nulls, 0, sizeof nulls);
+    for (size_t i = 0; i < sizeof wide / 8; i++) {
+        int64_t size = (int64_t)(drawn() >> 1 >> drawn() % 63);
+        screen_store_value(wide + 8 * i, !any ? 2 * (int64_t)(drawn() % 8192) + 1 : drawn() % 2 == 0 ? size : -size);
+    }
+}
+
+/* is_in of each column in turn, or of its quotient by 1, each over half of a pool of so many different odd numbers. */
+static int wide_lists(const char *name, unsigned count, unsigned different, int divided)
+{
+    uint32_t top = 0, one;
+    make(&now, SCREEN_MAX_COLUMNS, SCREEN_TYPE_INT);
+    for (unsigned i = 0; i < SCREEN_MAX_POOL_VALUES; i++)
+        screen_put_pool(&now.s, 2 * (int64_t)(i * 2654435761u % different) + 1);
+    one = screen_put_int(&now.s, 1);
+    for (unsigned n = 0; n < count; n++) {
+        uint32_t column = screen_put_column(&now.s, n % SCREEN_MAX_COLUMNS);
+        uint32_t x = divided ? screen_put_floor_divide(&now.s, column, one) : column;
+        uint32_t part = screen_put(&now.s, SCREEN_KIND_LIST, 0, SCREEN_TYPE_INT, n * 977 % 4097, 4096, 0);
+        uint32_t next = screen_put_is_in(&now.s, x, part, 0);
+        top = n == 0 ? next : screen_put_or(&now.s, top, next);
+    }
+    return family(name);
+}
+
+static uint32_t division_tree(unsigned depth)
+{
+    uint32_t left, right;
+    if (depth == 0)
+        return screen_put_column(&now.s, (uint32_t)(drawn() % SCREEN_MAX_COLUMNS));
+    left = division_tree(depth - 1);
+    right = division_tree(depth - 1);
+    return screen_put_modulus(&now.s, left, right);
+}
+
+static int division_trees(void)
+{
+    uint32_t top = 0;
+    make(&now, SCREEN_MAX_COLUMNS, SCREEN_TYPE_INT);
+    for (unsigned n = 0; n < 124; n++) {
+        uint32_t next = screen_put_is_not_null(&now.s, division_tree(4));
+        top = n == 0 ? next : screen_put_and(&now.s, top, next);
+    }
+    return family("1,860 divisions in trees of 15");
+}
+
+/* Truths in lists of truths, one of the other. */
+static int nested_lists(void)
+{
+    uint32_t top, part;
+    make(&now, COLUMNS, SCREEN_TYPE_INT);
+    for (unsigned i = 0; i < SCREEN_MAX_POOL_VALUES; i++)
+        screen_put_pool(&now.s, i == SCREEN_MAX_POOL_VALUES - 1);
+    part = screen_put(&now.s, SCREEN_KIND_LIST, 0, SCREEN_TYPE_TRUTH, 0, SCREEN_MAX_POOL_VALUES, 0);
+    top = screen_put_is_null(&now.s, screen_put_column(&now.s, 0));
+    for (unsigned n = 0; n < 2047; n++)
+        top = screen_put_is_in(&now.s, top, part, 0);
+    return family("2,047 lists of truths, one of the other");
+}
+
 int main(void)
 {
     int differ = ten_lines();
@@ -301,6 +380,13 @@ int main(void)
     differ |= lists("one list of 8,192 values", 1, 0);
     differ |= lists("1,024 lists over parts of 8,192 values", 1024, 0);
     differ |= lists("1,024 lists that have every row's value", 1024, 1);
+    differ |= nested_lists();
+    make_wide_chain(0);
+    differ |= wide_lists("1,023 lists over 64 columns", 1023, 8192, 0);
+    differ |= wide_lists("the same, each value twice in the pool", 1023, 4096, 0);
+    differ |= wide_lists("682 lists of divisions over 64 columns", 682, 8192, 1);
+    make_wide_chain(1);
+    differ |= division_trees();
     printf("goals met: %u of %u\n", met, goals);
     return differ;
 }

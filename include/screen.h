@@ -609,7 +609,7 @@ enum screen_hedge_list_answer {
  *
  * The call needs less than 128 KB of stack, and less than 384 KB if the screen asks its lists for 4,096 values or more,
  * those of all is_in together. With divisions of divisions its need follows their depth: the deepest screen, 2,046 of
- * them, needs less than 700 KB, and less than 960 KB with such lists beside them.
+ * them, needs less than 512 KB, with such lists beside them too.
  */
 SCREEN_MUST_USE
 uint32_t screen_hedge_list(const uint8_t *table, size_t table_len, const uint8_t *records, size_t records_len,

@@ -483,8 +483,8 @@ static void test_deep(void)
     for (unsigned n = 0; n < 4094; n++)
         top = not_of(top);
     zero_chain(64);
-    on_thread(alone, &answer, 96 << 10);
-    report(answer == SCREEN_HEDGED, "4,094 Nots", "not every row on a thread of 96 KB");
+    on_thread(alone, &answer, 128 << 10);
+    report(answer == SCREEN_HEDGED, "4,094 Nots", "not every row on a thread of 128 KB");
 
     begin_mixed();
     uint32_t divisor = literal(INT, -1);
@@ -493,8 +493,8 @@ static void test_deep(void)
         top = binary(SCREEN_OP_FLOOR_DIVIDE, top, divisor);
     is_not_null(top);
     zero_chain(64);
-    on_thread(alone, &answer, 700 << 10);
-    report(answer == SCREEN_HEDGED, "2,046 divisions", "not every row on a thread of 700 KB");
+    on_thread(alone, &answer, 512 << 10);
+    report(answer == SCREEN_HEDGED, "2,046 divisions", "not every row on a thread of 512 KB");
 
     begin_mixed();
     for (unsigned i = 0; i < SCREEN_MAX_POOL_VALUES; i++)
@@ -513,8 +513,8 @@ static void test_deep(void)
         top = binary(SCREEN_OP_FLOOR_DIVIDE, top, divisor);
     is_in(0, top, list(0, INT, 0, SCREEN_MAX_POOL_VALUES));
     zero_chain(128);
-    on_thread(alone, &answer, 960 << 10);
-    report(answer == SCREEN_HEDGED, "2,044 divisions and the longest list", "not every row on a thread of 960 KB");
+    on_thread(alone, &answer, 512 << 10);
+    report(answer == SCREEN_HEDGED, "2,044 divisions and the longest list", "not every row on a thread of 512 KB");
 }
 
 static void test_texts(void)

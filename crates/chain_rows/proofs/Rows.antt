@@ -14,7 +14,7 @@ use borrow.Author.Tests.{le-ltb, eqb-true}
 use Rattle.records.specs.Bytes.{all}
 use Rattle.records.proofs.Laws.{and-left, and-right}
 use Rattle.records.proofs.Loops.{all-holds}
-use Rattle.checking.specs.Check.{sizesOk}
+use Rattle.checking.specs.Check.{sizesOk, sizesOkIn}
 use Rattle.checking.specs.Checked.{Checked}
 use Rattle.checking.specs.Columns.{bit}
 use Rattle.checking.specs.Tree.{treeCount}
@@ -32,7 +32,7 @@ use Rattle.row_test.proofs.Ready.{columns-small, checked-evaluable}
 use Rattle.masks.specs.declared.Masks.{Masks}
 use Rattle.masks.specs.Masks.{isUnknown, Tells}
 use Rattle.masks.specs.Block.{chainRow, chainTruth, Ready}
-use Rattle.pool_lists.specs.Order.{Full, Ordered}
+use Rattle.pool_order.specs.Order.{Full, Ordered}
 use Rattle.chain_rows.specs.Chain.{rowAt, answerAt, isTested}
 use Rattle.chain_rows.specs.Classes.{truthClass, classOf, Judged, rowFits, Classed, Evaluates}
 
@@ -45,23 +45,9 @@ row-end w r n h =
     let m : w * suc r ≤ w * n = mul-le-mul s l in
     omega (arith, e, m)
 
--- the part that is lent is the row
-pub part-row : (t values : List ℕ) (w r s e : ℕ) → w ≡ 8 * length t → s ≡ w * r → e ≡ s + w
-    → take (e - s) (drop s values) ≡ rowAt t values r
-unfolding rowAt
-part-row t values w r s e ew es ee =
-    let d : e - s ≡ w = omega (arith, ee) in
-    rw (d, es, ew)
-
--- whether a row fits, by what was found of the part that is lent
-pub fits-part : (t values nulls : List ℕ) (r k : ℕ) (row : List ℕ) → row ≡ rowAt t values r → k ≡ rowFault t row (getD nulls r 0)
-    → eqb k 0 ≡ rowFits t values nulls r
-unfolding rowFits
-fits-part t values nulls r k row er ek = rw (ek, er)
-
 -- of a checked screen the pool has at most 8,192 values
 pool-short : (rs p : List ℕ) (used : ℕ) → sizesOk rs p used ≡ true → length p ≤ 65536
-unfolding sizesOk
+unfolding sizesOkIn
 pool-short rs p used e =
     let f = and-right (leb used 4096) (leb used (length rs / 16) && (eqb (length p % 8) 0 && leb (length p / 8) 8192)) e in
     let g = and-right (leb used (length rs / 16)) (eqb (length p % 8) 0 && leb (length p / 8) 8192) f in

@@ -1,8 +1,8 @@
 -- A chain of rows under a screen: document 02, 2.14. t is the column table, rs the records, p the pool; `values` has the
 -- rows' values, row after row, `nulls` a word of null marks a row.
-use mathlib.Core.Bool.{Bool, true, false, cond}
-use mathlib.Core.List.{List, [], _∷_, _++_}
-use Prim.Native.Nat.{ℕ, zero, suc, _+_, _*_, _/_, _%_}
+use mathlib.Core.Bool.{Bool, true, false}
+use mathlib.Core.List.{List}
+use Prim.Native.Nat.{ℕ, _*_}
 use lib.ListN.{length, getD, take, drop}
 use Rattle.row_test.specs.RowTest.{testRowAnswer}
 use Rattle.three_valued.specs.declared.logic.Truth.{Truth}
@@ -40,18 +40,3 @@ isUnknown (Tested True) = false
 abbrev pub isTested : RowAnswer → Bool
 isTested (Refused k) = false
 isTested (Tested t) = true
-
--- How many of the numbers below n have the mark.
-unfoldable pub count : (ℕ → Bool) → ℕ → ℕ
-count marked zero = 0
-count marked (suc n) = count marked n + cond (marked n) 1 0
-
--- "the numbers of those that pass, ascending, from 0"
-unfoldable pub numbers : (ℕ → Bool) → ℕ → List ℕ
-numbers marked zero = []
-numbers marked (suc n) = numbers marked n ++ cond (marked n) (n ∷ []) []
-
--- "two bytes each, little-endian"
-unfoldable pub bytesOf : List ℕ → List ℕ
-bytesOf [] = []
-bytesOf (n ∷ l) = n % 256 ∷ n / 256 ∷ bytesOf l

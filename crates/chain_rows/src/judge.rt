@@ -11,37 +11,18 @@ ghost use Rattle.checking.specs.Tree.{treeCount};
 ghost use Rattle.three_valued.specs.declared.logic.Truth.{Truth};
 ghost use Rattle.masks.specs.Masks.{Tells};
 ghost use Rattle.masks.specs.Block.{Closed};
-ghost use Rattle.pool_lists.specs.Order.{Ordered};
+ghost use Rattle.pool_order.specs.Order.{Ordered};
 ghost use Rattle.chain_rows.specs.Chain.{answerAt, isTested};
-ghost use Rattle.chain_rows.specs.Classes.{truthClass, Judged, rowFits, Classed, Evaluates};
+ghost use Rattle.chain_rows.specs.Classes.{truthClass, Judged, Classed, Evaluates};
+use crate::fitting::rows_fit;
 use masks::Masks;
 use masks::reach::mark_reached;
-use pool_lists::making::make_order;
+use pool_order::making::make_order;
 use records::record::Node;
 use records::record::fields_in;
+use row_blocks::depths::note_depths;
 use row_blocks::rows::block_masks;
-use row_test::row::row_fault;
 use truth::read::null_marked;
-
-// Every row, from 0 up: 13 is looked for before anything is judged.
-fn rows_fit(table: &[u8], values: &[u8], nulls: &[u64]) -> bool
-    requires { ⌜ length (now table) ≤ 64 ⌝ }
-    requires { ⌜ length (now values) ≡ 8 * length (now table) * length (now nulls) ⌝ }
-    ensures { λ r. ⌜ r ≡ all (rowFits (now (table .entry)) (now (values .entry)) (now (nulls .entry)))
-        (length (now (nulls .entry))) ⌝ }
-{
-    let width = 8 * table.len();
-    let mut r: usize = 0;
-    while r < nulls.len() {
-        let start = width * r;
-        let end = start + width;
-        if row_fault(table, &values[start..end], nulls[r]) != 0 {
-            return false;
-        }
-        r += 1;
-    }
-    true
-}
 
 // 0 false, 1 unknown, 2 passes.
 fn class_at(m: Masks, i: u32) -> u8
@@ -199,6 +180,8 @@ fn judge_ordered(
         (root .0) (now (classes .exit)) (length (now (nulls .entry))) ⌝ }
 {
     let mut order = [0u64; 16386];
+    // The scratch, and 17 words for each column.
+    let mut wide = [0u64; 1920];
     make_order(pool, &mut order);
     judge_blocks(
         records,
@@ -211,7 +194,7 @@ fn judge_ordered(
         marks,
         truths,
         unknowns,
-        keys,
+        &mut wide,
         classes,
     );
 }
@@ -437,9 +420,11 @@ fn judge_fitting(
     let mut marks = [0u8; 4096];
     let mut truths = [0u64; 4096];
     let mut unknowns = [0u64; 4096];
-    // Three inputs of 64 rows; the rest is for divisions in divisions.
-    let mut keys = [0u64; 640];
+    // Three inputs of 64 rows; the rest is for divisions in divisions, which note_depths says is enough for every tree.
+    let mut keys = [0u64; 832];
     mark_reached(records, root, &mut marks);
+    // A division has no truth: its word in the table has its depth.
+    note_depths(records, root, &mut truths);
     judge_marked(
         records,
         pool,

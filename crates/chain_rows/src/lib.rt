@@ -1,3 +1,3 @@
-// The rows of a chain: the class of each, how many are in a class, and the list of those that pass.
+// The rows of a chain: the class of each. Counting them and the list of those that pass are crate row_list.
+pub mod fitting;
 pub mod judge;
-pub mod listing;

@@ -8,9 +8,9 @@ use Rattle.records.specs.Bytes.{word, valueAt, all, first}
 use Rattle.records.specs.Course.{upTo, course}
 use Rattle.records.specs.Operator.{operatorAt}
 use Rattle.records.specs.Record.{fieldsAt, closedAt, decode, recordAt}
-use Rattle.records.specs.Shape.{knownType, inType, maxCode, uses, knownOk, zeroOr, unusedOk, literalOk, shapeOk}
-use Rattle.record_check.specs.Fit.{allFit, listOk, reachOk, servedOk, typeOf, typeAt, sameType, binaryFits, betweenFits, memberFits, typesOk}
-use Rattle.checking.specs.Check.{typesKnown, tableOk, sizesOk, meaningFault, recordFault, firstFault, recordsAnswer, checkAnswer}
+use Rattle.records.specs.Shape.{knownTypeIn, inTypeIn, maxCode, uses, knownOkIn, zeroOr, unusedOk, literalOkIn, shapeOkIn}
+use Rattle.record_check.specs.Fit.{allFitIn, listOkIn, reachOkIn, servedOk, typeOf, typeAt, sameType, binaryFits, betweenFits, memberFits, typesOk}
+use Rattle.checking.specs.Check.{typesKnownIn, tableOkIn, sizesOkIn, meaningFaultIn, recordFaultIn, firstFaultIn, recordsAnswerIn, checkAnswerIn, checkAnswer}
 use Rattle.checking.specs.Tree.{treeCount}
 use Rattle.checking.specs.Columns.{columnsWord}
 use Rattle.checking.specs.declared.check.CheckAnswer.{CheckAnswer}
@@ -106,5 +106,5 @@ holds (c ∷ cs) =
     && (eqb (columnsWord (c .records) (c .root)) (c .columns) && holds cs))
 
 all-hold : holds cases ≡ true
-unfolding holds cases row rec line two one int number word valueAt all first upTo course operatorAt fieldsAt closedAt decode recordAt knownType inType maxCode uses knownOk zeroOr unusedOk literalOk shapeOk allFit listOk reachOk servedOk typeOf typeAt sameType binaryFits betweenFits memberFits typesOk typesKnown tableOk sizesOk meaningFault recordFault firstFault recordsAnswer checkAnswer
+unfolding holds cases row rec line two one int number word valueAt all first upTo course operatorAt fieldsAt closedAt decode recordAt knownTypeIn inTypeIn maxCode uses knownOkIn zeroOr unusedOk literalOkIn shapeOkIn allFitIn listOkIn reachOkIn servedOk typeOf typeAt sameType binaryFits betweenFits memberFits typesOk typesKnownIn tableOkIn sizesOkIn meaningFaultIn recordFaultIn firstFaultIn recordsAnswerIn checkAnswerIn
 all-hold = refl

@@ -10,15 +10,15 @@ use lib.Dec.{ltb, leb, eqb}
 use borrow.Author.Tests.{ltb-true, leb-true, eqb-true, eqb-false, eq-eqb, ne-eqb, le-leb, lt-leb}
 use Rattle.records.specs.Operator.{operatorAt, codeOf, isDivision}
 use Rattle.records.specs.Record.{node, columnNumber, closedAt, fieldsAt, decode, recordAt}
-use Rattle.records.specs.Shape.{knownType, inType, maxCode, uses, knownOk, zeroOr, unusedOk, literalOk, shapeOk}
+use Rattle.records.specs.Shape.{knownTypeIn, inTypeIn, maxCode, uses, knownOkIn, zeroOr, unusedOk, literalOkIn, shapeOkIn}
 use Rattle.records.specs.declared.record.Fields.{Fields}
 use Rattle.records.specs.declared.record.Record.{Record}
 use Rattle.records.specs.declared.record.Record.the-variants as kind
 use Rattle.records.proofs.Laws.{by-test, and-left, and-right, no-key}
 use Rattle.records.proofs.Loops.{all-holds}
 use Rattle.records.proofs.RoundTrips.{code-back}
-use Rattle.record_check.specs.Fit.{listOk, reachOk, servedOk, typeOf, typeAt, sameType, binaryFits, betweenFits, memberFits, typesOk}
-use Rattle.checking.specs.Check.{typesKnown, meaningFault, recordFault}
+use Rattle.record_check.specs.Fit.{listOkIn, reachOkIn, servedOk, typeOf, typeAt, sameType, binaryFits, betweenFits, memberFits, typesOk}
+use Rattle.checking.specs.Check.{typesKnownIn, meaningFaultIn, recordFaultIn}
 use Rattle.checking.specs.Table.{below}
 use Rattle.checking.specs.Tree.{treeStep, treeCount, Counted}
 use Rattle.record_check.specs.Step.{Entry, Entered, bad, good, judged, onlyA, literalShape, nullShape, binaryShape, betweenShape, listShape, memberShape, bothBelow, columnStep, literalStep, nullStep, pairFits, binaryEntry, binaryStep, notStep, nullTestStep, betweenStep, listStep, memberStep, recordStep}
@@ -26,8 +26,8 @@ use Rattle.record_check.specs.declared.step.Step.{Step}
 use Rattle.checking.proofs.Tables.{tree-turn}
 
 -- what a step says of record n
-pub record Right (t rs p : List ℕ) (n : ℕ) (s : Step) : Type 0 where
-  pub fault : s .fault ≡ recordFault t rs p (node n)
+pub record Right (text : ℕ) (t rs p : List ℕ) (n : ℕ) (s : Step) : Type 0 where
+  pub fault : s .fault ≡ recordFaultIn text t rs p (node n)
   pub entry : s .fault ≡ 0 → Entry t (recordAt rs (node n)) (s .entry)
   pub tree : s .fault ≡ 0 → min (s .tree) 4097 ≡ min (treeCount rs n) 4097
 
@@ -35,12 +35,12 @@ no-second : (a b : Bool) → b ≡ false → (a && b) ≡ false
 no-second a b e = rw e (and-false a)
 
 -- the entry of a value: its type
-value-entry : (t : List ℕ) (r : Record) (e : ℕ) → typeOf t r ≡ e → ((x : ℕ) → memberFits x r ≡ false) → e < 4 → Entry t r e
+value-entry : (t : List ℕ) (r : Record) (e : ℕ) → typeOf t r ≡ e → ((x : ℕ) → memberFits x r ≡ false) → e < 8 → Entry t r e
 value-entry t r e ty m h = record { value = ty ∙ omega arith; member = other }
   where
-    other : (x : ℕ) → memberFits x r ≡ (ltb 0 x && eqb e (4 * x))
+    other : (x : ℕ) → memberFits x r ≡ (ltb 0 x && eqb e (8 * x))
     other zero = m 0
-    other (suc x) = m (suc x) ∙ sym (no-second (ltb 0 (suc x)) _ (ne-eqb e (4 * suc x) (λ q. omega (arith, q))))
+    other (suc x) = m (suc x) ∙ sym (no-second (ltb 0 (suc x)) _ (ne-eqb e (8 * suc x) (λ q. omega (arith, q))))
 
 -- the entry of a binary record: an Int of a division, else its Truth
 binary-entry : (t : List ℕ) (o : _) (x y : _) (b : Bool) → isDivision o ≡ b → Entry t (kind.Binary o x y) (cond b 1 3)
@@ -48,7 +48,7 @@ unfolding typeOf memberFits
 binary-entry t o x y true e = value-entry t (kind.Binary o x y) 1 (rw e) (λ x. refl) (omega arith)
 binary-entry t o x y false e = value-entry t (kind.Binary o x y) 3 (rw e) (λ x. refl) (omega arith)
 
-list-entry : (t : List ℕ) (ty : ℕ) (m : Bool) (start count : ℕ) → ty < 4 → Entry t (kind.List ty m start count) (4 * (ty % 4))
+list-entry : (t : List ℕ) (ty : ℕ) (m : Bool) (start count : ℕ) → ty < 8 → Entry t (kind.List ty m start count) (8 * (ty % 8))
 unfolding typeOf memberFits sameType
 list-entry t ty m start count h =
     record {
@@ -56,25 +56,31 @@ list-entry t ty m start count h =
       member = λ x. ap (λ b. ltb 0 x && b) (same x);
     }
   where
-    low : ty % 4 ≡ ty
+    low : ty % 8 ≡ ty
     low = omega arith
 
-    same : (x : ℕ) → eqb x ty ≡ eqb (4 * (ty % 4)) (4 * x)
+    same : (x : ℕ) → eqb x ty ≡ eqb (8 * (ty % 8)) (8 * x)
     same x = by-test (eqb x ty)
-        (λ p. let e : x ≡ ty = eqb-true x ty p in p ∙ sym (eq-eqb (4 * (ty % 4)) (4 * x) (omega (arith, low))))
+        (λ p. let e : x ≡ ty = eqb-true x ty p in p ∙ sym (eq-eqb (8 * (ty % 8)) (8 * x) (omega (arith, low))))
         (λ p. let d : (x ≡ ty → ⊥) = eqb-false x ty p in
-        p ∙ sym (ne-eqb (4 * (ty % 4)) (4 * x) (λ q. omega (arith, d, q, low))))
+        p ∙ sym (ne-eqb (8 * (ty % 8)) (8 * x) (λ q. omega (arith, d, q, low))))
 
-known-low : (ty : ℕ) → knownType ty ≡ true → ty < 4
-unfolding knownType
-known-low ty e = let h : ty ≤ 3 = leb-true ty 3 (and-right (leb 1 ty) (leb ty 3) e) in omega arith
+known-low : (text ty : ℕ) → knownTypeIn text ty ≡ true → ty < 8
+unfolding knownTypeIn
+known-low text ty e =
+    let h : ty ≤ cond (eqb text 0) 3 4 = leb-true ty (cond (eqb text 0) 3 4) (and-right (leb 1 ty) (leb ty (cond (eqb text 0) 3 4)) e) in
+    go (eqb text 0) h
+  where
+    go : (b : Bool) → ty ≤ cond b 3 4 → ty < 8
+    go true h = omega (arith, h)
+    go false h = omega (arith, h)
 
 leb-zero : (x : ℕ) → leb x 0 ≡ eqb x 0
 leb-zero x = by-test (eqb x 0) (λ p. let e : x ≡ 0 = eqb-true x 0 p in le-leb x 0 (omega arith) ∙ sym p)
     (λ p. let d : (x ≡ 0 → ⊥) = eqb-false x 0 p in lt-leb x 0 (omega (arith, d)) ∙ sym p)
 
 -- the record that a kind's fields mean, and what is left of number 4 for it
-module _ (f : Fields) where
+module _ (text : ℕ) (f : Fields) where
   decode-column : f .kind ≡ 1 → decode f ≡ kind.Column (columnNumber (f .a))
   unfolding decode
   decode-column k = rw k
@@ -115,71 +121,71 @@ module _ (f : Fields) where
   unfolding decode
   decode-member k = rw k
 
-  shape-column : f .zero ≡ 0 → f .kind ≡ 1 → shapeOk f ≡ onlyA f
-  unfolding shapeOk knownOk unusedOk literalOk maxCode uses zeroOr
+  shape-column : f .zero ≡ 0 → f .kind ≡ 1 → shapeOkIn text f ≡ onlyA f
+  unfolding shapeOkIn knownOkIn unusedOk literalOkIn maxCode uses zeroOr
   shape-column z k = rw (k, z, leb-zero, and-true)
 
-  shape-literal : f .zero ≡ 0 → f .kind ≡ 2 → shapeOk f ≡ literalShape f
-  unfolding shapeOk knownOk unusedOk literalOk maxCode uses zeroOr
+  shape-literal : f .zero ≡ 0 → f .kind ≡ 2 → shapeOkIn text f ≡ literalShape text f
+  unfolding shapeOkIn knownOkIn unusedOk literalOkIn maxCode uses zeroOr
   shape-literal z k =
       rw (k, z, leb-zero)
-      (ap (λ x. (eqb (f .code) 0 && knownType (f .ty)) && (x && inType (f .ty) (f .b + 4294967296 * f .c)))
+      (ap (λ x. (eqb (f .code) 0 && knownTypeIn text (f .ty)) && (x && inTypeIn text (f .ty) (f .b + 4294967296 * f .c)))
       (and-true (eqb (f .a) 0)))
 
-  shape-null : f .zero ≡ 0 → f .kind ≡ 3 → shapeOk f ≡ nullShape f
-  unfolding shapeOk knownOk unusedOk literalOk maxCode uses zeroOr
+  shape-null : f .zero ≡ 0 → f .kind ≡ 3 → shapeOkIn text f ≡ nullShape text f
+  unfolding shapeOkIn knownOkIn unusedOk literalOkIn maxCode uses zeroOr
   shape-null z k = rw (k, z, leb-zero, and-true)
 
-  shape-binary : f .zero ≡ 0 → f .kind ≡ 4 → shapeOk f ≡ binaryShape f
-  unfolding shapeOk knownOk unusedOk literalOk maxCode uses zeroOr
+  shape-binary : f .zero ≡ 0 → f .kind ≡ 4 → shapeOkIn text f ≡ binaryShape f
+  unfolding shapeOkIn knownOkIn unusedOk literalOkIn maxCode uses zeroOr
   shape-binary z k = rw (k, z, and-true)
 
-  shape-not : f .zero ≡ 0 → f .kind ≡ 5 → shapeOk f ≡ onlyA f
-  unfolding shapeOk knownOk unusedOk literalOk maxCode uses zeroOr
+  shape-not : f .zero ≡ 0 → f .kind ≡ 5 → shapeOkIn text f ≡ onlyA f
+  unfolding shapeOkIn knownOkIn unusedOk literalOkIn maxCode uses zeroOr
   shape-not z k = rw (k, z, leb-zero, and-true)
 
-  shape-is-null : f .zero ≡ 0 → f .kind ≡ 6 → shapeOk f ≡ onlyA f
-  unfolding shapeOk knownOk unusedOk literalOk maxCode uses zeroOr
+  shape-is-null : f .zero ≡ 0 → f .kind ≡ 6 → shapeOkIn text f ≡ onlyA f
+  unfolding shapeOkIn knownOkIn unusedOk literalOkIn maxCode uses zeroOr
   shape-is-null z k = rw (k, z, leb-zero, and-true)
 
-  shape-is-not-null : f .zero ≡ 0 → f .kind ≡ 7 → shapeOk f ≡ onlyA f
-  unfolding shapeOk knownOk unusedOk literalOk maxCode uses zeroOr
+  shape-is-not-null : f .zero ≡ 0 → f .kind ≡ 7 → shapeOkIn text f ≡ onlyA f
+  unfolding shapeOkIn knownOkIn unusedOk literalOkIn maxCode uses zeroOr
   shape-is-not-null z k = rw (k, z, leb-zero, and-true)
 
-  shape-between : f .zero ≡ 0 → f .kind ≡ 8 → shapeOk f ≡ betweenShape f
-  unfolding shapeOk knownOk unusedOk literalOk maxCode uses zeroOr
+  shape-between : f .zero ≡ 0 → f .kind ≡ 8 → shapeOkIn text f ≡ betweenShape f
+  unfolding shapeOkIn knownOkIn unusedOk literalOkIn maxCode uses zeroOr
   shape-between z k = rw (k, z, and-true)
 
-  shape-list : f .zero ≡ 0 → f .kind ≡ 9 → shapeOk f ≡ listShape f
-  unfolding shapeOk knownOk unusedOk literalOk maxCode uses zeroOr
+  shape-list : f .zero ≡ 0 → f .kind ≡ 9 → shapeOkIn text f ≡ listShape text f
+  unfolding shapeOkIn knownOkIn unusedOk literalOkIn maxCode uses zeroOr
   shape-list z k = rw (k, z, and-true)
 
-  shape-member : f .zero ≡ 0 → f .kind ≡ 10 → shapeOk f ≡ memberShape f
-  unfolding shapeOk knownOk unusedOk literalOk maxCode uses zeroOr
+  shape-member : f .zero ≡ 0 → f .kind ≡ 10 → shapeOkIn text f ≡ memberShape f
+  unfolding shapeOkIn knownOkIn unusedOk literalOkIn maxCode uses zeroOr
   shape-member z k = rw (k, z, and-true)
 
-module _ (t rs p types trees : List ℕ) (n : ℕ) (known : typesKnown t ≡ true) (entered : Entered t rs types n)
+module _ (text : ℕ) (t rs p types trees : List ℕ) (n : ℕ) (known : typesKnownIn text t ≡ true) (entered : Entered t rs types n)
     (counted : Counted rs trees n) (f : Fields) (at : fieldsAt rs (node n) ≡ f) where
   -- what the tables say of an input that is below n
-  input-type : (x : ℕ) → ltb x n ≡ true → typeAt t rs (node x) ≡ getD types x 0 % 4
+  input-type : (x : ℕ) → ltb x n ≡ true → typeAt t rs (node x) ≡ getD types x 0 % 8
   unfolding Entered typeAt
   input-type x e = entered x (ltb-true x n e) .value
 
-  input-member : (x y : ℕ) → ltb x n ≡ true → memberFits y (recordAt rs (node x)) ≡ (ltb 0 y && eqb (getD types x 0) (4 * y))
+  input-member : (x y : ℕ) → ltb x n ≡ true → memberFits y (recordAt rs (node x)) ≡ (ltb 0 y && eqb (getD types x 0) (8 * y))
   unfolding Entered
   input-member x y e = entered x (ltb-true x n e) .member y
 
-  column-low : (c : ℕ) → ltb c (length t) ≡ true → getD t c 0 < 4
-  unfolding typesKnown
+  column-low : (c : ℕ) → ltb c (length t) ≡ true → getD t c 0 < 8
+  unfolding typesKnownIn
   column-low c e =
-      known-low (getD t c 0) (all-holds (λ (k : ℕ). knownType (getD t k 0)) c (length t) (ltb-true c (length t) e) known)
+      known-low text (getD t c 0) (all-holds (λ (k : ℕ). knownTypeIn text (getD t k 0)) c (length t) (ltb-true c (length t) e) known)
 
   -- a step by tests that are those of the definitions
-  judged-right : (r : Record) (shape reach served fits : Bool) (e tree : ℕ) → decode f ≡ r → shapeOk f ≡ shape
-      → reachOk t p r (node n) ≡ reach → (shape ≡ true → reach ≡ true → servedOk r ≡ served)
+  judged-right : (r : Record) (shape reach served fits : Bool) (e tree : ℕ) → decode f ≡ r → shapeOkIn text f ≡ shape
+      → reachOkIn text t p r (node n) ≡ reach → (shape ≡ true → reach ≡ true → servedOk r ≡ served)
       → (shape ≡ true → reach ≡ true → typesOk t rs r ≡ fits) → (shape ≡ true → reach ≡ true → Entry t r e)
-      → (reach ≡ true → tree ≡ treeStep (below trees n) r) → Right t rs p n (judged shape reach served fits e tree)
-  unfolding recordFault meaningFault recordAt bad good
+      → (reach ≡ true → tree ≡ treeStep (below trees n) r) → Right text t rs p n (judged shape reach served fits e tree)
+  unfolding recordFaultIn meaningFaultIn recordAt bad good
   judged-right r false reach served fits e tree d s a v y i c =
       record { fault = rw (at, s); entry = λ h. absurd (omega (arith, h)); tree = λ h. absurd (omega (arith, h)) }
   judged-right r true false served fits e tree d s a v y i c =
@@ -205,37 +211,37 @@ module _ (t rs p types trees : List ℕ) (n : ℕ) (known : typesKnown t ≡ tru
             (ap (λ k. min k 4097) (c refl ∙ ap (treeStep (below trees n)) (sym (ap decode at ∙ d))));
       }
 
-  column-right : f .zero ≡ 0 → f .kind ≡ 1 → Right t rs p n (columnStep t f)
-  unfolding columnStep reachOk servedOk typesOk typeOf memberFits
+  column-right : f .zero ≡ 0 → f .kind ≡ 1 → Right text t rs p n (columnStep t f)
+  unfolding columnStep reachOkIn servedOk typesOk typeOf memberFits
   column-right z k =
       judged-right (kind.Column (columnNumber (f .a))) (onlyA f) (ltb (f .a) (length t)) true true (getD t (f .a) 0) 1
-      (decode-column f k) (shape-column f z k) refl (λ s r. refl) (λ s r. refl)
+      (decode-column text f k) (shape-column text f z k) refl (λ s r. refl) (λ s r. refl)
       (λ s r. value-entry t (kind.Column (columnNumber (f .a))) (getD t (f .a) 0) refl (λ x. refl) (column-low (f .a) r))
       (λ r. refl)
 
-  literal-right : f .zero ≡ 0 → f .kind ≡ 2 → Right t rs p n (literalStep f)
-  unfolding literalStep reachOk servedOk typesOk typeOf memberFits
+  literal-right : f .zero ≡ 0 → f .kind ≡ 2 → Right text t rs p n (literalStep text f)
+  unfolding literalStep reachOkIn servedOk typesOk typeOf memberFits
   literal-right z k =
-      judged-right (kind.Literal (f .ty) (f .b + 4294967296 * f .c)) (literalShape f) true true true (f .ty) 1
-      (decode-literal f k) (shape-literal f z k) refl (λ s r. refl) (λ s r. refl)
+      judged-right (kind.Literal (f .ty) (f .b + 4294967296 * f .c)) (literalShape text f) true true true (f .ty) 1
+      (decode-literal text f k) (shape-literal text f z k) refl (λ s r. refl) (λ s r. refl)
       (λ s r. value-entry t (kind.Literal (f .ty) (f .b + 4294967296 * f .c)) (f .ty) refl (λ x. refl)
-      (known-low (f .ty) (and-right (eqb (f .code) 0) (knownType (f .ty)) (and-left _ _ s)))) (λ r. refl)
+      (known-low text (f .ty) (and-right (eqb (f .code) 0) (knownTypeIn text (f .ty)) (and-left _ _ s)))) (λ r. refl)
 
-  null-right : f .zero ≡ 0 → f .kind ≡ 3 → Right t rs p n (nullStep f)
-  unfolding nullStep reachOk servedOk typesOk typeOf memberFits
+  null-right : f .zero ≡ 0 → f .kind ≡ 3 → Right text t rs p n (nullStep text f)
+  unfolding nullStep reachOkIn servedOk typesOk typeOf memberFits
   null-right z k =
-      judged-right (kind.Null (f .ty)) (nullShape f) true true true (f .ty) 1 (decode-null f k) (shape-null f z k) refl
+      judged-right (kind.Null (f .ty)) (nullShape text f) true true true (f .ty) 1 (decode-null text f k) (shape-null text f z k) refl
       (λ s r. refl) (λ s r. refl)
       (λ s r. value-entry t (kind.Null (f .ty)) (f .ty) refl (λ x. refl)
-      (known-low (f .ty) (and-right (eqb (f .code) 0) (knownType (f .ty)) (and-left _ _ s)))) (λ r. refl)
+      (known-low text (f .ty) (and-right (eqb (f .code) 0) (knownTypeIn text (f .ty)) (and-left _ _ s)))) (λ r. refl)
 
-  binary-right : f .zero ≡ 0 → f .kind ≡ 4 → Right t rs p n (binaryStep types trees f n)
-  unfolding binaryStep reachOk servedOk typesOk typeOf memberFits pairFits binaryEntry binaryFits sameType
+  binary-right : f .zero ≡ 0 → f .kind ≡ 4 → Right text t rs p n (binaryStep types trees f n)
+  unfolding binaryStep reachOkIn servedOk typesOk typeOf memberFits pairFits binaryEntry binaryFits sameType
   binary-right z k =
       judged-right (kind.Binary (operatorAt (f .code)) (node (f .a)) (node (f .b))) (binaryShape f) (bothBelow f n)
       (not (leb 8 (f .code) && leb (f .code) 12))
-      (pairFits (f .code) (getD types (f .a) 0 % 4) (getD types (f .b) 0 % 4)) (binaryEntry (f .code))
-      (1 + (getD trees (f .a) 0 + getD trees (f .b) 0)) (decode-binary f k) (shape-binary f z k)
+      (pairFits (f .code) (getD types (f .a) 0 % 8) (getD types (f .b) 0 % 8)) (binaryEntry (f .code))
+      (1 + (getD trees (f .a) 0 + getD trees (f .b) 0)) (decode-binary text f k) (shape-binary text f z k)
       (ap (λ q. ltb (f .a) n && q) (and-true (ltb (f .b) n)))
       (λ s r. rw (code s))
       (λ s r. rw (code s, input-type (f .a) (and-left _ _ r), input-type (f .b) (and-right (ltb (f .a) n) _ r)))
@@ -246,40 +252,40 @@ module _ (t rs p types trees : List ℕ) (n : ℕ) (known : typesKnown t ≡ tru
       code : binaryShape f ≡ true → codeOf (operatorAt (f .code)) ≡ f .code
       code s = code-back (f .code) (leb-true (f .code) 19 (and-left (leb (f .code) 19) (eqb (f .ty) 0) (and-left _ _ s)))
 
-  not-right : f .zero ≡ 0 → f .kind ≡ 5 → Right t rs p n (notStep types trees f n)
-  unfolding notStep reachOk servedOk typesOk typeOf memberFits
+  not-right : f .zero ≡ 0 → f .kind ≡ 5 → Right text t rs p n (notStep types trees f n)
+  unfolding notStep reachOkIn servedOk typesOk typeOf memberFits
   not-right z k =
-      judged-right (kind.Not (node (f .a))) (onlyA f) (ltb (f .a) n) true (eqb (getD types (f .a) 0 % 4) 3) 3
-      (1 + getD trees (f .a) 0) (decode-not f k) (shape-not f z k) (and-true (ltb (f .a) n)) (λ s r. refl)
+      judged-right (kind.Not (node (f .a))) (onlyA f) (ltb (f .a) n) true (eqb (getD types (f .a) 0 % 8) 3) 3
+      (1 + getD trees (f .a) 0) (decode-not text f k) (shape-not text f z k) (and-true (ltb (f .a) n)) (λ s r. refl)
       (λ s r. ap (λ q. eqb q 3) (input-type (f .a) r))
       (λ s r. value-entry t (kind.Not (node (f .a))) 3 refl (λ x. refl) (omega arith))
       (λ r. rw r (omega arith))
 
-  is-null-right : f .zero ≡ 0 → f .kind ≡ 6 → Right t rs p n (nullTestStep types trees f n)
-  unfolding nullTestStep reachOk servedOk typesOk typeOf memberFits
+  is-null-right : f .zero ≡ 0 → f .kind ≡ 6 → Right text t rs p n (nullTestStep types trees f n)
+  unfolding nullTestStep reachOkIn servedOk typesOk typeOf memberFits
   is-null-right z k =
-      judged-right (kind.IsNull (node (f .a))) (onlyA f) (ltb (f .a) n) true (ltb 0 (getD types (f .a) 0 % 4)) 3
-      (1 + getD trees (f .a) 0) (decode-is-null f k) (shape-is-null f z k) (and-true (ltb (f .a) n)) (λ s r. refl)
+      judged-right (kind.IsNull (node (f .a))) (onlyA f) (ltb (f .a) n) true (ltb 0 (getD types (f .a) 0 % 8)) 3
+      (1 + getD trees (f .a) 0) (decode-is-null text f k) (shape-is-null text f z k) (and-true (ltb (f .a) n)) (λ s r. refl)
       (λ s r. ap (λ q. ltb 0 q) (input-type (f .a) r))
       (λ s r. value-entry t (kind.IsNull (node (f .a))) 3 refl (λ x. refl) (omega arith))
       (λ r. rw r (omega arith))
 
-  is-not-null-right : f .zero ≡ 0 → f .kind ≡ 7 → Right t rs p n (nullTestStep types trees f n)
-  unfolding nullTestStep reachOk servedOk typesOk typeOf memberFits
+  is-not-null-right : f .zero ≡ 0 → f .kind ≡ 7 → Right text t rs p n (nullTestStep types trees f n)
+  unfolding nullTestStep reachOkIn servedOk typesOk typeOf memberFits
   is-not-null-right z k =
-      judged-right (kind.IsNotNull (node (f .a))) (onlyA f) (ltb (f .a) n) true (ltb 0 (getD types (f .a) 0 % 4)) 3
-      (1 + getD trees (f .a) 0) (decode-is-not-null f k) (shape-is-not-null f z k) (and-true (ltb (f .a) n)) (λ s r. refl)
+      judged-right (kind.IsNotNull (node (f .a))) (onlyA f) (ltb (f .a) n) true (ltb 0 (getD types (f .a) 0 % 8)) 3
+      (1 + getD trees (f .a) 0) (decode-is-not-null text f k) (shape-is-not-null text f z k) (and-true (ltb (f .a) n)) (λ s r. refl)
       (λ s r. ap (λ q. ltb 0 q) (input-type (f .a) r))
       (λ s r. value-entry t (kind.IsNotNull (node (f .a))) 3 refl (λ x. refl) (omega arith))
       (λ r. rw r (omega arith))
 
-  between-right : f .zero ≡ 0 → f .kind ≡ 8 → Right t rs p n (betweenStep types trees f n)
-  unfolding betweenStep reachOk servedOk typesOk typeOf memberFits
+  between-right : f .zero ≡ 0 → f .kind ≡ 8 → Right text t rs p n (betweenStep types trees f n)
+  unfolding betweenStep reachOkIn servedOk typesOk typeOf memberFits
   between-right z k =
       judged-right (kind.IsBetween (closedAt (f .code)) (node (f .a)) (node (f .b)) (node (f .c))) (betweenShape f)
       (ltb (f .a) n && (ltb (f .b) n && ltb (f .c) n)) true
-      (betweenFits (getD types (f .a) 0 % 4) (getD types (f .b) 0 % 4) (getD types (f .c) 0 % 4)) 3
-      (1 + (getD trees (f .a) 0 + (getD trees (f .b) 0 + getD trees (f .c) 0))) (decode-between f k) (shape-between f z k)
+      (betweenFits (getD types (f .a) 0 % 8) (getD types (f .b) 0 % 8) (getD types (f .c) 0 % 8)) 3
+      (1 + (getD trees (f .a) 0 + (getD trees (f .b) 0 + getD trees (f .c) 0))) (decode-between text f k) (shape-between text f z k)
       (ap (λ q. ltb (f .a) n && (ltb (f .b) n && q)) (and-true (ltb (f .c) n))) (λ s r. refl)
       (λ s r. rw (input-type (f .a) (fst r), input-type (f .b) (snd r), input-type (f .c) (thd r)))
       (λ s r. value-entry t (kind.IsBetween (closedAt (f .code)) (node (f .a)) (node (f .b)) (node (f .c))) 3 refl
@@ -295,40 +301,40 @@ module _ (t rs p types trees : List ℕ) (n : ℕ) (known : typesKnown t ≡ tru
       thd : (ltb (f .a) n && (ltb (f .b) n && ltb (f .c) n)) ≡ true → ltb (f .c) n ≡ true
       thd r = and-right (ltb (f .b) n) (ltb (f .c) n) (and-right (ltb (f .a) n) (ltb (f .b) n && ltb (f .c) n) r)
 
-  list-right : f .zero ≡ 0 → f .kind ≡ 9 → Right t rs p n (listStep p f)
-  unfolding listStep reachOk servedOk typesOk
+  list-right : f .zero ≡ 0 → f .kind ≡ 9 → Right text t rs p n (listStep text p f)
+  unfolding listStep reachOkIn servedOk typesOk
   list-right z k =
-      judged-right (kind.List (f .ty) (eqb (f .code) 1) (f .a) (f .b)) (listShape f) (listOk p (f .ty) (f .a) (f .b)) true true
-      (4 * (f .ty % 4)) 1 (decode-list f k) (shape-list f z k) refl (λ s r. refl) (λ s r. refl)
+      judged-right (kind.List (f .ty) (eqb (f .code) 1) (f .a) (f .b)) (listShape text f) (listOkIn text p (f .ty) (f .a) (f .b)) true true
+      (8 * (f .ty % 8)) 1 (decode-list text f k) (shape-list text f z k) refl (λ s r. refl) (λ s r. refl)
       (λ s r. list-entry t (f .ty) (eqb (f .code) 1) (f .a) (f .b)
-      (known-low (f .ty) (and-right (leb (f .code) 1) (knownType (f .ty)) (and-left _ _ s)))) (λ r. refl)
+      (known-low text (f .ty) (and-right (leb (f .code) 1) (knownTypeIn text (f .ty)) (and-left _ _ s)))) (λ r. refl)
 
-  member-right : f .zero ≡ 0 → f .kind ≡ 10 → Right t rs p n (memberStep types trees f n)
-  unfolding memberStep reachOk servedOk typesOk typeOf memberFits
+  member-right : f .zero ≡ 0 → f .kind ≡ 10 → Right text t rs p n (memberStep types trees f n)
+  unfolding memberStep reachOkIn servedOk typesOk typeOf memberFits
   member-right z k =
       judged-right (kind.IsIn (eqb (f .code) 1) (node (f .a)) (node (f .b))) (memberShape f) (bothBelow f n) true
-      (ltb 0 (getD types (f .a) 0 % 4) && eqb (getD types (f .b) 0) (4 * (getD types (f .a) 0 % 4))) 3
-      (1 + (getD trees (f .a) 0 + getD trees (f .b) 0)) (decode-member f k) (shape-member f z k)
+      (ltb 0 (getD types (f .a) 0 % 8) && eqb (getD types (f .b) 0) (8 * (getD types (f .a) 0 % 8))) 3
+      (1 + (getD trees (f .a) 0 + getD trees (f .b) 0)) (decode-member text f k) (shape-member text f z k)
       (ap (λ q. ltb (f .a) n && q) (and-true (ltb (f .b) n))) (λ s r. refl)
       (λ s r. ap (λ q. memberFits q (recordAt rs (node (f .b)))) (input-type (f .a) (and-left _ _ r))
-      ∙ input-member (f .b) (getD types (f .a) 0 % 4) (and-right (ltb (f .a) n) (ltb (f .b) n) r))
+      ∙ input-member (f .b) (getD types (f .a) 0 % 8) (and-right (ltb (f .a) n) (ltb (f .b) n) r))
       (λ s r. value-entry t (kind.IsIn (eqb (f .code) 1) (node (f .a)) (node (f .b))) 3 refl (λ x. refl) (omega arith))
       (λ r. rw (and-left (ltb (f .a) n) (ltb (f .b) n) r, and-right (ltb (f .a) n) (ltb (f .b) n) r) (omega arith))
 
   -- byte 3 is not zero, or the kind is none of the ten
-  shapeless : shapeOk f ≡ false → Right t rs p n (bad 4)
-  unfolding recordFault bad
+  shapeless : shapeOkIn text f ≡ false → Right text t rs p n (bad 4)
+  unfolding recordFaultIn bad
   shapeless s =
       record { fault = rw (at, s); entry = λ h. absurd (omega (arith, h)); tree = λ h. absurd (omega (arith, h)) }
 
-  no-zero : eqb (f .zero) 0 ≡ false → shapeOk f ≡ false
-  unfolding shapeOk unusedOk
-  no-zero z = rw z (and-false (knownOk f))
+  no-zero : eqb (f .zero) 0 ≡ false → shapeOkIn text f ≡ false
+  unfolding shapeOkIn unusedOk
+  no-zero z = rw z (and-false (knownOkIn text f))
 
   no-kind : ((((((((((eqb (f .kind) 1 ≡ false) × (eqb (f .kind) 2 ≡ false)) × (eqb (f .kind) 3 ≡ false)) × (eqb (f .kind) 4 ≡ false))
       × (eqb (f .kind) 5 ≡ false)) × (eqb (f .kind) 6 ≡ false)) × (eqb (f .kind) 7 ≡ false)) × (eqb (f .kind) 8 ≡ false))
-      × (eqb (f .kind) 9 ≡ false)) × (eqb (f .kind) 10 ≡ false)) → shapeOk f ≡ false
-  unfolding shapeOk knownOk
+      × (eqb (f .kind) 9 ≡ false)) × (eqb (f .kind) 10 ≡ false)) → shapeOkIn text f ≡ false
+  unfolding shapeOkIn knownOkIn
   no-kind h = by-test (leb 1 (f .kind)) (λ l. rw (l, lt-leb (f .kind) 10 (high l))) (λ l. rw l)
     where
       off : (i : ℕ) → eqb (f .kind) i ≡ false → f .kind ≡ i → ⊥
@@ -365,7 +371,7 @@ module _ (t rs p types trees : List ℕ) (n : ℕ) (known : typesKnown t ≡ tru
           ) in
           omega arith
 
-  pub record-right : Right t rs p n (recordStep t p types trees f n)
+  pub record-right : Right text t rs p n (recordStep text t p types trees f n)
   unfolding recordStep
   record-right =
       by-test (eqb (f .zero) 0) (λ z.
@@ -414,12 +420,12 @@ entered-more t rs types n v h f e a k = by-test (eqb a n) same other
         subst (Entry t (recordAt rs (node a))) (sym (getD-set-other types n a v 0 d)) (f a (omega (arith, d)))
 
 -- one turn of the loop over records
-pub step-right : (t rs p types trees : List ℕ) (n : ℕ) (f : Fields) (s : Step) → typesKnown t ≡ true → Entered t rs types n
-    → Counted rs trees n → f ≡ fieldsAt rs (node n) → s ≡ recordStep t p types trees f n → Right t rs p n s
-step-right t rs p types trees n f s known entered counted read e =
-    subst (Right t rs p n) (sym e) (record-right t rs p types trees n known entered counted f (sym read))
+pub step-right : (text : ℕ) (t rs p types trees : List ℕ) (n : ℕ) (f : Fields) (s : Step) → typesKnownIn text t ≡ true → Entered t rs types n
+    → Counted rs trees n → f ≡ fieldsAt rs (node n) → s ≡ recordStep text t p types trees f n → Right text t rs p n s
+step-right text t rs p types trees n f s known entered counted read e =
+    subst (Right text t rs p n) (sym e) (record-right text t rs p types trees n known entered counted f (sym read))
 
 -- the type of a record below n
-pub entered-type : (t rs types : List ℕ) (n a : ℕ) → Entered t rs types n → a < n → typeAt t rs (node a) ≡ getD types a 0 % 4
+pub entered-type : (t rs types : List ℕ) (n a : ℕ) → Entered t rs types n → a < n → typeAt t rs (node a) ≡ getD types a 0 % 8
 unfolding Entered typeAt
 entered-type t rs types n a entered h = entered a h .value

@@ -4,9 +4,9 @@ ghost use Prim.Native.Nat.{_*_, _/_, _≤_, _<_, min};
 ghost use lib.ListN.{length};
 ghost use mathlib.Core.Bool.{true};
 ghost use Rattle.records.specs.Record.{node};
-ghost use Rattle.checking.specs.Check.{typesKnown, tableOk, sizesOk, firstFault, recordsAnswer, checkAnswer};
+ghost use Rattle.checking.specs.Check.{typesKnownIn, tableOkIn, sizesOkIn, firstFaultIn, recordsAnswerIn, checkAnswerIn, checkAnswer};
 ghost use Rattle.record_check.specs.Step.{Entered};
-ghost use Rattle.record_check.specs.Outside.{Counts};
+ghost use Rattle.record_check.specs.Outside.{CountsOf, Counts};
 ghost use Rattle.checking.specs.Tree.{Counted};
 ghost use Rattle.checking.specs.declared.check.CheckAnswer.the-variants.{Accepted};
 use record_check::outside::fill_outside;
@@ -21,12 +21,12 @@ pub enum CheckAnswer {
     Accepted,
 }
 
-fn types_known(t: &[u8]) -> bool
-    ensures { λ r. ⌜ r ≡ typesKnown (now (t .entry)) ⌝ }
+fn types_known(text: u32, t: &[u8]) -> bool
+    ensures { λ r. ⌜ r ≡ typesKnownIn text (now (t .entry)) ⌝ }
 {
     let mut k: usize = 0;
     while k < t.len() {
-        if !known_type(t[k]) {
+        if !known_type(text, t[k]) {
             return false;
         }
         k += 1;
@@ -34,17 +34,17 @@ fn types_known(t: &[u8]) -> bool
     true
 }
 
-fn table_ok(t: &[u8]) -> bool
-    ensures { λ r. ⌜ r ≡ tableOk (now (t .entry)) ⌝ }
+fn table_ok(text: u32, t: &[u8]) -> bool
+    ensures { λ r. ⌜ r ≡ tableOkIn text (now (t .entry)) ⌝ }
 {
     if 64 < t.len() {
         return false;
     }
-    types_known(t)
+    types_known(text, t)
 }
 
-fn sizes_ok(rs: &[u8], p: &[u8], used: u64) -> bool
-    ensures { λ r. ⌜ r ≡ sizesOk (now (rs .entry)) (now (p .entry)) used ⌝ }
+fn sizes_ok(text: u32, rs: &[u8], p: &[u8], used: u64) -> bool
+    ensures { λ r. ⌜ r ≡ sizesOkIn text (now (rs .entry)) (now (p .entry)) used ⌝ }
 {
     if 4096 < used {
         return false;
@@ -52,10 +52,13 @@ fn sizes_ok(rs: &[u8], p: &[u8], used: u64) -> bool
     if ((rs.len() / 16) as u64) < used {
         return false;
     }
-    if p.len() % 8 == 0 {
-        return p.len() / 8 <= 8192;
+    if p.len() % 8 != 0 {
+        return false;
     }
-    false
+    if 8193 < text {
+        return false;
+    }
+    p.len() / 8 <= 8192
 }
 
 // 4,097 for every count above 4,096.
@@ -71,25 +74,27 @@ fn fault_below(
     t: &[u8],
     rs: &[u8],
     p: &[u8],
+    text: u32,
     days: &[u16],
     truths: &[u16],
+    symbols: &[u16],
     used: u32,
     types: &mut [u8],
     trees: &mut [u16],
 ) -> u32
-    requires { ⌜ Counts (now p) (now days) (now truths) ⌝ }
+    requires { ⌜ Counts text (now p) (now days) (now truths) (now symbols) ⌝ }
     requires { ⌜ used ≤ length (now types) ⌝ }
     requires { ⌜ used ≤ length (now trees) ⌝ }
     requires { ⌜ 16 * used ≤ length (now rs) ⌝ }
-    requires { ⌜ typesKnown (now t) ≡ true ⌝ }
-    ensures { λ f. ⌜ f ≡ firstFault (now (t .entry)) (now (rs .entry)) (now (p .entry)) used ⌝ }
+    requires { ⌜ typesKnownIn text (now t) ≡ true ⌝ }
+    ensures { λ f. ⌜ f ≡ firstFaultIn text (now (t .entry)) (now (rs .entry)) (now (p .entry)) used ⌝ }
     ensures { λ f. ⌜ (f ≡ 0 → Entered (now (t .entry)) (now (rs .entry)) (now (types .exit)) used) ⌝ }
     ensures { λ f. ⌜ (f ≡ 0 → Counted (now (rs .entry)) (now (trees .exit)) used) ⌝ }
 {
     let mut i: u32 = 0;
     while i < used {
         let f = fields_in(rs, Node(i));
-        let s = record_step(t, p, days, truths, types, trees, f, Node(i));
+        let s = record_step(t, p, text, days, truths, symbols, types, trees, f, Node(i));
         if s.fault != 0 {
             return s.fault;
         }
@@ -104,6 +109,40 @@ fn records_answer(
     t: &[u8],
     rs: &[u8],
     p: &[u8],
+    text: u32,
+    days: &[u16],
+    truths: &[u16],
+    symbols: &[u16],
+    used: u32,
+    root: u32,
+    types: &mut [u8],
+    trees: &mut [u16],
+) -> CheckAnswer
+    requires { ⌜ Counts text (now p) (now days) (now truths) (now symbols) ⌝ }
+    requires { ⌜ used ≤ length (now types) ⌝ }
+    requires { ⌜ used ≤ length (now trees) ⌝ }
+    requires { ⌜ 16 * used ≤ length (now rs) ⌝ }
+    requires { ⌜ typesKnownIn text (now t) ≡ true ⌝ }
+    requires { ⌜ root < used ⌝ }
+    ensures { λ a. ⌜ a ≡ recordsAnswerIn text (now (t .entry)) (now (rs .entry)) (now (p .entry)) used (node root) ⌝ }
+    ensures { λ a. ⌜ (a ≡ Accepted → Counted (now (rs .entry)) (now (trees .exit)) used) ⌝ }
+{
+    let f = fault_below(t, rs, p, text, days, truths, symbols, used, types, trees);
+    if f != 0 {
+        return CheckAnswer::Refused(f);
+    }
+    if types[root as usize] % 8 != 3 {
+        return CheckAnswer::Refused(7);
+    }
+    CheckAnswer::Accepted
+}
+
+// The same, with the counts of the values that are no symbol of the text pool.
+fn records_pooled(
+    t: &[u8],
+    rs: &[u8],
+    p: &[u8],
+    text: u32,
     days: &[u16],
     truths: &[u16],
     used: u32,
@@ -111,23 +150,31 @@ fn records_answer(
     types: &mut [u8],
     trees: &mut [u16],
 ) -> CheckAnswer
-    requires { ⌜ Counts (now p) (now days) (now truths) ⌝ }
+    requires { ⌜ length (now p) / 8 ≤ 8192 ⌝ }
+    requires { ⌜ CountsOf text (now p) 2 (now days) × CountsOf text (now p) 3 (now truths) ⌝ }
     requires { ⌜ used ≤ length (now types) ⌝ }
     requires { ⌜ used ≤ length (now trees) ⌝ }
     requires { ⌜ 16 * used ≤ length (now rs) ⌝ }
-    requires { ⌜ typesKnown (now t) ≡ true ⌝ }
+    requires { ⌜ typesKnownIn text (now t) ≡ true ⌝ }
     requires { ⌜ root < used ⌝ }
-    ensures { λ a. ⌜ a ≡ recordsAnswer (now (t .entry)) (now (rs .entry)) (now (p .entry)) used (node root) ⌝ }
+    ensures { λ a. ⌜ a ≡ recordsAnswerIn text (now (t .entry)) (now (rs .entry)) (now (p .entry)) used (node root) ⌝ }
     ensures { λ a. ⌜ (a ≡ Accepted → Counted (now (rs .entry)) (now (trees .exit)) used) ⌝ }
 {
-    let f = fault_below(t, rs, p, days, truths, used, types, trees);
-    if f != 0 {
-        return CheckAnswer::Refused(f);
-    }
-    if types[root as usize] % 4 != 3 {
-        return CheckAnswer::Refused(7);
-    }
-    CheckAnswer::Accepted
+    let mut symbols = [0u16; 8193];
+    fill_outside(text, p, 4, &mut symbols);
+    records_answer(
+        t,
+        rs,
+        p,
+        text,
+        days,
+        truths,
+        &symbols,
+        used,
+        root,
+        types,
+        trees,
+    )
 }
 
 // The same, where lists may share a long pool: a list then asks for two counts instead of looking at its values. A
@@ -136,6 +183,7 @@ fn records_counted(
     t: &[u8],
     rs: &[u8],
     p: &[u8],
+    text: u32,
     used: u32,
     root: u32,
     types: &mut [u8],
@@ -145,18 +193,76 @@ fn records_counted(
     requires { ⌜ used ≤ length (now types) ⌝ }
     requires { ⌜ used ≤ length (now trees) ⌝ }
     requires { ⌜ 16 * used ≤ length (now rs) ⌝ }
-    requires { ⌜ typesKnown (now t) ≡ true ⌝ }
+    requires { ⌜ typesKnownIn text (now t) ≡ true ⌝ }
     requires { ⌜ root < used ⌝ }
-    ensures { λ a. ⌜ a ≡ recordsAnswer (now (t .entry)) (now (rs .entry)) (now (p .entry)) used (node root) ⌝ }
+    ensures { λ a. ⌜ a ≡ recordsAnswerIn text (now (t .entry)) (now (rs .entry)) (now (p .entry)) used (node root) ⌝ }
     ensures { λ a. ⌜ (a ≡ Accepted → Counted (now (rs .entry)) (now (trees .exit)) used) ⌝ }
 {
     let mut days = [0u16; 8193];
     let mut truths = [0u16; 8193];
-    fill_outside(p, &mut days, &mut truths);
-    records_answer(t, rs, p, &days, &truths, used, root, types, trees)
+    fill_outside(text, p, 2, &mut days);
+    fill_outside(text, p, 3, &mut truths);
+    if text == 0 {
+        let none = [0u16; 0];
+        return records_answer(
+            t,
+            rs,
+            p,
+            text,
+            &days,
+            &truths,
+            &none,
+            used,
+            root,
+            types,
+            trees,
+        );
+    }
+    records_pooled(t, rs, p, text, &days, &truths, used, root, types, trees)
 }
 
-// Checking, and the tree counts of an accepted screen's records, each 4,097 if above 4,096. `types` is room to work in.
+// Checking, and the tree counts of an accepted screen's records, each 4,097 if above 4,096. `text` is one more than the
+// bytes of the text pool that is lent, 0 where none is; `types` is room to work in.
+pub fn check_with_text(
+    t: &[u8],
+    rs: &[u8],
+    p: &[u8],
+    text: u32,
+    used: u64,
+    root: u64,
+    types: &mut [u8],
+    trees: &mut [u16],
+) -> CheckAnswer
+    requires { ⌜ (used ≤ 4096 → used ≤ length (now types)) ⌝ }
+    requires { ⌜ (used ≤ 4096 → used ≤ length (now trees)) ⌝ }
+    ensures { λ a. ⌜ a ≡ checkAnswerIn text (now (t .entry)) (now (rs .entry)) (now (p .entry)) used root ⌝ }
+    ensures { λ a. ⌜ (a ≡ Accepted → Counted (now (rs .entry)) (now (trees .exit)) used) ⌝ }
+{
+    if !table_ok(text, t) {
+        return CheckAnswer::Refused(1);
+    }
+    if !sizes_ok(text, rs, p, used) {
+        return CheckAnswer::Refused(2);
+    }
+    if used <= root {
+        return CheckAnswer::Refused(3);
+    }
+    let u = used as u32;
+    let r = root as u32;
+    let none = [0u16; 0];
+    if used <= 64 {
+        return records_answer(t, rs, p, text, &none, &none, &none, u, r, types, trees);
+    }
+    if 512 < used {
+        return records_counted(t, rs, p, text, u, r, types, trees);
+    }
+    if p.len() <= 1024 {
+        return records_answer(t, rs, p, text, &none, &none, &none, u, r, types, trees);
+    }
+    records_counted(t, rs, p, text, u, r, types, trees)
+}
+
+// The same of a screen without a text pool.
 pub fn check_counted(
     t: &[u8],
     rs: &[u8],
@@ -171,46 +277,7 @@ pub fn check_counted(
     ensures { λ a. ⌜ a ≡ checkAnswer (now (t .entry)) (now (rs .entry)) (now (p .entry)) used root ⌝ }
     ensures { λ a. ⌜ (a ≡ Accepted → Counted (now (rs .entry)) (now (trees .exit)) used) ⌝ }
 {
-    if !table_ok(t) {
-        return CheckAnswer::Refused(1);
-    }
-    if !sizes_ok(rs, p, used) {
-        return CheckAnswer::Refused(2);
-    }
-    if used <= root {
-        return CheckAnswer::Refused(3);
-    }
-    let none = [0u16; 0];
-    if used <= 64 {
-        return records_answer(
-            t,
-            rs,
-            p,
-            &none,
-            &none,
-            used as u32,
-            root as u32,
-            types,
-            trees,
-        );
-    }
-    if 512 < used {
-        return records_counted(t, rs, p, used as u32, root as u32, types, trees);
-    }
-    if p.len() <= 1024 {
-        return records_answer(
-            t,
-            rs,
-            p,
-            &none,
-            &none,
-            used as u32,
-            root as u32,
-            types,
-            trees,
-        );
-    }
-    records_counted(t, rs, p, used as u32, root as u32, types, trees)
+    check_with_text(t, rs, p, 0, used, root, types, trees)
 }
 
 // Most screens have few records, and small tables cost less to clear.

@@ -115,11 +115,10 @@ collect-end R nodes i n b l e h = go b refl
 
 -- ---- before the first conjunct
 pub collect-none : (t : Conjuncts) (table : List ColumnConstraints) (ms : List ℕ) (R : ℕ → AExpr ℕ) (nodes : List ℕ)
-    (order kept lefts rights equals : List ℕ) → table ≡ replicate 64 pastColumn → length order ≡ 260 → length kept ≡ 260
-    → length lefts ≡ 130 → length rights ≡ 130 → length equals ≡ 130
+    (order kept lefts rights equals : List ℕ) → table ≡ replicate 64 pastColumn
     → Collects t table ms (replicate 64 false) order 0 kept 0 lefts rights equals 0 0 false false (collectTo R nodes 0)
 unfolding collectTo firstOf linesFrom edgesOf excludedBy allowedBy disallowedBy gather
-collect-none t table ms R nodes order kept lefts rights equals e lo lk ll lr le =
+collect-none t table ms R nodes order kept lefts rights equals e =
     record {
       shows = record {
         size = ap length e ∙ length-replicate 64 pastColumn;
@@ -127,18 +126,14 @@ collect-none t table ms R nodes order kept lefts rights equals e lo lk ll lr le 
         fine = λ a h i l. absurd (none a h i l);
       };
       entered = record {
-        order-size = lo;
         seen-size = length-replicate 64 false;
         listed = refl;
         known = λ a h. getD-replicate 64 a false false h;
         distinct = λ o h. absurd (omega arith);
         low = λ o h. absurd (omega arith);
       };
-      keeping = record { size = lk; listed = refl };
+      keeping = record { listed = refl };
       linked = record {
-        left-size = ll;
-        right-size = lr;
-        equal-size = le;
         listed = refl;
         low-left = λ o h. absurd (omega arith);
         low-right = λ o h. absurd (omega arith);
@@ -191,7 +186,7 @@ added t table table′ ms ms′ T a x c r l S la ex hc er f K et =
     }
 
 pub entered-at : (order : List ℕ) (columns : ℕ) (seen : List Bool) (l : List ℕ) (a x o : ℕ) → Entered order columns seen l
-    → a < 64 → columns < 260 → x ≡ a % 64 → o ≡ cond (getD seen x false) columns (columns + 1)
+    → a < 64 → columns < length order → x ≡ a % 64 → o ≡ cond (getD seen x false) columns (columns + 1)
     → Entered (set order columns a) o (set seen x true) (enter a l)
 entered-at order columns seen l a x o E la lc ex eo =
     let p : x ≡ a = low-slot a x la ex in rw p (entered-more order columns seen l a o E la lc (rw p at eo))
@@ -241,7 +236,7 @@ module _ (t : Conjuncts) (table : List ColumnConstraints) (ms : List ℕ) (seen 
         })
 
     pub recorded-turn : (table′ : List ColumnConstraints) (ms′ : List ℕ) (seen′ : List Bool) (order′ : List ℕ) (a o n : ℕ)
-        (l : List (Constraint ℕ)) (stops u : Bool) → k ≡ Recorded stops n a l → keeps < 260
+        (l : List (Constraint ℕ)) (stops u : Bool) → k ≡ Recorded stops n a l → keeps < length kept
         → ((m : List ℕ) → Entered order columns seen m → Entered order′ o seen′ (enter a m))
         → ((T : ColumnTable) → Shows t table ms T → Added t table′ ms′ a (map (mapConstraint (onLine i)) l) u T)
         → Collects t table′ ms′ seen′ order′ o (set kept keeps n) (keeps + 1) lefts rights equals edges bounds normalized (stops && u) s′
@@ -259,7 +254,7 @@ module _ (t : Conjuncts) (table : List ColumnConstraints) (ms : List ℕ) (seen 
           stops = ap (λ b. stops && b) (A .stops);
         })
 
-    pub opaque-turn : (n : ℕ) → k ≡ Opaque n → keeps < 260 → unsat ≡ false
+    pub opaque-turn : (n : ℕ) → k ≡ Opaque n → keeps < length kept → unsat ≡ false
         → Collects t table ms seen order columns (set kept keeps n) (keeps + 1) lefts rights equals edges bounds normalized unsat s′
     opaque-turn n ek lk h =
         subst (Collects t table ms seen order columns (set kept keeps n) (keeps + 1) lefts rights equals edges bounds normalized unsat)
@@ -282,23 +277,24 @@ module _ (t : Conjuncts) (table : List ColumnConstraints) (ms : List ℕ) (seen 
         (fn : (m : List ℕ) → Entered order₁ o seen₁ m → Entered order₂ o′ seen₂ (enter b m))
         (rb : (u : Conjuncts) (m : List ℕ) (T : ColumnTable) → Shows u table₁ m T → Shows u table₂ m (requireNonNull lined b T))
       where
-        pub equality-turn : k ≡ Equality a b n → edges < 130 → a < 64 → b < 64
+        pub equality-turn : k ≡ Equality a b n → edges < length lefts → edges < length rights → edges < length equals
+            → a < 64 → b < 64
             → Collects t table₂ ms seen₂ order₂ o′ kept keeps (set lefts edges a) (set rights edges b) (set equals edges n)
             (edges + 1) bounds normalized unsat s′
-        equality-turn ek le la lb =
+        equality-turn ek ll lr le la lb =
             subst (Collects t table₂ ms seen₂ order₂ o′ kept keeps (set lefts edges a) (set rights edges b) (set equals edges n)
             (edges + 1) bounds normalized unsat) (sym (es ∙ ap (λ m. collectOne lined (mapConjunct (onLine i) m) s) ek))
             (record {
               shows = rb t ms (requireNonNull lined a (s .constraints)) (ra t ms (s .constraints) (C .shows));
               entered = fn (enter a (s .order)) (en (s .order) (C .entered));
               keeping = C .keeping;
-              linked = edges-more lefts rights equals edges a b n (s .edges) (C .linked) le la lb;
+              linked = edges-more lefts rights equals edges a b n (s .edges) (C .linked) ll lr le la lb;
               bounded = C .bounded;
               turned = C .turned;
               stops = h;
             })
 
-        pub pair-turn : k ≡ NonNullPair n a b → keeps < 260
+        pub pair-turn : k ≡ NonNullPair n a b → keeps < length kept
             → Collects t table₂ ms seen₂ order₂ o′ (set kept keeps n) (keeps + 1) lefts rights equals edges bounds normalized unsat s′
         pair-turn ek lk =
             subst (Collects t table₂ ms seen₂ order₂ o′ (set kept keeps n) (keeps + 1) lefts rights equals edges bounds normalized unsat)

@@ -44,7 +44,7 @@ pub struct Collection {
 
 /// The column a enters; how many columns there are then.
 fn enter(seen: &mut [bool], order: &mut [u32], columns: usize, a: Column) -> usize
-    requires { ⌜ (a .0 < 64) × (columns < 260) × (length (now seen) ≡ 64) × (length (now order) ≡ 260) ⌝ }
+    requires { ⌜ (a .0 < 64) × (columns < length (now order)) × (columns < 256) × (length (now seen) ≡ 64) ⌝ }
     ensures { λ r. ⌜ ((l : List ℕ) → Entered (now (order .entry)) columns (now (seen .entry)) l →
         Entered (now (order .exit)) r (now (seen .exit)) (d.enter (a .0) l)) ⌝ }
     ensures { λ r. ⌜ r ≤ columns + 1 ⌝ }
@@ -82,7 +82,7 @@ fn with_null_line(mut d: ColumnConstraints, c: ColumnConstraints, j: u8) -> Colu
 }
 
 fn require_non_null(cells: &mut [u64], a: Column, j: u8)
-    requires { ⌜ (a .0 < 64) × (length (now cells) ≡ 704) ⌝ }
+    requires { ⌜ (a .0 < 64) × (length (now cells) ≡ 448) ⌝ }
     ensures { λ _. ⌜ ((t : Conjuncts) (marks : List ℕ) (T : ColumnTable) → Shows t (columnsOf (now (cells .entry))) marks T →
         Shows t (columnsOf (now (cells .exit))) marks (d.requireNonNull lined (a .0) T)) ⌝ }
     ensures { λ _. ⌜ length (now (cells .exit)) ≡ length (now (cells .entry)) ⌝ }
@@ -146,9 +146,9 @@ pub fn collect(
     equals: &mut [u32],
 ) -> Collection
     requires { ⌜ (n ≤ stride (now marks)) × (stride (now marks) ≤ 128) × (n ≤ length (now nodes))
-        × (length (now cells) ≡ 704) × (columnsOf (now cells) ≡ replicate 64 pastColumn) × (length (now order) ≡ 260)
-        × (length (now kept) ≡ 260) × (length (now lefts) ≡ 130) × (length (now rights) ≡ 130)
-        × (length (now equals) ≡ 130) ⌝ }
+        × (length (now cells) ≡ 448) × (columnsOf (now cells) ≡ replicate 64 pastColumn)
+        × (n + n ≤ length (now order)) × (n ≤ length (now kept)) × (n ≤ length (now lefts)) × (n ≤ length (now rights))
+        × (n ≤ length (now equals)) ⌝ }
     requires { ⌜ ((i : ℕ) → i < n → ToldConjunct (conjuncts (now kinds) (now values) (now starts) (now counts) (now pool)) i
         (m.classify (aexprOf (now rs) (now pool)) (getD (now nodes) i 0))) ⌝ }
     requires { ⌜ ((i : ℕ) → i < n → ColumnsBelow 64 (m.classify (aexprOf (now rs) (now pool)) (getD (now nodes) i 0))) ⌝ }
@@ -158,7 +158,7 @@ pub fn collect(
         (now (equals .exit)) (r .edges) (r .bounds) (r .normalized) (r .unsat)
         (collectTo (aexprOf (now (rs .entry)) (now (pool .entry))) (now (nodes .entry)) n)) ⌝ }
     ensures { λ r. ⌜ (r .columns ≤ n + n) × (r .keeps + r .edges ≤ n) × (r .bounds ≤ n)
-        × (length (now (cells .exit)) ≡ 704) × (length (now (marks .exit)) ≡ length (now (marks .entry)))
+        × (length (now (cells .exit)) ≡ 448) × (length (now (marks .exit)) ≡ length (now (marks .entry)))
         × NullLines (aexprOf (now (rs .entry)) (now (pool .entry))) (now (nodes .entry)) n (columnsOf (now (cells .exit))) ⌝ }
 {
     let mut seen = [false; 64];

@@ -22,10 +22,9 @@ use Rattle.column_table.specs.Words.{pastColumn, columnsOf}
 use Rattle.column_table.proofs.Encoding.{columns-size}
 use Rattle.column_table.specs.State.{columnAt, Shows, Fits, Entered, Keeps, Edges, edgesOf}
 
-pub keeps-more : (a : List ℕ) (n v : ℕ) (l : List ℕ) → n < 260 → Keeps a n l → Keeps (set a n v) (n + 1) (l ++ (v ∷ []))
+pub keeps-more : (a : List ℕ) (n v : ℕ) (l : List ℕ) → n < length a → Keeps a n l → Keeps (set a n v) (n + 1) (l ++ (v ∷ []))
 keeps-more a n v l h k =
-    let b : n < length a = rw (k .size) h in
-    record { size = length-set a n v ∙ k .size; listed = first-more a n v b ∙ ap (λ m. m ++ (v ∷ [])) (k .listed) }
+    record { listed = first-more a n v h ∙ ap (λ m. m ++ (v ∷ [])) (k .listed) }
 
 -- ---- a column number behind others
 pub is-in-snoc : (a b : ℕ) (l : List ℕ) → isIn a (l ++ (b ∷ [])) ≡ (isIn a l || eqb a b)
@@ -49,10 +48,7 @@ enter-known a b l = by-test (isIn b l) held new
 
 -- ---- a column enters
 module _ (order : List ℕ) (columns : ℕ) (seen : List Bool) (l : List ℕ) (a o : ℕ) (E : Entered order columns seen l)
-    (la : a < 64) (lc : columns < 260) where
-  abbrev here : columns < length order
-  here = rw (E .order-size) lc
-
+    (la : a < 64) (here : columns < length order) where
   known-more : (b : ℕ) → b < 64 → getD (set seen a true) b false ≡ isIn b (enter a l)
   known-more b h = by-test (eqb b a) same other
     where
@@ -82,7 +78,6 @@ module _ (order : List ℕ) (columns : ℕ) (seen : List Bool) (l : List ℕ) (a
   held : isIn a l ≡ true → Entered (set order columns a) columns (set seen a true) (enter a l)
   held e =
       record {
-        order-size = length-set order columns a ∙ E .order-size;
         seen-size = length-set seen a true ∙ E .seen-size;
         listed = first-kept order columns a columns (omega arith) ∙ E .listed ∙ sym (rw e);
         known = known-more;
@@ -93,7 +88,6 @@ module _ (order : List ℕ) (columns : ℕ) (seen : List Bool) (l : List ℕ) (a
   new : isIn a l ≡ false → Entered (set order columns a) (columns + 1) (set seen a true) (enter a l)
   new e =
       record {
-        order-size = length-set order columns a ∙ E .order-size;
         seen-size = length-set seen a true ∙ E .seen-size;
         listed = first-more order columns a here ∙ ap (λ m. m ++ (a ∷ [])) (E .listed) ∙ sym (rw e);
         known = known-more;
@@ -166,27 +160,25 @@ edges-kept x y z i a b n (suc m) h =
     )
 
 pub edges-more :
-    (x y z : List ℕ) (i a b n : ℕ) (l : List (ℕ × ℕ × ℕ)) → Edges x y z i l → i < 130 → a < 64 → b < 64 →
+    (x y z : List ℕ) (i a b n : ℕ) (l : List (ℕ × ℕ × ℕ)) → Edges x y z i l → i < length x → i < length y → i < length z →
+    a < 64 → b < 64 →
     Edges (set x i a) (set y i b) (set z i n) (i + 1) (l ++ ((a, b, n) ∷ []))
 unfolding edgesOf
-edges-more x y z i a b n l E h la lb =
+edges-more x y z i a b n l E hx hy hz la lb =
     record {
-      left-size = length-set x i a ∙ E .left-size;
-      right-size = length-set y i b ∙ E .right-size;
-      equal-size = length-set z i n ∙ E .equal-size;
       listed = rw (
         add-one,
         edges-kept x y z i a b n i (omega arith),
-        getD-set-same x i a 0 (rw (E .left-size) h),
-        getD-set-same y i b 0 (rw (E .right-size) h),
-        getD-set-same z i n 0 (rw (E .equal-size) h),
+        getD-set-same x i a 0 hx,
+        getD-set-same y i b 0 hy,
+        getD-set-same z i n 0 hz,
         E .listed,
       );
       low-left = λ e k. by-test (eqb e i)
-          (λ p. rw (eqb-true e i p, getD-set-same x i a 0 (rw (E .left-size) h)) la)
+          (λ p. rw (eqb-true e i p, getD-set-same x i a 0 hx) la)
           (λ p. let d = eqb-false e i p in rw (getD-set-other x i e a 0 d) (E .low-left e (omega (arith, k, d))));
       low-right = λ e k. by-test (eqb e i)
-          (λ p. rw (eqb-true e i p, getD-set-same y i b 0 (rw (E .right-size) h)) lb)
+          (λ p. rw (eqb-true e i p, getD-set-same y i b 0 hy) lb)
           (λ p. let d = eqb-false e i p in rw (getD-set-other y i e b 0 d) (E .low-right e (omega (arith, k, d))));
     }
 

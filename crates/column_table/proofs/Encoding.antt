@@ -2,7 +2,7 @@
 use mathlib.Core.Path.{_≡_, refl, sym, _∙_, ap, subst}
 use mathlib.Core.Bool.{Bool, true, false}
 use mathlib.Core.List.{List, [], _∷_, _++_}
-use Prim.Native.Nat.{ℕ, zero, suc, _+_, _*_, _<_}
+use Prim.Native.Nat.{ℕ, zero, suc, _+_, _*_, _/_, _%_, _<_}
 use native.Mathlib.Omega.{arith}
 use lib.ListN.{length, getD, set, replicate, getD-replicate, length-append, length-set, List·getD-append}
 use lib.Seq.{getD-set-same, getD-set-other, getD-append-add, ext-getD}
@@ -33,10 +33,61 @@ flag-back : (b : Bool) → eqb (flagWord b) 1 ≡ b
 flag-back true = refl
 flag-back false = refl
 
+kind-low : (b : Bound) → kindWord b < 4
+kind-low Absent = omega arith
+kind-low (Open s) = omega arith
+kind-low (Closed s) = omega arith
+
+null-low : (n : Nullability) → nullWord n < 4
+null-low Unconstrained = omega arith
+null-low Null = omega arith
+null-low NonNull = omega arith
+
+flag-low : (b : Bool) → flagWord b < 2
+flag-low true = omega arith
+flag-low false = omega arith
+
+-- Five small numbers in one word, each read back.
+module _ (l u n s d : ℕ) (hl : l < 4) (hu : u < 4) (hn : n < 4) (hs : s < 2) where
+  small-lower : (l + 4 * u + 16 * n + 64 * s + 128 * d) % 4 ≡ l
+  small-lower = omega (arith, hl)
+
+  small-upper : (l + 4 * u + 16 * n + 64 * s + 128 * d) / 4 % 4 ≡ u
+  small-upper = omega (arith, hl, hu)
+
+  small-null : (l + 4 * u + 16 * n + 64 * s + 128 * d) / 16 % 4 ≡ n
+  small-null = omega (arith, hl, hu, hn)
+
+  small-strict : (l + 4 * u + 16 * n + 64 * s + 128 * d) / 64 % 2 ≡ s
+  small-strict = omega (arith, hl, hu, hn, hs)
+
+  small-unsat : (l + 4 * u + 16 * n + 64 * s + 128 * d) / 128 ≡ d
+  small-unsat = omega (arith, hl, hu, hn, hs)
+
 pub words-back : (c : ColumnConstraints) → columnFrom (wordsOf c) ≡ c
 unfolding columnFrom wordsOf
 words-back c =
-    rw (bound-back (c .lower), bound-back (c .upper), flag-back (c .strict), null-back (c .nullability), flag-back (c .unsat))
+    let l = kindWord (c .lower) in
+    let u = kindWord (c .upper) in
+    let n = nullWord (c .nullability) in
+    let s = flagWord (c .strict) in
+    let d = flagWord (c .unsat) in
+    let hl = kind-low (c .lower) in
+    let hu = kind-low (c .upper) in
+    let hn = null-low (c .nullability) in
+    let hs = flag-low (c .strict) in
+    rw (
+      small-lower l u n s d hl hu hn hs,
+      small-upper l u n s d hl hu hn hs,
+      small-null l u n s d hl hu hn hs,
+      small-strict l u n s d hl hu hn hs,
+      small-unsat l u n s d hl hu hn hs,
+      bound-back (c .lower),
+      bound-back (c .upper),
+      flag-back (c .strict),
+      null-back (c .nullability),
+      flag-back (c .unsat),
+    )
 
 -- ---- the columns of a table
 pub columns-length : (ws : List ℕ) (n : ℕ) → length (columnsTo ws n) ≡ n
@@ -92,7 +143,7 @@ column-stored ws ws′ x c h K e = ext-getD pastColumn (columnsOf ws′) (set (c
         ∙ sym (getD-set-other (columnsOf ws) x i c pastColumn d))
 
 -- A table of zeros holds empty columns.
-pub columns-empty : columnsOf (replicate 704 0) ≡ replicate 64 pastColumn
+pub columns-empty : columnsOf (replicate 448 0) ≡ replicate 64 pastColumn
 unfolding columnsOf columnsTo columnFrom rowOf
 columns-empty = refl
 
@@ -106,23 +157,18 @@ pub loads-other : (ws ws′ : List ℕ) (x y : ℕ) (c : ColumnConstraints) → 
     → getD (columnsOf ws′) y pastColumn ≡ getD (columnsOf ws) y pastColumn
 loads-other ws ws′ x y c d e = ap (λ t. getD t y pastColumn) e ∙ getD-set-other (columnsOf ws) x y c pastColumn d
 
-pub loads-empty : (x : ℕ) → x < 64 → getD (columnsOf (replicate 704 0)) x pastColumn ≡ pastColumn
+pub loads-empty : (x : ℕ) → x < 64 → getD (columnsOf (replicate 448 0)) x pastColumn ≡ pastColumn
 loads-empty x h = ap (λ t. getD t x pastColumn) columns-empty ∙ getD-replicate 64 x pastColumn pastColumn h
 
--- ---- eleven words written
-pub eleven-set : (l : List ℕ) (a b c d e f g h i j k : ℕ) → length l ≡ 11
-    → set (set (set (set (set (set (set (set (set (set (set l 0 a) 1 b) 2 c) 3 d) 4 e) 5 f) 6 g) 7 h) 8 i) 9 j) 10 k
-    ≡ (a ∷ b ∷ c ∷ d ∷ e ∷ f ∷ g ∷ h ∷ i ∷ j ∷ k ∷ [])
-eleven-set [] a b c d e f g h i j k p = absurd (omega (arith, p))
-eleven-set (x0 ∷ []) a b c d e f g h i j k p = absurd (omega (arith, p))
-eleven-set (x0 ∷ x1 ∷ []) a b c d e f g h i j k p = absurd (omega (arith, p))
-eleven-set (x0 ∷ x1 ∷ x2 ∷ []) a b c d e f g h i j k p = absurd (omega (arith, p))
-eleven-set (x0 ∷ x1 ∷ x2 ∷ x3 ∷ []) a b c d e f g h i j k p = absurd (omega (arith, p))
-eleven-set (x0 ∷ x1 ∷ x2 ∷ x3 ∷ x4 ∷ []) a b c d e f g h i j k p = absurd (omega (arith, p))
-eleven-set (x0 ∷ x1 ∷ x2 ∷ x3 ∷ x4 ∷ x5 ∷ []) a b c d e f g h i j k p = absurd (omega (arith, p))
-eleven-set (x0 ∷ x1 ∷ x2 ∷ x3 ∷ x4 ∷ x5 ∷ x6 ∷ []) a b c d e f g h i j k p = absurd (omega (arith, p))
-eleven-set (x0 ∷ x1 ∷ x2 ∷ x3 ∷ x4 ∷ x5 ∷ x6 ∷ x7 ∷ []) a b c d e f g h i j k p = absurd (omega (arith, p))
-eleven-set (x0 ∷ x1 ∷ x2 ∷ x3 ∷ x4 ∷ x5 ∷ x6 ∷ x7 ∷ x8 ∷ []) a b c d e f g h i j k p = absurd (omega (arith, p))
-eleven-set (x0 ∷ x1 ∷ x2 ∷ x3 ∷ x4 ∷ x5 ∷ x6 ∷ x7 ∷ x8 ∷ x9 ∷ []) a b c d e f g h i j k p = absurd (omega (arith, p))
-eleven-set (x0 ∷ x1 ∷ x2 ∷ x3 ∷ x4 ∷ x5 ∷ x6 ∷ x7 ∷ x8 ∷ x9 ∷ x10 ∷ []) a b c d e f g h i j k p = refl
-eleven-set (x0 ∷ x1 ∷ x2 ∷ x3 ∷ x4 ∷ x5 ∷ x6 ∷ x7 ∷ x8 ∷ x9 ∷ x10 ∷ x11 ∷ l) a b c d e f g h i j k p = absurd (omega (arith, p))
+-- ---- seven words written
+pub seven-set : (l : List ℕ) (a b c d e f g : ℕ) → length l ≡ 7
+    → set (set (set (set (set (set (set l 0 a) 1 b) 2 c) 3 d) 4 e) 5 f) 6 g ≡ (a ∷ b ∷ c ∷ d ∷ e ∷ f ∷ g ∷ [])
+seven-set [] a b c d e f g p = absurd (omega (arith, p))
+seven-set (x0 ∷ []) a b c d e f g p = absurd (omega (arith, p))
+seven-set (x0 ∷ x1 ∷ []) a b c d e f g p = absurd (omega (arith, p))
+seven-set (x0 ∷ x1 ∷ x2 ∷ []) a b c d e f g p = absurd (omega (arith, p))
+seven-set (x0 ∷ x1 ∷ x2 ∷ x3 ∷ []) a b c d e f g p = absurd (omega (arith, p))
+seven-set (x0 ∷ x1 ∷ x2 ∷ x3 ∷ x4 ∷ []) a b c d e f g p = absurd (omega (arith, p))
+seven-set (x0 ∷ x1 ∷ x2 ∷ x3 ∷ x4 ∷ x5 ∷ []) a b c d e f g p = absurd (omega (arith, p))
+seven-set (x0 ∷ x1 ∷ x2 ∷ x3 ∷ x4 ∷ x5 ∷ x6 ∷ []) a b c d e f g p = refl
+seven-set (x0 ∷ x1 ∷ x2 ∷ x3 ∷ x4 ∷ x5 ∷ x6 ∷ x7 ∷ l) a b c d e f g p = absurd (omega (arith, p))

@@ -39,13 +39,12 @@ pub record Shows (t : Conjuncts) (table : List ColumnConstraints) (marks : List 
 
 -- What every stage asks of the words and the numbers, and leaves: the sizes, and fine numbers in every row.
 pub record Fits (cells marks : List ℕ) : Type 0 where
-  pub size : length cells ≡ 704
+  pub size : length cells ≡ 448
   pub narrow : stride marks ≤ 128
   pub fine : (a : ℕ) → a < 64 → Fine (stride marks) (rowOf marks a) (getD (columnsOf cells) a pastColumn .len)
 
 -- The columns that entered, in their order, and a flag for each that did.
 pub record Entered (order : List ℕ) (columns : ℕ) (seen : List Bool) (l : List ℕ) : Type 0 where
-  pub order-size : length order ≡ 260
   pub seen-size : length seen ≡ 64
   pub listed : firstOf order columns ≡ l
   pub known : (a : ℕ) → a < 64 → getD seen a false ≡ isIn a l
@@ -54,7 +53,6 @@ pub record Entered (order : List ℕ) (columns : ℕ) (seen : List Bool) (l : Li
 
 -- The kept nodes.
 pub record Keeps (kept : List ℕ) (keeps : ℕ) (l : List ℕ) : Type 0 where
-  pub size : length kept ≡ 260
   pub listed : firstOf kept keeps ≡ l
 
 -- The first n edges of three arrays.
@@ -64,9 +62,6 @@ edgesOf lefts rights equals (suc n) =
     edgesOf lefts rights equals n ++ ((getD lefts n 0, getD rights n 0, getD equals n 0) ∷ [])
 
 pub record Edges (lefts rights equals : List ℕ) (edges : ℕ) (l : List (ℕ × ℕ × ℕ)) : Type 0 where
-  pub left-size : length lefts ≡ 130
-  pub right-size : length rights ≡ 130
-  pub equal-size : length equals ≡ 130
   pub listed : edgesOf lefts rights equals edges ≡ l
   pub low-left : (e : ℕ) → e < edges → getD lefts e 0 < 64
   pub low-right : (e : ℕ) → e < edges → getD rights e 0 < 64

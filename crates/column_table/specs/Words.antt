@@ -1,7 +1,7 @@
--- A column as eleven words, and the table that a slice of 64 times eleven words stands for.
+-- A column as seven words, and the table that a slice of 64 times seven words stands for.
 use mathlib.Core.Bool.{Bool, true, false, cond}
 use mathlib.Core.List.{List, [], _∷_, _++_}
-use Prim.Native.Nat.{ℕ, zero, suc}
+use Prim.Native.Nat.{ℕ, zero, suc, _+_, _*_, _/_, _%_}
 use lib.ListN.{getD}
 use lib.Dec.{eqb}
 use Rattle.constraints.specs.declared.column.Nullability.{Nullability}
@@ -48,6 +48,11 @@ nullWord NonNull = 2
 abbrev pub flagWord : Bool → ℕ
 flagWord b = cond b 1 0
 
+-- The small numbers of a column in one word: two bits a kind, two for nullability, one a flag.
+abbrev pub smallWord : Bound → Bound → Nullability → Bool → Bool → ℕ
+smallWord lower upper nullability strict unsat =
+    kindWord lower + 4 * kindWord upper + 16 * nullWord nullability + 64 * flagWord strict + 128 * flagWord unsat
+
 abbrev pub limitFrom : ℕ → ℕ → Limit
 limitFrom v l = record { value = record { 0 = v }; line = l }
 
@@ -60,20 +65,19 @@ nullFrom w = cond (eqb w 0) Unconstrained (cond (eqb w 1) Null NonNull)
 unfoldable pub columnFrom : List ℕ → ColumnConstraints
 columnFrom w =
     record {
-      lower = boundFrom (getD w 0 0) (getD w 1 0) (getD w 8 0);
-      upper = boundFrom (getD w 2 0) (getD w 3 0) (getD w 9 0);
-      len = getD w 4 0;
-      strict = eqb (getD w 5 0) 1;
-      nullability = nullFrom (getD w 6 0);
-      since = getD w 10 0;
-      unsat = eqb (getD w 7 0) 1;
+      lower = boundFrom (getD w 0 0 % 4) (getD w 1 0) (getD w 4 0);
+      upper = boundFrom (getD w 0 0 / 4 % 4) (getD w 2 0) (getD w 5 0);
+      len = getD w 3 0;
+      strict = eqb (getD w 0 0 / 64 % 2) 1;
+      nullability = nullFrom (getD w 0 0 / 16 % 4);
+      since = getD w 6 0;
+      unsat = eqb (getD w 0 0 / 128) 1;
     }
 
 unfoldable pub wordsOf : ColumnConstraints → List ℕ
 wordsOf c =
-    kindWord (c .lower) ∷ valueWord (c .lower) ∷ kindWord (c .upper) ∷ valueWord (c .upper) ∷ c .len ∷
-    flagWord (c .strict) ∷ nullWord (c .nullability) ∷ flagWord (c .unsat) ∷ lineWord (c .lower) ∷ lineWord (c .upper) ∷
-    c .since ∷ []
+    smallWord (c .lower) (c .upper) (c .nullability) (c .strict) (c .unsat) ∷ valueWord (c .lower) ∷
+    valueWord (c .upper) ∷ c .len ∷ lineWord (c .lower) ∷ lineWord (c .upper) ∷ c .since ∷ []
 
 -- The first n columns of a table of words.
 unfoldable pub columnsTo : List ℕ → ℕ → List ColumnConstraints

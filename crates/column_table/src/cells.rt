@@ -1,4 +1,4 @@
-// A column of the table: 64 rows of eleven words in one slice.
+// A column of the table: 64 rows of seven words in one slice.
 ghost use mathlib.Core.Path.{_≡_};
 ghost use Prim.Native.Nat.{_<_};
 ghost use lib.ListN.{length, getD, set};
@@ -8,20 +8,20 @@ use crate::words::write_words;
 use column_constraints::column::ColumnConstraints;
 
 pub fn load(cells: &[u64], x: usize) -> ColumnConstraints
-    requires { ⌜ (x < 64) × (length (now cells) ≡ 704) ⌝ }
+    requires { ⌜ (x < 64) × (length (now cells) ≡ 448) ⌝ }
     ensures { λ r. ⌜ r ≡ getD (columnsOf (now (cells .entry))) x pastColumn ⌝ }
 {
-    let at = x * 11;
-    let end = at + 11;
+    let at = x * 7;
+    let end = at + 7;
     read_words(&cells[at..end])
 }
 
 pub fn store(cells: &mut [u64], x: usize, c: ColumnConstraints)
-    requires { ⌜ (x < 64) × (length (now cells) ≡ 704) ⌝ }
+    requires { ⌜ (x < 64) × (length (now cells) ≡ 448) ⌝ }
     ensures { λ _. ⌜ columnsOf (now (cells .exit)) ≡ set (columnsOf (now (cells .entry))) x c ⌝ }
     ensures { λ _. ⌜ length (now (cells .exit)) ≡ length (now (cells .entry)) ⌝ }
 {
-    let at = x * 11;
-    let end = at + 11;
+    let at = x * 7;
+    let end = at + 7;
     write_words(&mut cells[at..end], c);
 }

@@ -1,8 +1,11 @@
-// A column as eleven words: the lower bound's kind and value, the upper bound's, how many numbers, strict, nullability,
-// unsat, the lower bound's line, the upper bound's, the null requirement's. Eleven zeros are the empty column.
+// A column as seven words: one of small numbers (the bounds' kinds, nullability, strict, unsat), the lower bound's value, the
+// upper bound's, how many numbers, the lower bound's line, the upper bound's, the null requirement's. Seven zeros are the
+// empty column. The table is cleared for every screen, so a word less is time.
 ghost use mathlib.Core.Path.{_≡_};
+ghost use Prim.Native.Nat.{_<_};
 ghost use lib.ListN.{length};
-ghost use Rattle.column_table.specs.Words.{kindWord, valueWord, lineWord, nullWord, flagWord, boundFrom, nullFrom, columnFrom, wordsOf};
+ghost use Rattle.column_table.specs.Words.{kindWord, valueWord, lineWord, nullWord, flagWord, smallWord};
+ghost use Rattle.column_table.specs.Words.{boundFrom, nullFrom, columnFrom, wordsOf};
 use column_constraints::bound::Bound;
 use column_constraints::bound::Limit;
 use column_constraints::column::ColumnConstraints;
@@ -11,6 +14,7 @@ use truth::scalar::Scalar;
 
 fn bound_kind(b: Bound) -> u64
     ensures { λ r. ⌜ r ≡ kindWord b ⌝ }
+    ensures { λ r. ⌜ r < 4 ⌝ }
 {
     match b {
         Bound::Absent => 0,
@@ -57,6 +61,7 @@ fn bound_from(kind: u64, value: u64, line: u64) -> Bound
 
 fn nullability_word(n: Nullability) -> u64
     ensures { λ r. ⌜ r ≡ nullWord n ⌝ }
+    ensures { λ r. ⌜ r < 4 ⌝ }
 {
     match n {
         Nullability::Unconstrained => 0,
@@ -79,6 +84,7 @@ fn nullability_from(word: u64) -> Nullability
 
 fn flag_word(b: bool) -> u64
     ensures { λ r. ⌜ r ≡ flagWord b ⌝ }
+    ensures { λ r. ⌜ r < 2 ⌝ }
 {
     if b {
         return 1;
@@ -98,40 +104,48 @@ fn wide(x: usize) -> u64
     x as u64
 }
 
+fn small_word(low: Bound, upp: Bound, nul: Nullability, strict: bool, unsat: bool) -> u64
+    ensures { λ r. ⌜ r ≡ smallWord low upp nul strict unsat ⌝ }
+{
+    let l = bound_kind(low);
+    let u = bound_kind(upp);
+    let n = nullability_word(nul);
+    let s = flag_word(strict);
+    let d = flag_word(unsat);
+    l + 4 * u + 16 * n + 64 * s + 128 * d
+}
+
 pub fn read_words(words: &[u64]) -> ColumnConstraints
-    requires { ⌜ length (now words) ≡ 11 ⌝ }
+    requires { ⌜ length (now words) ≡ 7 ⌝ }
     ensures { λ r. ⌜ r ≡ columnFrom (now (words .entry)) ⌝ }
 {
-    let low = bound_from(words[0], words[1], words[8]);
-    let upp = bound_from(words[2], words[3], words[9]);
-    let nul = nullability_from(words[6]);
+    let small = words[0];
+    let low = bound_from(small % 4, words[1], words[4]);
+    let upp = bound_from(small / 4 % 4, words[2], words[5]);
+    let nul = nullability_from(small / 16 % 4);
     ColumnConstraints {
         lower: low,
         upper: upp,
-        len: narrow(words[4]),
-        strict: words[5] == 1,
+        len: narrow(words[3]),
+        strict: small / 64 % 2 == 1,
         nullability: nul,
-        since: words[10],
-        unsat: words[7] == 1,
+        since: words[6],
+        unsat: small / 128 == 1,
     }
 }
 
 pub fn write_words(words: &mut [u64], c: ColumnConstraints)
-    requires { ⌜ length (now words) ≡ 11 ⌝ }
+    requires { ⌜ length (now words) ≡ 7 ⌝ }
     ensures { λ _. ⌜ now (words .exit) ≡ wordsOf c ⌝ }
 {
     let low = c.lower;
     let upp = c.upper;
     let nul = c.nullability;
-    words[0] = bound_kind(low);
+    words[0] = small_word(low, upp, nul, c.strict, c.unsat);
     words[1] = bound_value(low);
-    words[2] = bound_kind(upp);
-    words[3] = bound_value(upp);
-    words[4] = wide(c.len);
-    words[5] = flag_word(c.strict);
-    words[6] = nullability_word(nul);
-    words[7] = flag_word(c.unsat);
-    words[8] = bound_line(low);
-    words[9] = bound_line(upp);
-    words[10] = c.since;
+    words[2] = bound_value(upp);
+    words[3] = wide(c.len);
+    words[4] = bound_line(low);
+    words[5] = bound_line(upp);
+    words[6] = c.since;
 }

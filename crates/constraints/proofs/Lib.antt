@@ -8,5 +8,7 @@ pub mod Resolved
 pub mod Facts
 pub mod Cases
 pub mod Carried
+pub mod SameComparisons
+pub mod SameWithin
 pub mod LineKept
 pub mod HoldsFirst

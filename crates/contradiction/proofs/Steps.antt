@@ -7,7 +7,7 @@ use Prim.Native.Nat.{ℕ, zero, suc, _+_, _<_, _≤_, _%_}
 use native.Mathlib.Omega.{arith}
 use native.Mathlib.Nat.{eq-or-lt-of-le}
 use lib.Dec.{eqb}
-use lib.ListN.{length, getD, set, replicate, length-replicate}
+use lib.ListN.{length, getD, set, replicate}
 use lib.Seq.{getD-set-same, getD-set-other}
 use Rattle.truth.specs.AExpr.{AExpr}
 use Rattle.truth.specs.FromBytes.{aexprOf}
@@ -95,9 +95,7 @@ pub told-none : (t : Conjuncts) (table : List ColumnConstraints) (ms labels : Li
     → table ≡ replicate 64 pastColumn → Shows t table ms (toldTo labels R nodes 0)
 unfolding told linesTo collectTo firstOf linesFrom
 told-none t table ms labels R nodes e =
-    collect-none t table ms R nodes (replicate 260 0) (replicate 260 0) (replicate 130 0) (replicate 130 0) (replicate 130 0)
-    e (length-replicate {A = ℕ} 260 0) (length-replicate {A = ℕ} 260 0) (length-replicate {A = ℕ} 130 0)
-    (length-replicate {A = ℕ} 130 0) (length-replicate {A = ℕ} 130 0) .shows
+    collect-none t table ms R nodes [] [] [] [] [] e .shows
 
 tell-snoc : (f : ℕ → ℕ) (l : List (Conjunct Lined)) (x : Conjunct Lined) (T : ColumnTable)
     → tellAll lined f (l ++ (x ∷ [])) T ≡ tellOne lined f x (tellAll lined f l T)

@@ -46,7 +46,7 @@ pub fn contradict(
     requires { ⌜ ((i : ℕ) → i < n → ColumnsBelow 64 (classify (aexprOf (now rs) (now p)) (getD (now nodes) i 0))) ⌝ }
     ensures { λ r. ⌜ r ≡ dead lined (collectTo (aexprOf (now (rs .entry)) (now (p .entry))) (now (nodes .entry)) n) ⌝ }
 {
-    let mut cells = [0u64; 704];
+    let mut cells = [0u64; 448];
     let mut labels = [0u32; 64];
     let mut order = [0u32; 64];
     number_columns(&mut labels);

@@ -39,7 +39,7 @@ fn label_of(labels: &[u32], a: Column) -> Column
 
 /// The column a is not null.
 fn tell_non_null(cells: &mut [u64], a: Column)
-    requires { ⌜ (a .0 < 64) × (length (now cells) ≡ 704) ⌝ }
+    requires { ⌜ (a .0 < 64) × (length (now cells) ≡ 448) ⌝ }
     ensures { λ _. ⌜ ((t : Conjuncts) (marks : List ℕ) (T : ColumnTable) → Shows t (columnsOf (now (cells .entry))) marks T →
         Shows t (columnsOf (now (cells .exit))) marks (d.requireNonNull lined (a .0) T)) ⌝ }
     ensures { λ _. ⌜ length (now (cells .exit)) ≡ length (now (cells .entry)) ⌝ }
@@ -154,7 +154,7 @@ pub fn tell_lines(
     marks: &mut [u8],
 ) -> bool
     requires { ⌜ (n ≤ stride (now marks)) × (stride (now marks) ≤ 128) × (n ≤ length (now nodes))
-        × (length (now cells) ≡ 704) × (columnsOf (now cells) ≡ replicate 64 pastColumn) × (length (now labels) ≡ 64)
+        × (length (now cells) ≡ 448) × (columnsOf (now cells) ≡ replicate 64 pastColumn) × (length (now labels) ≡ 64)
         × ((c : ℕ) → c < 64 → getD (now labels) c 0 < 64) ⌝ }
     requires { ⌜ ((i : ℕ) → i < n → ToldConjunct (conjuncts (now kinds) (now values) (now starts) (now counts) (now pool)) i
         (c.classify (aexprOf (now rs) (now pool)) (getD (now nodes) i 0))) ⌝ }

@@ -1,4 +1,2 @@
 pub mod Lists
-pub mod Parts
-pub mod Sizes
 pub mod Making

@@ -1,5 +1,4 @@
-// The blocks of a saved screen: document 02, 2.3. Bytes copied (copy), blocks written (block), and the structure of a
-// file that is read (structure). The checksum is a crate of its own.
+// The blocks of a saved screen: document 02, 2.3. Bytes copied (copy) and blocks written (block). The checksum and the structure of
+// a file that is read are crates of their own.
 pub mod block;
 pub mod copy;
-pub mod structure;

@@ -19,7 +19,7 @@ use Rattle.files.specs.declared.save.SaveAnswer.the-variants as save
 use Rattle.files.specs.declared.load.LoadAnswer.{LoadAnswer}
 use Rattle.files.specs.declared.load.LoadAnswer.the-variants as load
 use Rattle.file_blocks.specs.Format.{blocksFor, wordBytes, fileBlocks, fileOf, fileLength, overwrite}
-use Rattle.file_blocks.specs.Read.{structureOk, held, total, rootOf}
+use Rattle.file_structure.specs.Read.{structureOk, held, total, rootOf}
 use Rattle.files.specs.Answers.{saveIf, saveAnswer, savedBytes, saveBytes, roomOk, heldAnswer, loadIf, loadAnswer}
 use Rattle.files.specs.Answers.{loadedBytes}
 use Rattle.files.specs.RoundTrip.{Survives}

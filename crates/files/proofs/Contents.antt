@@ -15,10 +15,10 @@ use Rattle.records.specs.Bytes.{all}
 use Rattle.records.proofs.Laws.{and-left, and-right}
 use Rattle.records.proofs.Loops.{all-holds}
 use Rattle.file_blocks.specs.Format.{overwrite}
-use Rattle.file_blocks.specs.Read.{blockAt, blocksIn, kindOf, contentSize, contentOf, taken, heldTo, held}
-use Rattle.file_blocks.specs.Read.{checksumOk, numberOk, kindOk, countOk, unusedOk, blockOk, blocksOk}
+use Rattle.file_structure.specs.Read.{blockAt, blocksIn, kindOf, contentSize, contentOf, taken, heldTo, held}
+use Rattle.file_structure.specs.Read.{checksumOk, numberOk, kindOk, countOk, unusedOk, blockOk, blocksOk}
 use Rattle.file_blocks.proofs.Lists.{overwrite-more}
-use Rattle.file_blocks.proofs.Sizes.{content-fits}
+use Rattle.file_structure.proofs.Sizes.{content-fits}
 
 pub taken-none : (k : ℕ) (b : List ℕ) → (kindOf b ≡ k → ⊥) → taken k b ≡ []
 unfolding taken

@@ -17,7 +17,7 @@ use Rattle.records.specs.declared.record.Record.{Record}
 use Rattle.records.specs.declared.record.Record.the-variants as kind
 use Rattle.records.proofs.Laws.{and-right}
 use Rattle.record_check.specs.Fit.{typeOf, typeAt, typesOk}
-use Rattle.checking.specs.Check.{sizesOk, checkAnswer}
+use Rattle.checking.specs.Check.{sizesOk, sizesOkIn, checkAnswer}
 use Rattle.checking.specs.Checked.{CheckedRecord, Checked}
 use Rattle.checking.specs.declared.check.CheckAnswer.the-variants as check
 use Rattle.checking.proofs.Accepted.{Below, checked, checked-accepted, checked-used, checked-lent, inputs-below}
@@ -75,7 +75,7 @@ module _ (t rs p : List ℕ) (used root : ℕ) (ok : Checked t rs p used root) w
   record-front n h = ap decode (fields-front rs (16 * used) n (omega arith))
 
   sizes-front : sizesOk front p used ≡ true
-  unfolding sizesOk
+  unfolding sizesOkIn
   sizes-front =
       let l : length front ≡ 16 * used =
       length-take-le (16 * used) rs (checked-lent t rs p used root ok) in

@@ -12,16 +12,16 @@ use lib.ListN.{length, take, drop, length-append}
 use borrow.Author.Tests.{leb-true, eqb-true, eqb-false, lt-leb, ltb-true, ltb-false}
 use Rattle.records.proofs.Laws.{and-left, and-right, by-test, or-yes, or-no}
 use Rattle.records.specs.Bytes.{all}
-use Rattle.checking.specs.Check.{typesKnown, tableOk, sizesOk, recordsAnswer, checkAnswer}
+use Rattle.checking.specs.Check.{typesKnown, tableOk, tableOkIn, sizesOk, sizesOkIn, checkAnswer, checkAnswerIn}
 use Rattle.checking.specs.declared.check.CheckAnswer.{CheckAnswer}
 use Rattle.checking.specs.declared.check.CheckAnswer.the-variants as check
 use Rattle.files.specs.declared.load.LoadAnswer.the-variants as load
 use Rattle.file_blocks.specs.Format.{itemSize, overwrite}
-use Rattle.file_blocks.specs.Read.{blockAt, blocksIn, kindOf, countOf, contentSize, contentOf, taken, heldTo, held, rootOf}
-use Rattle.file_blocks.specs.Read.{countIf, totalTo, total, blockOk, blocksOk, orderOk, endsOk, usedOk, wholeOk, structureOk}
+use Rattle.file_structure.specs.Read.{blockAt, blocksIn, kindOf, countOf, contentSize, contentOf, taken, heldTo, held, rootOf}
+use Rattle.file_structure.specs.Read.{countIf, totalTo, total, blockOk, blocksOk, orderOk, endsOk, usedOk, wholeOk, structureOk}
 use Rattle.files.specs.Answers.{roomOk, heldAnswer, loadIf, loadAnswer}
 use Rattle.file_blocks.proofs.Lists.{overwrite-front}
-use Rattle.file_blocks.proofs.Parts.{length-block}
+use Rattle.file_structure.proofs.Parts.{length-block}
 use Rattle.files.proofs.Contents.{taken-none, taken-some, length-content, block-is-ok, block-fits}
 
 -- ---- the parts of number 15
@@ -107,7 +107,7 @@ module _ (f : List ℕ) (e : structureOk f ≡ true) where
 -- ---- limits that are passed before the records are looked at
 
 sizes-no : (rs p : List ℕ) (used : ℕ) → (ltb 4096 used || ltb 8192 (length p / 8)) ≡ true → sizesOk rs p used ≡ false
-unfolding sizesOk
+unfolding sizesOkIn
 sizes-no rs p used e =
     by-test (ltb 4096 used)
     (λ y. rw (lt-leb used 4096 (ltb-true 4096 used y)))
@@ -123,13 +123,13 @@ sizes-no rs p used e =
 
 -- a table of over 64 columns
 pub wide-table : (t rs p : List ℕ) (used root : ℕ) → 64 < length t → check.Refused 1 ≡ checkAnswer t rs p used root
-unfolding checkAnswer tableOk
+unfolding checkAnswerIn tableOkIn
 wide-table t rs p used root h = rw (lt-leb (length t) 64 h)
 
 -- records or values past their limits: the table alone says whether it is 1 or 2
 pub past-limits : (t a b rs p : List ℕ) (used root : ℕ) → (ltb 4096 used || ltb 8192 (length p / 8)) ≡ true
     → checkAnswer t a b 4097 0 ≡ checkAnswer t rs p used root
-unfolding checkAnswer
+unfolding checkAnswerIn
 past-limits t a b rs p used root e = rw (sizes-no a b 4097 refl, sizes-no rs p used e)
 
 -- ---- the checks of the screen held, from its copies

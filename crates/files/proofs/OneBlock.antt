@@ -15,9 +15,9 @@ use Rattle.records.proofs.Laws.{and-left, and-right}
 use Rattle.records.proofs.Loops.{all-true, all-holds}
 use Rattle.checksum.specs.Checksum.{checksum, cleared}
 use Rattle.file_blocks.specs.Format.{itemSize, capacity, sealed, unsealed, block}
-use Rattle.file_blocks.specs.Read.{kindOf, countOf, contentSize, contentOf, checksumOk, numberOk, kindOk, countOk, zerosFrom}
-use Rattle.file_blocks.specs.Read.{unusedOk, blockOk, taken}
-use Rattle.file_blocks.proofs.Sizes.{by-kind, kind-low, kind-high}
+use Rattle.file_structure.specs.Read.{kindOf, countOf, contentSize, contentOf, checksumOk, numberOk, kindOk, countOk, zerosFrom}
+use Rattle.file_structure.specs.Read.{unusedOk, blockOk, taken}
+use Rattle.file_structure.proofs.Sizes.{by-kind, kind-low, kind-high}
 use Rattle.files.proofs.Contents.{length-content, ok-checksum, ok-number, ok-kind, ok-unused, block-fits}
 
 zeros-read : (n i : ℕ) → getD (replicate {A = ℕ} n 0) i 0 ≡ 0

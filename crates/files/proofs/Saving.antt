@@ -10,7 +10,7 @@ use lib.ListN.{length, take, length-append}
 use lib.Seq.{length-take-le}
 use borrow.Author.Tests.{leb-true, eqb-true, le-leb, lt-leb}
 use Rattle.records.proofs.Laws.{and-left, and-right}
-use Rattle.checking.specs.Check.{typesKnown, tableOk, sizesOk, checkAnswer}
+use Rattle.checking.specs.Check.{typesKnown, tableOk, tableOkIn, sizesOk, sizesOkIn, checkAnswer}
 use Rattle.checking.specs.declared.check.CheckAnswer.the-variants as check
 use Rattle.checking.proofs.Accepted.{checked}
 use Rattle.checking.proofs.Sizes.{used-small, used-lent}
@@ -30,14 +30,14 @@ pub record Limits (t rs p : List ℕ) (used root : ℕ) : Type 0 where
   pub root-used : root < used
 
 pool-whole : (rs p : List ℕ) (used : ℕ) → sizesOk rs p used ≡ true → length p % 8 ≡ 0
-unfolding sizesOk
+unfolding sizesOkIn
 pool-whole rs p used e =
     let f = and-right (leb used 4096) (leb used (length rs / 16) && (eqb (length p % 8) 0 && leb (length p / 8) 8192)) e in
     let g = and-right (leb used (length rs / 16)) (eqb (length p % 8) 0 && leb (length p / 8) 8192) f in
     eqb-true (length p % 8) 0 (and-left (eqb (length p % 8) 0) (leb (length p / 8) 8192) g)
 
 pool-small : (rs p : List ℕ) (used : ℕ) → sizesOk rs p used ≡ true → length p ≤ 65536
-unfolding sizesOk
+unfolding sizesOkIn
 pool-small rs p used e =
     let w : length p % 8 ≡ 0 = pool-whole rs p used e in
     let f = and-right (leb used 4096) (leb used (length rs / 16) && (eqb (length p % 8) 0 && leb (length p / 8) 8192)) e in
@@ -47,7 +47,7 @@ pool-small rs p used e =
     omega arith
 
 table-small : (t : List ℕ) → tableOk t ≡ true → length t ≤ 64
-unfolding tableOk
+unfolding tableOkIn
 table-small t e = leb-true (length t) 64 (and-left (leb (length t) 64) (typesKnown t) e)
 
 pub limits : (t rs p : List ℕ) (used root : ℕ) → checkAnswer t rs p used root ≡ check.Accepted → Limits t rs p used root

@@ -7,7 +7,7 @@ use native.Mathlib.Omega.{arith}
 use lib.ListN.{length, take, drop, length-append, length-drop}
 use lib.Seq.{take-append-le, drop-append-le, take-all, take-at, drop-at, drop-drop, take-add, length-take-le}
 use Rattle.file_blocks.specs.Format.{block, piece, blocksFor, blocksTo}
-use Rattle.file_blocks.specs.Read.{blockAt}
+use Rattle.file_structure.specs.Read.{blockAt}
 
 -- ---- blocks of a file
 

@@ -18,8 +18,8 @@ use Rattle.checking.specs.declared.check.CheckAnswer.the-variants as check
 use Rattle.files.specs.declared.load.LoadAnswer.the-variants as load
 use Rattle.file_blocks.specs.Format.{itemSize, capacity, repeats, block, piece, blocksFor, blocksTo, wordBytes}
 use Rattle.file_blocks.specs.Format.{sealed, unsealed, fileBlocks, fileOf}
-use Rattle.file_blocks.specs.Read.{blockAt, blocksIn, kindOf, countOf, taken, heldTo, held, totalTo, total, blockOk}
-use Rattle.file_blocks.specs.Read.{followsOk, endOf, rootOf, wholeOk, blocksOk, orderOk, endsOk, usedOk, structureOk}
+use Rattle.file_structure.specs.Read.{blockAt, blocksIn, kindOf, countOf, taken, heldTo, held, totalTo, total, blockOk}
+use Rattle.file_structure.specs.Read.{followsOk, endOf, rootOf, wholeOk, blocksOk, orderOk, endsOk, usedOk, structureOk}
 use Rattle.files.specs.Answers.{roomOk, heldAnswer, loadAnswer}
 use Rattle.files.specs.RoundTrip.{Survives, ScreensSurvive}
 use Rattle.file_blocks.proofs.Making.{length-block, length-piece}

@@ -18,11 +18,11 @@ use Rattle.records.proofs.Laws.{and-left, and-right, by-test, or-no}
 use Rattle.records.proofs.Loops.{all-holds}
 use Rattle.checking.proofs.Bits.{lt-or-le}
 use Rattle.file_blocks.specs.Format.{itemSize, capacity, repeats, block, blocksFor, blocksTo, wordBytes, fileBlocks, fileOf}
-use Rattle.file_blocks.specs.Read.{blockAt, blocksIn, kindOf, countOf, contentSize, contentOf, taken, heldTo, held, total}
-use Rattle.file_blocks.specs.Read.{kindOk, countOk, blockOk, followsOk, orderOk, endOf, endsOk, usedOk, rootOf, structureOk}
+use Rattle.file_structure.specs.Read.{blockAt, blocksIn, kindOf, countOf, contentSize, contentOf, taken, heldTo, held, total}
+use Rattle.file_structure.specs.Read.{kindOk, countOk, blockOk, followsOk, orderOk, endOf, endsOk, usedOk, rootOf, structureOk}
 use Rattle.files.specs.RoundTrip.{FilesAreWritten}
-use Rattle.file_blocks.proofs.Parts.{block-byte, length-block}
-use Rattle.file_blocks.proofs.Sizes.{by-kind, kind-low, kind-high, count-high}
+use Rattle.file_structure.proofs.Parts.{block-byte, length-block}
+use Rattle.file_structure.proofs.Sizes.{by-kind, kind-low, kind-high, count-high}
 use Rattle.files.proofs.Contents.{taken-none, taken-some, length-content, ok-kind, ok-count, block-fits, block-is-ok}
 use Rattle.files.proofs.Loading.{ok-blocks, ok-order, ok-ends, ok-used, ok-length, ok-multiple, within, records-held}
 use Rattle.files.proofs.OneBlock.{is-block}

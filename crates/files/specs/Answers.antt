@@ -8,7 +8,7 @@ use Rattle.checking.specs.Check.{checkAnswer}
 use Rattle.checking.specs.declared.check.CheckAnswer.{CheckAnswer}
 use Rattle.checking.specs.declared.check.CheckAnswer.the-variants as check
 use Rattle.file_blocks.specs.Format.{fileOf, fileLength, overwrite}
-use Rattle.file_blocks.specs.Read.{structureOk, held, total, rootOf}
+use Rattle.file_structure.specs.Read.{structureOk, held, total, rootOf}
 use Rattle.files.specs.declared.save.SaveAnswer.{SaveAnswer}
 use Rattle.files.specs.declared.save.SaveAnswer.the-variants as save
 use Rattle.files.specs.declared.load.LoadAnswer.{LoadAnswer}

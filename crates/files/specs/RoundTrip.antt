@@ -10,7 +10,7 @@ use Rattle.checking.specs.declared.check.CheckAnswer.the-variants as check
 use Rattle.files.specs.declared.load.LoadAnswer.the-variants as load
 use Rattle.files.specs.declared.save.SaveAnswer.the-variants as save
 use Rattle.file_blocks.specs.Format.{fileOf}
-use Rattle.file_blocks.specs.Read.{structureOk, held, total, rootOf}
+use Rattle.file_structure.specs.Read.{structureOk, held, total, rootOf}
 use Rattle.files.specs.Answers.{loadAnswer, saveAnswer}
 
 -- The file f, loaded into buffers with room for it, gives the screen t, rs, p, used, root: the same table, the same used

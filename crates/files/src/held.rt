@@ -4,9 +4,9 @@ ghost use mathlib.Core.Bool.{true};
 ghost use Prim.Native.Nat.{_+_, _*_, _≤_};
 ghost use lib.ListN.{length};
 ghost use Rattle.file_blocks.specs.Format.{overwrite};
-ghost use Rattle.file_blocks.specs.Read.{contentSize, taken, held, blocksOk};
+ghost use Rattle.file_structure.specs.Read.{contentSize, taken, held, blocksOk};
 use file_blocks::copy::put;
-use file_blocks::structure::content_size;
+use file_structure::content_size;
 
 // The content of a block of this kind to byte `at` of `dst`; the byte behind it.
 fn take_block(kind: u8, b: &[u8], dst: &mut [u8], at: usize) -> usize

@@ -1,6 +1,6 @@
 // Screens on disk: document 02, 2.3.
-// Read in the order of the data's way: a screen saved (save); then what a file holds (held), a screen loaded (load). The
-// blocks of a file are crate `file_blocks`.
+// Read in the order of the data's way: what saving answers (save; the function is crate `save_screen`); then what a file holds
+// (held), a screen loaded (load). The blocks of a file are crate `file_blocks`, their structure crate `file_structure`.
 // Nothing is written before everything that can refuse was looked at.
 pub mod held;
 pub mod load;

@@ -6,14 +6,14 @@ ghost use Prim.Native.Nat.{_+_, _*_, _/_, _≤_};
 ghost use lib.Dec.{ltb, leb};
 ghost use lib.ListN.{length};
 ghost use Rattle.checking.specs.Check.{checkAnswer};
-ghost use Rattle.file_blocks.specs.Read.{structureOk, held, total, rootOf};
+ghost use Rattle.file_structure.specs.Read.{structureOk, held, total, rootOf};
 ghost use Rattle.files.specs.Answers.{heldAnswer, roomOk, loadAnswer, loadedBytes};
 use crate::held::gather;
 use checking::check::CheckAnswer;
 use checking::check::check_screen;
-use file_blocks::structure::end_word;
-use file_blocks::structure::structure_ok;
-use file_blocks::structure::total_of;
+use file_structure::end_word;
+use file_structure::structure_ok;
+use file_structure::total_of;
 
 // What loading answers: a refusal with its number, or the root and the totals of columns, records and values.
 pub enum LoadAnswer {

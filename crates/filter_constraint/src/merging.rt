@@ -20,6 +20,7 @@ ghost use Rattle.stages.specs.Columns.{ColumnsBelow};
 ghost use Rattle.reckoning.specs.Reckon.{reckonedAnswer};
 ghost use Rattle.stages.specs.Rows.{stride};
 ghost use Rattle.filter_constraint.specs.Explained.{nodesText};
+ghost use Rattle.filter_constraint.specs.Room.{Room};
 use crate::rebuild::rebuild;
 use collect_constraints::collect::collect;
 use merge::answer::RewriteAnswer;
@@ -43,7 +44,8 @@ fn with_passes(answer: RewriteAnswer, passes: usize, length: usize) -> Rewriting
 
 /// The first n of `nodes` are the screen's conjuncts; kinds, values, starts and counts are their tables, `trees` the
 /// tree counts of the records up to the root. `index` is the index of the lists, or has none. `marks` has room
-/// for the columns' numbers: 64 rows, n of them in each.
+/// for the columns' numbers: 64 rows, n of them in each. `order` has room for two columns a conjunct, `kept`, `lefts`,
+/// `rights` and `equals` for the conjuncts.
 pub fn merge_filter_constraints(
     t: &[u8],
     rs: &mut [u8],
@@ -58,10 +60,16 @@ pub fn merge_filter_constraints(
     counts: &[u32],
     index: &[u64],
     marks: &mut [u8],
+    order: &mut [u32],
+    kept: &mut [u32],
+    lefts: &mut [u32],
+    rights: &mut [u32],
+    equals: &mut [u32],
     reasons: &mut [u8],
 ) -> Rewriting
     requires { ⌜ (n ≤ stride (now marks)) × (stride (now marks) ≤ 128) × (used ≤ 4096) × (n ≤ length (now nodes))
         × Indexed (now starts) (now counts) (now p) (now index) ⌝ }
+    requires { ⌜ Room n (now order) (now kept) (now lefts) (now rights) (now equals) ⌝ }
     requires { ⌜ ((i : ℕ) → i < n → ToldConjunct (conjuncts (now kinds) (now values) (now starts) (now counts) (now p)) i
         (classify (aexprOf (now rs) (now p)) (getD (now nodes) i 0))) ⌝ }
     requires { ⌜ ((i : ℕ) → i < n → ColumnsBelow 64 (classify (aexprOf (now rs) (now p)) (getD (now nodes) i 0))) ⌝ }
@@ -78,12 +86,7 @@ pub fn merge_filter_constraints(
         (nodesText (now (rs .entry)) (now (p .entry)) (now (nodes .entry)) n) ⌝ }
     ensures { λ r. ⌜ r .length ≡ lengthIf (r .answer) (nodesText (now (rs .entry)) (now (p .entry)) (now (nodes .entry)) n) ⌝ }
 {
-    let mut cells = [0u64; 704];
-    let mut order = [0u32; 260];
-    let mut kept = [0u32; 260];
-    let mut lefts = [0u32; 130];
-    let mut rights = [0u32; 130];
-    let mut equals = [0u32; 130];
+    let mut cells = [0u64; 448];
     let s = collect(
         rs,
         p,
@@ -95,11 +98,11 @@ pub fn merge_filter_constraints(
         counts,
         &mut cells,
         marks,
-        &mut order,
-        &mut kept,
-        &mut lefts,
-        &mut rights,
-        &mut equals,
+        order,
+        kept,
+        lefts,
+        rights,
+        equals,
     );
     if s.unsat {
         return with_passes(nothing_passes(rs, used), 0, 0);
@@ -113,12 +116,12 @@ pub fn merge_filter_constraints(
         p,
         &mut cells,
         marks,
-        &lefts,
-        &rights,
+        lefts,
+        rights,
         s.edges,
         s.columns,
     );
-    let k = keep_equalities(&cells, &lefts, &equals, s.edges, &mut kept, s.keeps);
+    let k = keep_equalities(&cells, lefts, equals, s.edges, kept, s.keeps);
     let r = resolve_all(
         index,
         kinds,
@@ -128,7 +131,7 @@ pub fn merge_filter_constraints(
         p,
         &mut cells,
         marks,
-        &order,
+        order,
         s.columns,
     );
     if r.unsat {
@@ -146,9 +149,9 @@ pub fn merge_filter_constraints(
         values,
         &cells,
         marks,
-        &order,
+        order,
         s.columns,
-        &kept,
+        kept,
         k.keeps,
         r.total,
         reasons,

@@ -17,7 +17,8 @@ use Rattle.tally.specs.declared.Tally.{Tally}
 use Rattle.tally.specs.Sums.{sumsFit}
 use Rattle.hedge.specs.declared.list.HedgeAnswer.{HedgeAnswer}
 use Rattle.hedge.specs.declared.list.HedgeAnswer.the-variants as hedge
-use Rattle.chain_rows.specs.Chain.{passes, isFalse, isUnknown, count, numbers, bytesOf}
+use Rattle.chain_rows.specs.Chain.{passes, isFalse, isUnknown}
+use Rattle.row_list.specs.Numbers.{count, numbers, bytesOf}
 use Rattle.hedge.specs.Hedge.{sumsAnswer, countsAnswer}
 use Rattle.chain_rows.specs.Classes.{truthClass, classOf, Judged}
 

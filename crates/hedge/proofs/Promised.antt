@@ -9,7 +9,8 @@ use lib.ListN.{length}
 use Rattle.records.specs.Bytes.{all}
 use Rattle.checking.specs.Tree.{treeCount}
 use Rattle.row_test.specs.declared.test.RowAnswer.{RowAnswer}
-use Rattle.chain_rows.specs.Chain.{answerAt, passes, isFalse, isUnknown, isTested, count}
+use Rattle.chain_rows.specs.Chain.{answerAt, passes, isFalse, isUnknown, isTested}
+use Rattle.row_list.specs.Numbers.{count}
 use Rattle.checking.specs.Check.{checkAnswer}
 use Rattle.checking.specs.declared.check.CheckAnswer.{CheckAnswer}
 use Rattle.checking.specs.declared.check.CheckAnswer.the-variants as check

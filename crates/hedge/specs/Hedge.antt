@@ -15,7 +15,8 @@ use Rattle.tally.specs.declared.Tally.{Tally}
 use Rattle.tally.specs.Sums.{grown, sumsFit}
 use Rattle.hedge.specs.declared.list.HedgeAnswer.{HedgeAnswer}
 use Rattle.hedge.specs.declared.list.HedgeAnswer.the-variants.{Refused, Listed}
-use Rattle.chain_rows.specs.Chain.{answerAt, passes, isFalse, isUnknown, isTested, count, numbers, bytesOf}
+use Rattle.chain_rows.specs.Chain.{answerAt, passes, isFalse, isUnknown, isTested}
+use Rattle.row_list.specs.Numbers.{count, numbers, bytesOf}
 
 -- 21 "if a sum of the tally, or false and unknown together, would pass 64 bits unsigned"; else how many rows of the chain
 -- passed, were false, were unknown.

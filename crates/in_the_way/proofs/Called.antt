@@ -13,10 +13,11 @@ use Rattle.listed.proofs.Listed.{refusal-listed}
 use Rattle.truth.specs.FromBytes.{aexprAt}
 use Rattle.merge.specs.Minterms.{minterms}
 use Rattle.merge.specs.Plain.{plainScreen}
-use Rattle.in_the_way.specs.declared.answer.WayAnswer.{WayAnswer}
-use Rattle.in_the_way.specs.declared.answer.WayAnswer.the-variants as way
-use Rattle.in_the_way.specs.Lines.{without, nothingPasses, firstTrue}
-use Rattle.in_the_way.specs.Answer.{lineAnswer, wayChecked, wayIf, wayAnswer}
+use Rattle.judge_lines.specs.declared.answer.WayAnswer.{WayAnswer}
+use Rattle.judge_lines.specs.declared.answer.WayAnswer.the-variants as way
+use Rattle.judge_lines.specs.Lines.{without, nothingPasses, firstTrue}
+use Rattle.judge_lines.specs.Answer.{lineAnswer}
+use Rattle.way_answer.specs.Answer.{wayChecked, wayIf, wayAnswer}
 use Rattle.in_the_way.specs.Calls.{wayNumber, lineOut, wayListed, WayPromise}
 use Rattle.in_the_way.proofs.Promised.{promised}
 

@@ -1,6 +1,3 @@
-pub mod Ends
-pub mod LeftOut
-pub mod Answers
 pub mod Rows
 pub mod Promised
 pub mod Called

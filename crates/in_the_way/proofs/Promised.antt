@@ -20,12 +20,14 @@ use Rattle.truth.specs.AExpr.{AExpr}
 use Rattle.truth.specs.FromBytes.{aexprAt}
 use Rattle.merge.specs.Minterms.{minterms}
 use Rattle.merge.specs.Plain.{plainScreen}
-use Rattle.in_the_way.specs.declared.answer.WayAnswer.{WayAnswer}
-use Rattle.in_the_way.specs.declared.answer.WayAnswer.the-variants as way
-use Rattle.in_the_way.specs.Lines.{without, nothingPasses, firstTrue}
-use Rattle.in_the_way.specs.Answer.{lineAnswer, wayChecked, wayIf, wayAnswer}
+use Rattle.judge_lines.specs.declared.answer.WayAnswer.{WayAnswer}
+use Rattle.judge_lines.specs.declared.answer.WayAnswer.the-variants as way
+use Rattle.judge_lines.specs.Lines.{without, nothingPasses, firstTrue}
+use Rattle.judge_lines.specs.Answer.{lineAnswer}
+use Rattle.way_answer.specs.Answer.{wayChecked, wayIf, wayAnswer}
 use Rattle.in_the_way.specs.Calls.{wayNumber, lineOut, WayPromise}
-use Rattle.in_the_way.proofs.Rows.{screen-passes, screen-none, line-passes, line-none}
+use Rattle.judge_lines.proofs.Rows.{screen-passes, screen-none}
+use Rattle.in_the_way.proofs.Rows.{line-passes, line-none}
 
 -- ---- The first number of which f holds.
 first-at : (f : ℕ → Bool) (n : ℕ) → firstTrue f n < n → f (firstTrue f n) ≡ true

@@ -11,8 +11,8 @@ use Rattle.truth.specs.FromBytes.{aexprAt, truthIn}
 use Rattle.merge.specs.Minterms.{minterms}
 use Rattle.merge.specs.Plain.{plainScreen}
 use Rattle.merge.specs.Demand.{Row, IsRow, passes}
-use Rattle.in_the_way.specs.declared.answer.WayAnswer.{WayAnswer}
-use Rattle.in_the_way.specs.declared.answer.WayAnswer.the-variants as way
+use Rattle.judge_lines.specs.declared.answer.WayAnswer.{WayAnswer}
+use Rattle.judge_lines.specs.declared.answer.WayAnswer.the-variants as way
 
 -- 256 a row passes already, 257 the line is found, 258 no single line
 abbrev pub wayNumber : WayAnswer → ℕ

@@ -106,7 +106,7 @@ module _ (rows : ℕ) (keys : List ℕ) (at nulls w : ℕ) (value : ℕ → Opti
       )
 
 -- ---- two columns, at one row
-less-pair : (n : Bool) (k : ℕ) (v : Option ℤ) (n′ : Bool) (k′ : ℕ) (v′ : Option ℤ) → KeyAt n k v → KeyAt n′ k′ v′
+pub less-pair : (n : Bool) (k : ℕ) (v : Option ℤ) (n′ : Bool) (k′ : ℕ) (v′ : Option ℤ) → KeyAt n k v → KeyAt n′ k′ v′
     → ((ltb k k′ && not (n || n′)) ≡ isTrue (comparing Lt v v′)) × ((n || n′) ≡ isUnknown (comparing Lt v v′))
 less-pair n k v n′ k′ v′ (isNull e ev) second = rw (e, ev) (and-false (ltb k k′), refl)
 less-pair n k v n′ k′ v′ (isKey bits h e ek ev) (isNull e′ ev′) = rw (e, ev, e′, ev′) (and-false (ltb k k′), refl)
@@ -114,7 +114,7 @@ less-pair n k v n′ k′ v′ (isKey bits h e ek ev) (isKey bits′ h′ e′ e
     rw (e, ek, ev, e′, ek′, ev′, order-tests bits bits′ h h′ .0)
     (of-bool-true (isLess (order bits bits′)), of-bool-known (isLess (order bits bits′)))
 
-equal-pair : (n : Bool) (k : ℕ) (v : Option ℤ) (n′ : Bool) (k′ : ℕ) (v′ : Option ℤ) → KeyAt n k v → KeyAt n′ k′ v′
+pub equal-pair : (n : Bool) (k : ℕ) (v : Option ℤ) (n′ : Bool) (k′ : ℕ) (v′ : Option ℤ) → KeyAt n k v → KeyAt n′ k′ v′
     → ((eqb k k′ && not (n || n′)) ≡ isTrue (comparing Eq v v′)) × ((n || n′) ≡ isUnknown (comparing Eq v v′))
 equal-pair n k v n′ k′ v′ (isNull e ev) second = rw (e, ev) (and-false (eqb k k′), refl)
 equal-pair n k v n′ k′ v′ (isKey bits h e ek ev) (isNull e′ ev′) = rw (e, ev, e′, ev′) (and-false (eqb k k′), refl)

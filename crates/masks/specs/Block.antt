@@ -7,13 +7,14 @@ use Prim.Native.Nat.{ℕ, _+_, _*_, _^_, _≤_, _<_}
 use lib.Dec.{ltb, leb, eqb}
 use lib.IntN.{ℤ}
 use lib.ListN.{length, getD, take, drop}
+use Rattle.records.specs.Bytes.{valueAt}
 use Rattle.records.specs.Record.{fieldsAt, node}
 use Rattle.records.specs.declared.record.Fields.{Fields}
 use Rattle.records.specs.declared.record.Node.{Node}
 use Rattle.checking.specs.Columns.{bit}
 use Rattle.three_valued.specs.declared.logic.Truth.{Truth}
 use Rattle.truth.specs.Halves.{key, biasOf}
-use Rattle.truth.specs.FromBytes.{rowKeys}
+use Rattle.truth.specs.FromBytes.{nullMarked, rowKeys}
 use Rattle.truth.specs.Evaluate.{rowTruth, rowValue, holdsKey, Evaluable}
 use Rattle.masks.specs.declared.Masks.{Masks}
 use Rattle.masks.specs.Masks.{Tells}
@@ -25,6 +26,22 @@ chainRow columns values r = take (8 * columns) (drop (8 * columns * r) values)
 -- Column c of row r.
 unfoldable pub chainValue : ℕ → List ℕ → List ℕ → ℕ → ℕ → Option ℤ
 chainValue columns values nulls c r = rowKeys (take (8 * columns) (drop (8 * columns * r) values)) (getD nulls r 0) c
+
+-- Its 64 bits as they stand, in row i of a block.
+unfoldable pub cellOf : ℕ → List ℕ → ℕ → ℕ → ℕ → ℕ
+cellOf columns values c base i = valueAt values (columns * (base + i) + c)
+
+-- They are 64 bits, in the rows of the block from `from` on.
+unfoldable pub Wide : ℕ → List ℕ → ℕ → ℕ → ℕ → ℕ → Type 0
+Wide columns values c base from rows = (i : ℕ) → from ≤ i → i < rows → cellOf columns values c base i < 2 ^ 64
+
+-- The bits of m say in which rows of a block column c is null.
+unfoldable pub NullWord : List ℕ → ℕ → ℕ → ℕ → ℕ → Type 0
+NullWord nulls c base rows m = (i : ℕ) → i < 64 → i < rows → bit m i ≡ nullMarked (getD nulls (base + i) 0) c
+
+-- A word for each column.
+unfoldable pub NullWords : List ℕ → ℕ → ℕ → ℕ → List ℕ → Type 0
+NullWords nulls columns base rows words = (c : ℕ) → c < columns → NullWord nulls c base rows (getD words c 0)
 
 -- The truth, and the value, that the row test gives of row r and record n.
 unfoldable pub chainTruth : List ℕ → List ℕ → ℕ → List ℕ → List ℕ → ℕ → ℕ → Truth
@@ -79,6 +96,13 @@ pub record Turn (rs p : List ℕ) (columns : ℕ) (values nulls : List ℕ) (bas
   pub unknowns-room : n .0 < length unknowns
   pub fields : f ≡ fieldsAt rs n
   pub kept : isKept f ≡ true
+
+-- A column compared with a literal, by an operator that gives unknown for null, between two literals, or tested for null.
+pub record Line (rs : List ℕ) (f : Fields) : Type 0 where
+  pub column : fieldsAt rs (node (f .a)) .kind ≡ 1
+  pub compared : f .kind ≡ 4 → (f .code < 8) × (f .code ≡ 1 → ⊥) × (f .code ≡ 3 → ⊥) × (fieldsAt rs (node (f .b)) .kind ≡ 2)
+  pub ranged : f .kind ≡ 8 → (fieldsAt rs (node (f .b)) .kind ≡ 2) × (fieldsAt rs (node (f .c)) .kind ≡ 2)
+  pub tested : (f .kind ≡ 4 → ⊥) → (f .kind ≡ 8 → ⊥) → (5 < f .kind) × (f .kind < 8)
 
 -- From `from` on up to the root, the inputs of every kept record that is marked are marked.
 unfoldable pub Closed : List ℕ → List ℕ → ℕ → ℕ → Type 0

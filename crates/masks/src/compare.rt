@@ -73,13 +73,13 @@ pub fn connect_masks(code: u8, x: Masks, y: Masks) -> Masks
     }
 }
 
-fn low_code(code: u8) -> u8
+pub fn low_code(code: u8) -> u8
     ensures { λ r. ⌜ r ≡ lowCode code ⌝ }
 {
     if code <= 1 { 7 } else { 6 }
 }
 
-fn high_code(code: u8) -> u8
+pub fn high_code(code: u8) -> u8
     ensures { λ r. ⌜ r ≡ highCode code ⌝ }
 {
     if (code == 0) | (code == 2) { 5 } else { 4 }

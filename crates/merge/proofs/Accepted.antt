@@ -6,7 +6,7 @@ use Prim.Native.Nat.{ℕ, _<_}
 use lib.Dec.{ltb}
 use borrow.Author.Tests.{ltb-true}
 use Rattle.records.specs.Record.{node, recordAt}
-use Rattle.record_check.specs.Fit.{reachOk}
+use Rattle.record_check.specs.Fit.{reachOk, reachOkIn}
 use Rattle.checking.specs.Checked.{Checked}
 use Rattle.records.specs.declared.operator.Operator.{Operator}
 use Rattle.records.specs.declared.operator.Operator.the-variants as operator
@@ -64,7 +64,7 @@ three n x y z h =
     (ltb-true x n (q .0), s .0, s .1)
 
 inputs-below : (t p : List ℕ) (n : ℕ) (r : Record) → reachOk t p r (node n) ≡ true → Inputs n (toAExpr p r)
-unfolding reachOk
+unfolding reachOkIn
 inputs-below t p n kind.Invalid h = tt
 inputs-below t p n (kind.Column c) h = tt
 inputs-below t p n (kind.Literal ty v) h = tt

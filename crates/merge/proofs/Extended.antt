@@ -9,16 +9,16 @@ use lib.ListN.{length, getD}
 use borrow.Author.Tests.{lt-ltb, eq-eqb, ltb-true, ltb-false, leb-true}
 use Rattle.records.specs.Bytes.{all}
 use Rattle.records.specs.Record.{node, fieldsAt, decode, recordAt, encode}
-use Rattle.records.specs.Shape.{knownType, inType, maxCode, uses, knownOk, zeroOr, unusedOk}
-use Rattle.records.specs.Shape.{literalOk, shapeOk}
+use Rattle.records.specs.Shape.{knownType, knownTypeIn, inType, inTypeIn, maxCode, uses, knownOkIn, zeroOr, unusedOk}
+use Rattle.records.specs.Shape.{literalOkIn, shapeOk, shapeOkIn}
 use Rattle.records.specs.declared.record.Node.{Node}
 use Rattle.records.specs.declared.record.Record.{Record}
 use Rattle.records.specs.declared.record.Record.the-variants as kind
 use Rattle.records.proofs.Laws.{and-left, and-right, by-test}
 use Rattle.records.proofs.Loops.{all-holds}
 use Rattle.records.proofs.RoundTrips.{decode-encode}
-use Rattle.record_check.specs.Fit.{reachOk, servedOk, typeOf, typeAt, sameType, binaryFits, typesOk}
-use Rattle.checking.specs.Check.{typesKnown, tableOk}
+use Rattle.record_check.specs.Fit.{reachOk, reachOkIn, servedOk, typeOf, typeAt, sameType, binaryFits, typesOk}
+use Rattle.checking.specs.Check.{typesKnown, typesKnownIn, tableOk, tableOkIn}
 use Rattle.checking.specs.Checked.{CheckedRecord}
 use Rattle.truth.specs.Comparison.{Comparison, Eq, NotEq, Lt, LtEq, Gt, GtEq}
 use Rattle.constraints.specs.Comparisons.{ColumnComparison}
@@ -52,7 +52,7 @@ module _ (t rs out p : List ℕ) (n : ℕ) (same : SameBelow rs out n) where
   type-same x h = ap (typeOf t) (same (x .0) h)
 
   types-same : (r : Record) → reachOk t p r (node n) ≡ true → typesOk t out r ≡ typesOk t rs r
-  unfolding reachOk typesOk
+  unfolding reachOkIn typesOk
   types-same kind.Invalid h = refl
   types-same (kind.Column c) h = refl
   types-same (kind.Literal ty v) h = refl
@@ -159,7 +159,7 @@ put-extends t rs p u r room h new =
 
 -- ---- The four records that a rebuilt chain writes.
 column-new : (t rs p : List ℕ) (u c : ℕ) → c < length t → c < 4294967296 → New t rs p u (columnRecord c)
-unfolding encode shapeOk knownOk unusedOk literalOk maxCode zeroOr uses reachOk servedOk typesOk
+unfolding encode shapeOkIn knownOkIn unusedOk literalOkIn maxCode zeroOr uses reachOkIn servedOk typesOk
 column-new t rs p u c h w =
     record {
       words = column-words c w;
@@ -172,7 +172,7 @@ column-new t rs p u c h w =
 literal-new :
     (t rs p : List ℕ) (u ty v : ℕ) → knownType ty ≡ true → inType ty v ≡ true → v < 18446744073709551616 →
     New t rs p u (literalRecord ty v)
-unfolding encode shapeOk knownOk unusedOk literalOk maxCode zeroOr uses reachOk servedOk typesOk
+unfolding encode shapeOkIn knownOkIn unusedOk literalOkIn maxCode zeroOr uses reachOkIn servedOk typesOk
 literal-new t rs p u ty v known h w =
     let e : v % 4294967296 + 4294967296 * (v / 4294967296) ≡ v = omega arith in
     record {
@@ -185,14 +185,14 @@ literal-new t rs p u ty v known h w =
 
 -- a type that is known is over 0
 over-zero : (ty : ℕ) → knownType ty ≡ true → ltb 0 ty ≡ true
-unfolding knownType
+unfolding knownTypeIn
 over-zero ty h = let l : 1 ≤ ty = leb-true 1 ty (and-left _ _ h) in lt-ltb 0 ty (omega arith)
 
 comparison-new :
     (t rs p : List ℕ) (u : ℕ) (o : Comparison) (x y ty : ℕ) → x < u → y < u → u < 4294967296 →
     knownType ty ≡ true → typeAt t rs (node x) ≡ ty → typeAt t rs (node y) ≡ ty →
     New t rs p u (comparisonRecord o x y)
-unfolding encode shapeOk knownOk unusedOk literalOk maxCode zeroOr uses reachOk servedOk typesOk
+unfolding encode shapeOkIn knownOkIn unusedOk literalOkIn maxCode zeroOr uses reachOkIn servedOk typesOk
     binaryFits sameType
 comparison-new t rs p u o x y ty i j small known a b =
     record {
@@ -236,7 +236,7 @@ comparison-new t rs p u o x y ty i j small known a b =
 and-new :
     (t rs p : List ℕ) (u x y : ℕ) → x < u → y < u → u < 4294967296 → typeAt t rs (node x) ≡ 3 →
     typeAt t rs (node y) ≡ 3 → New t rs p u (andRecord x y)
-unfolding encode shapeOk knownOk unusedOk literalOk maxCode zeroOr uses reachOk servedOk typesOk
+unfolding encode shapeOkIn knownOkIn unusedOk literalOkIn maxCode zeroOr uses reachOkIn servedOk typesOk
     binaryFits
 and-new t rs p u x y i j small a b =
     record {
@@ -273,7 +273,7 @@ comparison-truth t GtEq x y = refl
 
 module _ (t p : List ℕ) (table : tableOk t ≡ true) where
   known : (c : ℕ) → c < length t → knownType (getD t c 0) ≡ true
-  unfolding tableOk typesKnown
+  unfolding tableOkIn typesKnownIn
   known c h =
       all-holds (λ (k : ℕ). knownType (getD t k 0)) c (length t) h (and-right (leb (length t) 64) _ table)
 
@@ -417,5 +417,5 @@ module _ (t p : List ℕ) where
 
 -- The false literal of "nothing passes".
 pub false-new : (t rs p : List ℕ) (u : ℕ) → New t rs p u (literalRecord 3 0)
-unfolding knownType inType
+unfolding knownTypeIn inTypeIn
 false-new t rs p u = literal-new t rs p u 3 0 refl refl (omega arith)

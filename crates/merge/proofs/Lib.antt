@@ -19,12 +19,15 @@ pub mod Passes
 pub mod PassesEnd
 pub mod PlainForms
 pub mod ReadBack
+pub mod ReadMapped
 pub mod Readings
 pub mod Rebuilding
 pub mod RebuiltBytes
 pub mod RebuiltChain
 pub mod Reread
 pub mod Returned
+pub mod Translated
+pub mod SameWithin
 pub mod Settled
 pub mod Smallest
 pub mod Sound

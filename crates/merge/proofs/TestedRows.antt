@@ -11,7 +11,7 @@ use lib.IntN.{ℤ}
 use lib.ListN.{length, getD}
 use borrow.Author.Tests.{leb-true}
 use Rattle.records.specs.Bytes.{valueAt, all}
-use Rattle.records.specs.Shape.{inType}
+use Rattle.records.specs.Shape.{inType, inTypeIn}
 use Rattle.truth.specs.AExpr.{AExpr}
 use Rattle.truth.specs.Halves.{key}
 use Rattle.truth.specs.FromBytes.{nullMarked, rowKeys}
@@ -28,7 +28,7 @@ truth-key (suc (suc v)) h = absurd (omega arith)
 
 -- A value of a column that is neither Int nor Day is 0 or 1.
 of-truth : (ty v : ℕ) → (eqb ty 1 || eqb ty 2) ≡ false → inType ty v ≡ true → v ≤ 1
-unfolding inType
+unfolding inTypeIn
 of-truth ty v n h =
     let e = or-no (eqb ty 1) (eqb ty 2) n in
     leb-true v 1 (rw (e .0, e .1) at h)

@@ -10,12 +10,12 @@ use lib.ListN.{length, getD}
 use borrow.Author.Tests.{ltb-true, lt-ltb, eqb-true}
 use Rattle.records.specs.Operator.{isComparison, isDivision}
 use Rattle.records.specs.Record.{node, fieldsAt, decode, recordAt}
-use Rattle.records.specs.Shape.{inType, knownOk, unusedOk, literalOk, shapeOk}
+use Rattle.records.specs.Shape.{inType, knownOkIn, unusedOk, literalOkIn, shapeOk, shapeOkIn}
 use Rattle.records.specs.declared.operator.Operator.{Operator}
 use Rattle.records.specs.declared.record.Fields.{Fields}
 use Rattle.records.specs.declared.record.Record.{Record}
 use Rattle.records.specs.declared.record.Record.the-variants as kind
-use Rattle.record_check.specs.Fit.{reachOk, typeOf, typeAt, sameType, binaryFits, betweenFits, typesOk}
+use Rattle.record_check.specs.Fit.{reachOk, reachOkIn, typeOf, typeAt, sameType, binaryFits, betweenFits, typesOk}
 use Rattle.checking.specs.Checked.{Checked}
 use Rattle.truth.specs.AExpr.{AExpr, Missing}
 use Rattle.truth.specs.FromBytes.{toAExpr, valuesFrom, aexprOf, aexprAt, truthKeys}
@@ -54,9 +54,9 @@ pick true x y h k = h refl
 pick false x y h k = k
 
 literal-typed : (f : Fields) → shapeOk f ≡ true → LiteralT (decode f)
-unfolding shapeOk literalOk decode
+unfolding shapeOkIn literalOkIn decode
 literal-typed f h =
-    let l = both (unusedOk f) (literalOk f) (both (knownOk f) (unusedOk f && literalOk f) h .1) .1 in
+    let l = both (unusedOk f) (literalOkIn 0 f) (both (knownOkIn 0 f) (unusedOk f && literalOkIn 0 f) h .1) .1 in
     pick (eqb (f .kind) 1) _ _ (λ e. tt)
     (pick (eqb (f .kind) 2) _ _ (λ e. rw e at l)
     (pick (eqb (f .kind) 3) _ _ (λ e. tt)
@@ -107,7 +107,7 @@ module _ (t : List ℕ) where
   operand-typed :
       (p : List ℕ) (n : ℕ) (r : Record) → reachOk t p r (node n) ≡ true → LiteralT r →
       OperandT (typeOf t r) (operand (toAExpr p r))
-  unfolding reachOk typeOf
+  unfolding reachOkIn typeOf
   operand-typed p n kind.Invalid h l = tt
   operand-typed p n (kind.Column c) h l = (ltb-true (c .0) (length t) h, refl)
   operand-typed p n (kind.Literal ty v) h l = l
@@ -193,7 +193,7 @@ module _ (t rs p : List ℕ) (used root : ℕ) (ok : Checked t rs p used root) w
   record-typed :
       (n : ℕ) → n < used → (r : Record) → reachOk t p r (node n) ≡ true → typesOk t rs r ≡ true →
       RecordP payload (InColumn t) (opens t) R (toAExpr p r)
-  unfolding reachOk typesOk betweenFits
+  unfolding reachOkIn typesOk betweenFits
   record-typed n l kind.Invalid h k = tt
   record-typed n l (kind.Column c) h k = tt
   record-typed n l (kind.Literal ty v) h k = tt
@@ -235,7 +235,7 @@ module _ (t rs p : List ℕ) (used root : ℕ) (ok : Checked t rs p used root) w
   sides-truths :
       (n : ℕ) → n < used → (r : Record) → reachOk t p r (node n) ≡ true → typesOk t rs r ≡ true →
       Sides IsTruth (andSides (toAExpr p r))
-  unfolding reachOk typesOk
+  unfolding reachOkIn typesOk
   sides-truths n l kind.Invalid h k = tt
   sides-truths n l (kind.Column c) h k = tt
   sides-truths n l (kind.Literal ty v) h k = tt

@@ -8,7 +8,7 @@ use lib.Dec.{eqb, ltb, leb}
 use lib.ListN.{length}
 use borrow.Author.Tests.{le-ltb, ltb-false, leb-true, le-leb, eqb-true}
 use Rattle.record_check.specs.Fit.{typeOf}
-use Rattle.checking.specs.Check.{sizesOk, checkAnswer}
+use Rattle.checking.specs.Check.{sizesOk, sizesOkIn, checkAnswer}
 use Rattle.checking.specs.Checked.{Checked}
 use Rattle.checking.specs.Tree.{treeCount}
 use Rattle.checking.specs.declared.check.CheckAnswer.{CheckAnswer}
@@ -48,7 +48,7 @@ use Rattle.merge.proofs.Types.{IsTruth, kept-truths, written-typed}
 sizes-of :
     (rs out p : List ℕ) (used used′ : ℕ) → sizesOk rs p used ≡ true → length out ≡ length rs → used′ ≤ 4096 →
     16 * used′ ≤ length rs → sizesOk out p used′ ≡ true
-unfolding sizesOk
+unfolding sizesOkIn
 sizes-of rs out p used used′ h e few room =
     let a = and-yes (leb used 4096) (leb used (length rs / 16) && pool) h .1 in
     let b = and-yes (leb used (length rs / 16)) pool a .1 in

@@ -3,15 +3,15 @@
 use mathlib.Core.Path.{_≡_, refl}
 use mathlib.Core.List.{map}
 use Rattle.records.specs.Bytes.{word, valueAt, all, first}
-use Rattle.checking.specs.Check.{typesKnown, tableOk, sizesOk, meaningFault, recordFault, firstFault, recordsAnswer}
-use Rattle.checking.specs.Check.{checkAnswer}
+use Rattle.checking.specs.Check.{typesKnown, typesKnownIn, tableOk, tableOkIn, sizesOk, sizesOkIn, meaningFaultIn, recordFault, recordFaultIn, firstFaultIn, recordsAnswerIn}
+use Rattle.checking.specs.Check.{checkAnswer, checkAnswerIn}
 use Rattle.records.specs.Course.{upTo, course}
-use Rattle.record_check.specs.Fit.{allFit, listOk, reachOk, servedOk, typeOf, typeAt, sameType, binaryFits}
+use Rattle.record_check.specs.Fit.{allFit, allFitIn, listOk, listOkIn, reachOk, reachOkIn, servedOk, typeOf, typeAt, sameType, binaryFits}
 use Rattle.record_check.specs.Fit.{betweenFits, memberFits, typesOk}
 use Rattle.records.specs.Operator.{operatorAt}
 use Rattle.records.specs.Record.{fieldsAt, closedAt, decode, recordAt, encode}
-use Rattle.records.specs.Shape.{knownType, inType, maxCode, uses, knownOk, zeroOr, unusedOk}
-use Rattle.records.specs.Shape.{literalOk, shapeOk}
+use Rattle.records.specs.Shape.{knownType, knownTypeIn, inType, inTypeIn, maxCode, uses, knownOkIn, zeroOr, unusedOk}
+use Rattle.records.specs.Shape.{literalOkIn, shapeOk, shapeOkIn}
 use Rattle.truth.specs.FromBytes.{valuesFrom, aexprOf, aexprAt, rowKeys}
 use Rattle.merge.specs.Rewrite.{rewriteAnswer, rewriteBytes}
 use Rattle.merge.specs.Write.{splice}
@@ -20,26 +20,26 @@ use Rattle.merge.specs.Passes.{rewritePasses}
 use Rattle.merge_cases.specs.Cases.{starred, further, negatedLines, yielded, due, passesCases, passesYielded}
 
 pub starred-cases : map yielded starred ≡ map due starred
-unfolding payload word valueAt all first typesKnown tableOk sizesOk meaningFault recordFault firstFault recordsAnswer
-    checkAnswer upTo course allFit listOk reachOk servedOk typeOf typeAt sameType binaryFits betweenFits
-    memberFits typesOk operatorAt fieldsAt closedAt decode recordAt encode knownType inType maxCode uses
-    knownOk zeroOr unusedOk literalOk shapeOk valuesFrom aexprOf aexprAt rowKeys rewriteAnswer rewriteBytes
+unfolding payload word valueAt all first typesKnownIn tableOkIn sizesOkIn meaningFaultIn recordFaultIn firstFaultIn recordsAnswerIn
+    checkAnswerIn upTo course allFitIn listOkIn reachOkIn servedOk typeOf typeAt sameType binaryFits betweenFits
+    memberFits typesOk operatorAt fieldsAt closedAt decode recordAt encode knownTypeIn inTypeIn maxCode uses
+    knownOkIn zeroOr unusedOk literalOkIn shapeOkIn valuesFrom aexprOf aexprAt rowKeys rewriteAnswer rewriteBytes
     splice
 starred-cases = refl
 
 pub further-cases : map yielded further ≡ map due further
-unfolding payload word valueAt all first typesKnown tableOk sizesOk meaningFault recordFault firstFault recordsAnswer
-    checkAnswer upTo course allFit listOk reachOk servedOk typeOf typeAt sameType binaryFits betweenFits
-    memberFits typesOk operatorAt fieldsAt closedAt decode recordAt encode knownType inType maxCode uses
-    knownOk zeroOr unusedOk literalOk shapeOk valuesFrom aexprOf aexprAt rowKeys rewriteAnswer rewriteBytes
+unfolding payload word valueAt all first typesKnownIn tableOkIn sizesOkIn meaningFaultIn recordFaultIn firstFaultIn recordsAnswerIn
+    checkAnswerIn upTo course allFitIn listOkIn reachOkIn servedOk typeOf typeAt sameType binaryFits betweenFits
+    memberFits typesOk operatorAt fieldsAt closedAt decode recordAt encode knownTypeIn inTypeIn maxCode uses
+    knownOkIn zeroOr unusedOk literalOkIn shapeOkIn valuesFrom aexprOf aexprAt rowKeys rewriteAnswer rewriteBytes
     splice
 further-cases = refl
 
 pub negated-cases : map yielded negatedLines ≡ map due negatedLines
-unfolding payload word valueAt all first typesKnown tableOk sizesOk meaningFault recordFault firstFault recordsAnswer
-    checkAnswer upTo course allFit listOk reachOk servedOk typeOf typeAt sameType binaryFits betweenFits
-    memberFits typesOk operatorAt fieldsAt closedAt decode recordAt encode knownType inType maxCode uses
-    knownOk zeroOr unusedOk literalOk shapeOk valuesFrom aexprOf aexprAt rowKeys rewriteAnswer rewriteBytes
+unfolding payload word valueAt all first typesKnownIn tableOkIn sizesOkIn meaningFaultIn recordFaultIn firstFaultIn recordsAnswerIn
+    checkAnswerIn upTo course allFitIn listOkIn reachOkIn servedOk typeOf typeAt sameType binaryFits betweenFits
+    memberFits typesOk operatorAt fieldsAt closedAt decode recordAt encode knownTypeIn inTypeIn maxCode uses
+    knownOkIn zeroOr unusedOk literalOkIn shapeOkIn valuesFrom aexprOf aexprAt rowKeys rewriteAnswer rewriteBytes
     splice
 negated-cases = refl
 

@@ -6,7 +6,7 @@ ghost use Prim.Native.Nat.{ℕ, _+_, _<_, _≤_};
 ghost use lib.ListN.{length, getD};
 use column_sets::marks::number_at;
 use read_operands::operands::Conjunct;
-use reading::classify::classify;
+use reading::classify::classify_by_record;
 use records::record::Node;
 use stages::fields::bump;
 
@@ -24,7 +24,7 @@ fn equality_count(rs: &[u8], nodes: &[u32], n: usize) -> usize
     let mut count: usize = 0;
     let mut i: usize = 0;
     while i < n {
-        let k = classify(rs, Node(nodes[i]));
+        let k = classify_by_record(rs, Node(nodes[i]));
         count = bump(!is_equality(k), count);
         i += 1;
     }

@@ -19,6 +19,7 @@ ghost use Rattle.reckoning.specs.Reckon.{reckonedAnswer};
 ghost use Rattle.stages.specs.Rows.{stride};
 ghost use Rattle.reasons.specs.Explained.{refuseLong, textIf, lengthIf};
 ghost use Rattle.filter_constraint.specs.Explained.{nodesText};
+ghost use Rattle.filter_constraint.specs.Room.{Room};
 use columns::index::make_index;
 use filter_constraint::merging::merge_filter_constraints;
 use merge::answer::Rewriting;
@@ -37,10 +38,16 @@ pub fn merge_indexed(
     starts: &[u32],
     counts: &[u32],
     marks: &mut [u8],
+    order: &mut [u32],
+    kept: &mut [u32],
+    lefts: &mut [u32],
+    rights: &mut [u32],
+    equals: &mut [u32],
     reasons: &mut [u8],
 ) -> Rewriting
     requires { ⌜ (n ≤ stride (now marks)) × (stride (now marks) ≤ 128) × (used ≤ 4096) × (n ≤ length (now nodes))
         × ((j : ℕ) → j < 128 → getD (now starts) j 0 + getD (now counts) j 0 ≤ 8192) ⌝ }
+    requires { ⌜ Room n (now order) (now kept) (now lefts) (now rights) (now equals) ⌝ }
     requires { ⌜ ((i : ℕ) → i < n → ToldConjunct (conjuncts (now kinds) (now values) (now starts) (now counts) (now p)) i
         (classify (aexprOf (now rs) (now p)) (getD (now nodes) i 0))) ⌝ }
     requires { ⌜ ((i : ℕ) → i < n → ColumnsBelow 64 (classify (aexprOf (now rs) (now p)) (getD (now nodes) i 0))) ⌝ }
@@ -73,6 +80,11 @@ pub fn merge_indexed(
         counts,
         &index,
         marks,
+        order,
+        kept,
+        lefts,
+        rights,
+        equals,
         reasons,
     )
 }

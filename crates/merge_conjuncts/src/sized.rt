@@ -52,6 +52,11 @@ pub fn merge_few(
     let mut starts = [0u32; 16];
     let mut counts = [0u32; 16];
     let mut marks = [0u8; 1024];
+    let mut order = [0u32; 32];
+    let mut kept = [0u32; 16];
+    let mut lefts = [0u32; 16];
+    let mut rights = [0u32; 16];
+    let mut equals = [0u32; 16];
     let none = [0u64; 1];
     read_literals(
         rs,
@@ -76,6 +81,11 @@ pub fn merge_few(
             &starts,
             &counts,
             &mut marks,
+            &mut order,
+            &mut kept,
+            &mut lefts,
+            &mut rights,
+            &mut equals,
             reasons,
         );
     }
@@ -93,6 +103,11 @@ pub fn merge_few(
         &counts,
         &none,
         &mut marks,
+        &mut order,
+        &mut kept,
+        &mut lefts,
+        &mut rights,
+        &mut equals,
         reasons,
     )
 }
@@ -128,6 +143,11 @@ pub fn merge_many(
     let mut starts = [0u32; 128];
     let mut counts = [0u32; 128];
     let mut marks = [0u8; 8192];
+    let mut order = [0u32; 256];
+    let mut kept = [0u32; 128];
+    let mut lefts = [0u32; 128];
+    let mut rights = [0u32; 128];
+    let mut equals = [0u32; 128];
     let none = [0u64; 1];
     read_literals(
         rs,
@@ -152,6 +172,11 @@ pub fn merge_many(
             &starts,
             &counts,
             &mut marks,
+            &mut order,
+            &mut kept,
+            &mut lefts,
+            &mut rights,
+            &mut equals,
             reasons,
         );
     }
@@ -169,6 +194,11 @@ pub fn merge_many(
         &counts,
         &none,
         &mut marks,
+        &mut order,
+        &mut kept,
+        &mut lefts,
+        &mut rights,
+        &mut equals,
         reasons,
     )
 }

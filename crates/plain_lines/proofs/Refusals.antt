@@ -8,7 +8,7 @@ use lib.Dec.{ltb, leb}
 use lib.ListN.{length}
 use borrow.Author.Tests.{lt-ltb, le-ltb, leb-true}
 use Rattle.records.proofs.Laws.{and-left}
-use Rattle.checking.specs.Check.{checkAnswer, tableOk, typesKnown}
+use Rattle.checking.specs.Check.{checkAnswer, tableOk, tableOkIn, typesKnown}
 use Rattle.checking.specs.Checked.{Checked}
 use Rattle.checking.specs.Tree.{treeCount}
 use Rattle.checking.specs.declared.check.CheckAnswer.{CheckAnswer}
@@ -61,7 +61,7 @@ module _ (t rs p : List ℕ) (used root : ℕ) (ok : checkAnswer t rs p used roo
 
 -- The table of a checked screen has at most 64 columns.
 pub table-few : (t rs p : List ℕ) (used root : ℕ) → Checked t rs p used root → length t ≤ 64
-unfolding tableOk
+unfolding tableOkIn
 table-few t rs p used root ok = leb-true (length t) 64 (and-left (leb (length t) 64) (typesKnown t) (ok .table))
 
 -- A screen that is not refused was accepted and is plain.

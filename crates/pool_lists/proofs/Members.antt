@@ -1,7 +1,7 @@
 -- is_in on words: the list rule of the row test, row by row.
 -- Assumes nothing.
 use mathlib.Core.Path.{_≡_, refl, sym, _∙_, ap, subst}
-use mathlib.Core.Bool.{Bool, true, false, cond, not, _&&_, _||_, or-false}
+use mathlib.Core.Bool.{Bool, true, false, cond, not, _&&_, _||_, or-false, true≢false}
 use mathlib.Core.List.{List}
 use mathlib.Core.Option.{Option, none, some}
 use Prim.Native.Nat.{ℕ, _+_, _-_, _^_, _≤_, _<_}
@@ -27,7 +27,8 @@ use Rattle.membership.proofs.Lists.{list-more, list-found, list-done, list-star
 use Rattle.masks.specs.declared.Masks.{Masks}
 use Rattle.masks.specs.Masks.{isUnknown, inverse, Tells, KeyAt, isNull, isKey, Shown}
 use Rattle.masks.specs.Block.{Finds}
-use Rattle.masks.proofs.Bits.{bit-and, bit-inverse}
+use Rattle.masks.proofs.Bits.{bit-and, bit-inverse, mask-bit}
+use Rattle.pool_lists.specs.Truths.{Truths}
 use Rattle.masks.proofs.Columns.{order-tests}
 
 pub every-bit : (b : Bool) (r : ℕ) → b ≡ true → r ≡ 18446744073709551615 → (i : ℕ) → i < 64 → bit r i ≡ b
@@ -208,3 +209,52 @@ module _ (p : List ℕ) (g : Fields) (equal : Bool) where
               )
               (q .1),
         )
+
+-- ---- where the keys are those of truths
+pub truths-found : (keys : List ℕ) (at ones zeros : ℕ) (values : List ℕ) (one nought : Bool) (m n r : ℕ)
+    → ((bits : ℕ) → bits < 2 ^ 64 → 9223372036854775809 ≡ biasOf bits → one ≡ holdsKey (key bits) values)
+    → ((bits : ℕ) → bits < 2 ^ 64 → 9223372036854775808 ≡ biasOf bits → nought ≡ holdsKey (key bits) values)
+    → ((i : ℕ) → i < 64 → bit m i ≡ one) → ((i : ℕ) → i < 64 → bit n i ≡ nought)
+    → r ≡ bitOr (bitAnd ones m) (bitAnd zeros n) → Truths keys at ones zeros → Finds keys at values r
+unfolding Finds
+truths-found keys at ones zeros values one nought m n r asked asked′ em en er t i bits h hb e =
+    ap (λ z. bit z i) er
+    ∙ bit-or (bitAnd ones m) (bitAnd zeros n) i
+    ∙ rw (bit-and ones m i, bit-and zeros n i, em i h, en i h, bit-one, bit-zeros) told
+  where
+    x : ℕ
+    x = getD keys (at + i) 0
+
+    bit-one : bit ones i ≡ eqb x 9223372036854775809
+    bit-one = ap (λ z. bit z i) (t .one) ∙ mask-bit _ 64 i h
+
+    bit-zeros : bit zeros i ≡ eqb x 9223372036854775808
+    bit-zeros = ap (λ z. bit z i) (t .nought) ∙ mask-bit _ 64 i h
+
+    either : (eqb x 9223372036854775809 || eqb x 9223372036854775808) ≡ true
+    either =
+        sym (bit-or ones zeros i ∙ rw (bit-one, bit-zeros) refl)
+        ∙ every-bit true _ refl (t .every) i h
+
+    told : ((eqb x 9223372036854775809 && one) || (eqb x 9223372036854775808 && nought)) ≡ holdsKey (key bits) values
+    told =
+        by-test (eqb x 9223372036854775809)
+        (λ y.
+        let q : x ≡ 9223372036854775809 = eqb-true _ _ y in
+        let z : eqb x 9223372036854775808 ≡ false = ne-eqb x 9223372036854775808
+        (λ (o : x ≡ 9223372036854775808). omega (arith, q, o)) in
+        rw (y, z) (or-false one ∙ asked bits hb (sym q ∙ e)))
+        (λ y.
+        by-test (eqb x 9223372036854775808)
+        (λ u.
+        let q : x ≡ 9223372036854775808 = eqb-true _ _ u in
+        rw (y, u) (asked′ bits hb (sym q ∙ e)))
+        (λ u. absurd (true≢false (sym (rw (y, u) at either)))))
+
+-- ---- where the first 64 keys stay
+pub finds-kept : (before after values : List ℕ) (m : ℕ) → ((j : ℕ) → j < 64 → getD after j 0 ≡ getD before j 0)
+    → Finds after 0 values m → Finds before 0 values m
+unfolding Finds
+finds-kept before after values m same f i bits h hb e =
+    let z : 0 + i ≡ i = omega arith in
+    f i bits h hb (ap (λ n. getD after n 0) z ∙ same i h ∙ ap (λ n. getD before n 0) (sym z) ∙ e)

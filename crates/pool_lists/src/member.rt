@@ -1,6 +1,7 @@
 // Membership of 64 values in a list of the pool.
 ghost use mathlib.Core.Path.{_≡_};
 ghost use mathlib.Core.Bool.{Bool};
+ghost use mathlib.Core.List.{List};
 ghost use Prim.Native.Nat.{ℕ, _+_, _*_, _^_, _≤_, _<_};
 ghost use mathlib.Core.Option.{Option};
 ghost use lib.IntN.{ℤ};
@@ -11,12 +12,16 @@ ghost use Rattle.truth.specs.Evaluate.{holdsKey, memberOf};
 ghost use Rattle.truth.specs.Halves.{key, biasOf};
 ghost use Rattle.masks.specs.Masks.{Tells, Shown};
 ghost use Rattle.masks.specs.Block.{Finds};
-ghost use Rattle.pool_lists.specs.Order.{Ordered};
-use crate::asking::holds;
+ghost use Rattle.pool_order.specs.Order.{Full, Ordered};
+ghost use Rattle.pool_lists.specs.Truths.{Truths};
+use crate::guessing::guess;
 use masks::Masks;
 use masks::block::biased;
 use masks::inverted;
+use masks::mask_equal;
 use masks::with_bit;
+use pool_order::asking::holds;
+use pool_order::asking::holds_from;
 use records::bytes::value_in;
 use records::record::Fields;
 
@@ -84,24 +89,105 @@ fn find_keys(pool: &[u8], order: &[u64], start: u32, count: u32, keys: &[u64], a
     m
 }
 
-/// is_in of a column and the record of a list; `equal` is nulls_equal.
+// The same with guesses of the keys' numbers and seats.
+fn find_guessed(
+    pool: &[u8],
+    order: &[u64],
+    start: u32,
+    count: u32,
+    keys: &[u64],
+    at: usize,
+    spots: &[u64],
+) -> u64
+    requires { ⌜ Full (now pool) (now order) ⌝ }
+    requires { ⌜ 16386 ≤ length (now order) ⌝ }
+    requires { ⌜ 8 * (start + count) ≤ length (now pool) ⌝ }
+    requires { ⌜ at + 64 ≤ length (now keys) ⌝ }
+    requires { ⌜ 128 ≤ length (now spots) ⌝ }
+    ensures { λ r. ⌜ Finds (now (keys .entry)) at (valuesFrom (now (pool .entry)) start count) r ⌝ }
+{
+    let mut m: u64 = 0;
+    let mut i: usize = 0;
+    while i < 64 {
+        let w = keys[at + i];
+        m = with_bit(
+            m,
+            i as u32,
+            holds_from(pool, order, start, count, w, spots[i], spots[64 + i]),
+        );
+        i += 1;
+    }
+    m
+}
+
+// The same where the keys are those of 1 and 0, of which two words say where they stand: two questions serve all.
+fn find_truths(pool: &[u8], order: &[u64], start: u32, count: u32, ones: u64, zeros: u64) -> u64
+    requires { ⌜ Ordered (now pool) (now order) ⌝ }
+    requires { ⌜ 8 * (start + count) ≤ length (now pool) ⌝ }
+    ensures { λ r. ⌜ ((keys : List ℕ) (at : ℕ) → Truths keys at ones zeros
+        → Finds keys at (valuesFrom (now (pool .entry)) start count) r) ⌝ }
+{
+    let one = all_if(find_one(pool, order, start, count, 9223372036854775809));
+    let zero = all_if(find_one(pool, order, start, count, 9223372036854775808));
+    (ones & one) | (zeros & zero)
+}
+
+// The same of the first 64 keys, by the way that takes least time. What stands from `hints` on is for guesses.
+fn find_first(
+    pool: &[u8],
+    order: &[u64],
+    start: u32,
+    count: u32,
+    keys: &mut [u64],
+    hints: usize,
+    stamp: u64,
+) -> u64
+    requires { ⌜ Ordered (now pool) (now order) ⌝ }
+    requires { ⌜ 8 * (start + count) ≤ length (now pool) ⌝ }
+    requires { ⌜ 64 ≤ length (now keys) ⌝ }
+    requires { ⌜ 64 ≤ hints ⌝ }
+    requires { ⌜ hints ≤ 8192 ⌝ }
+    ensures { λ r. ⌜ Finds (now (keys .entry)) 0 (valuesFrom (now (pool .entry)) start count) r ⌝ }
+{
+    if count < 16 {
+        return find_keys(pool, order, start, count, keys, 0);
+    }
+    let ones = mask_equal(keys, 0, 9223372036854775809);
+    let zeros = mask_equal(keys, 0, 9223372036854775808);
+    if (ones | zeros) == 18446744073709551615 {
+        return find_truths(pool, order, start, count, ones, zeros);
+    }
+    if order.len() < 16386 {
+        return find_keys(pool, order, start, count, keys, 0);
+    }
+    let mut spots = [0u64; 128];
+    let end = start as u64 + count as u64;
+    guess(order, end, keys, hints, stamp, &mut spots);
+    find_guessed(pool, order, start, count, keys, 0, &spots)
+}
+
+/// is_in of a column, the first 64 keys, and the record of a list; `equal` is nulls_equal. Where `keys` has 17 words more from
+/// `hints` on, they keep what can be used again of the same column and block, which `stamp` tells.
 pub fn member_masks(
     pool: &[u8],
     order: &[u64],
     list: Fields,
     equal: bool,
-    keys: &[u64],
-    at: usize,
+    keys: &mut [u64],
     nulls: u64,
+    hints: usize,
+    stamp: u64,
 ) -> Masks
     requires { ⌜ Ordered (now pool) (now order) ⌝ }
     requires { ⌜ 8 * (list .a + list .b) ≤ length (now pool) ⌝ }
-    requires { ⌜ at + 64 ≤ length (now keys) ⌝ }
-    ensures { λ r. ⌜ ((rows : ℕ) (value : ℕ → Option ℤ) → Shown rows (now (keys .entry)) at nulls value
+    requires { ⌜ 64 ≤ length (now keys) ⌝ }
+    requires { ⌜ 64 ≤ hints ⌝ }
+    requires { ⌜ hints ≤ 8192 ⌝ }
+    ensures { λ r. ⌜ ((rows : ℕ) (value : ℕ → Option ℤ) → Shown rows (now (keys .entry)) 0 nulls value
         → Tells rows r (λ i. memberOf (now (pool .entry)) list equal (value i))) ⌝ }
 {
     let holds = list.code == 1;
-    let found = find_keys(pool, order, list.a, list.b, keys, at);
+    let found = find_first(pool, order, list.a, list.b, keys, hints, stamp);
     let certain = all_if(equal & holds);
     let likely = all_if(!equal & (holds | (list.b != 0)));
     let unsure = all_if(!equal & holds);

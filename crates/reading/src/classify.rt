@@ -13,11 +13,11 @@ use classify_operands::conjuncts::classify_is_in;
 use classify_operands::conjuncts::classify_negated;
 use classify_operands::conjuncts::classify_null;
 use constraints::column::Nullability;
+use operators::negate;
 use read_operands::operands::Conjunct;
 use read_operands::operands::Listing;
 use read_operands::operands::operand_at;
 use records::bytes::word_in;
-use records::operator::negate;
 use records::operator::operator_at;
 use records::record::Node;
 use records::record::Record;
@@ -91,6 +91,14 @@ fn classify_binary(rs: &[u8], n: Node) -> Conjunct
         operand_at(rs, Node(word_in(rs, at + 4))),
         operand_at(rs, Node(word_in(rs, at + 8))),
     )
+}
+
+/// What the conjunct at node n says, by its record: for whoever reads one conjunct of many. A function with one caller is
+/// inlined there, which `classify` is to be where all of a screen's conjuncts are read.
+pub fn classify_by_record(rs: &[u8], n: Node) -> Conjunct
+    ensures { λ s. ⌜ ((p : List ℕ) → conjunctIn p (n .0) s ≡ c.classify (aexprOf (now (rs .entry)) p) (n .0)) ⌝ }
+{
+    classify_record(rs, record_at(rs, n))
 }
 
 /// What the conjunct at node n says. Comparisons, the usual case, are read without building a record.

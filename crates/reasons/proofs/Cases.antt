@@ -5,7 +5,8 @@ use Prim.Native.Nat.{ℕ}
 use lib.IntN.{ℤ, pos, negsuc}
 use Rattle.truth.specs.Comparison.{GtEq, Lt, NotEq}
 use Rattle.merge.specs.Reasons.{Reason}
-use Rattle.reasons.specs.Text.{digits, decimal, signed, operatorName, reasonText, reasonsText}
+use Rattle.decimals.specs.Decimal.{digits, decimal, signed}
+use Rattle.reasons.specs.Text.{operatorName, reasonText, reasonsText}
 
 -- 0 has one digit
 pub no-unit : (decimal 0 ≡ 48 ∷ []) × (decimal 10 ≡ 49 ∷ 48 ∷ []) × (decimal 1024 ≡ 49 ∷ 48 ∷ 50 ∷ 52 ∷ [])

@@ -1,4 +1,3 @@
-pub mod Decimals
 pub mod Reading
 pub mod Writing
 pub mod Sizes

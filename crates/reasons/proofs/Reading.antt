@@ -12,9 +12,10 @@ use lib.Seq.{drop-at}
 use borrow.Author.Tests.{le-leb}
 use Rattle.truth.specs.Comparison.{Comparison, Eq, NotEq, Lt, LtEq, Gt, GtEq}
 use Rattle.merge.specs.Reasons.{Reason}
-use Rattle.reasons.specs.Text.{lastDigit, decimal, signed, operatorName, reasonText, reasonsText}
+use Rattle.decimals.specs.Decimal.{lastDigit, decimal, signed}
+use Rattle.reasons.specs.Text.{operatorName, reasonText, reasonsText}
 use Rattle.reasons.specs.Injective.{DifferentTexts}
-use Rattle.reasons.proofs.Decimals.{one-digit, more-digits, by-digits, length-some}
+use Rattle.decimals.proofs.Decimals.{one-digit, more-digits, by-digits, length-some}
 
 -- ---- a number up to the first byte that is no digit
 

@@ -14,9 +14,10 @@ use Rattle.truth.specs.Comparison.{Comparison, Eq, NotEq, Lt, LtEq, Gt, GtEq}
 use Rattle.merge.specs.Write.{splice}
 use Rattle.merge.proofs.Splices.{splice-then}
 use Rattle.merge.specs.Reasons.{Reason}
-use Rattle.reasons.specs.Text.{decimal, signed, operatorName, reasonText, reasonsText}
+use Rattle.decimals.specs.Decimal.{decimal, signed}
+use Rattle.reasons.specs.Text.{operatorName, reasonText, reasonsText}
 use Rattle.reasons.specs.Sizes.{In64, OfScreen, AtMost34}
-use Rattle.reasons.proofs.Decimals.{length-below, length-63}
+use Rattle.decimals.proofs.Decimals.{length-below, length-63}
 use Rattle.reasons.proofs.Writing.{line-length}
 
 operator-at-most : (k : Comparison) → length (operatorName k) ≤ 5

@@ -9,9 +9,9 @@ use lib.ListN.{length, getD, set}
 use lib.Dec.{eqb}
 use borrow.Author.Tests.{eq-eqb, ne-eqb}
 use Rattle.records.specs.Bytes.{valueAt, all}
-use Rattle.records.specs.Shape.{inType}
+use Rattle.records.specs.Shape.{inTypeIn}
 use Rattle.records.proofs.Laws.{by-test}
-use Rattle.record_check.specs.Fit.{allFit}
+use Rattle.record_check.specs.Fit.{allFitIn}
 use Rattle.record_check.specs.Outside.{misses, outside, Outside}
 use Rattle.record_check.proofs.Filling.{Filled, filled-more}
 
@@ -54,33 +54,33 @@ misses-from f s (suc c) =
         ∙ sym (and-false (all (λ (k : ℕ). f (s + k)) c))
 
 -- the entries of two numbers tell of the values between
-pub counts-tell : (p l : List ℕ) (ty start count : ℕ) → Outside p ty l → start + count ≤ length p / 8
-    → eqb (getD l (start + count) 0) (getD l start 0) ≡ allFit p ty start count
-unfolding Outside outside allFit
-counts-tell p l ty start count o h =
+pub counts-tell : (text : ℕ) (p l : List ℕ) (ty start count : ℕ) → Outside text p ty l → start + count ≤ length p / 8
+    → eqb (getD l (start + count) 0) (getD l start 0) ≡ allFitIn text p ty start count
+unfolding Outside outside allFitIn
+counts-tell text p l ty start count o h =
     ap (λ a. eqb a (getD l start 0)) (o (start + count) h)
-    ∙ ap (eqb (misses (λ (k : ℕ). inType ty (valueAt p k)) (start + count))) (o start (omega arith))
+    ∙ ap (eqb (misses (λ (k : ℕ). inTypeIn text ty (valueAt p k)) (start + count))) (o start (omega arith))
     ∙ turned
   where
-    turned : eqb (misses (λ (k : ℕ). inType ty (valueAt p k)) (start + count)) (misses (λ (k : ℕ). inType ty (valueAt p k)) start)
-        ≡ all (λ (k : ℕ). inType ty (valueAt p (start + k))) count
-    turned = misses-from (λ (k : ℕ). inType ty (valueAt p k)) start count
+    turned : eqb (misses (λ (k : ℕ). inTypeIn text ty (valueAt p k)) (start + count)) (misses (λ (k : ℕ). inTypeIn text ty (valueAt p k)) start)
+        ≡ all (λ (k : ℕ). inTypeIn text ty (valueAt p (start + k))) count
+    turned = misses-from (λ (k : ℕ). inTypeIn text ty (valueAt p k)) start count
 
 -- one turn of the loop that fills the table, and its end
-pub outside-none : (p : List ℕ) (ty : ℕ) → 0 ≡ outside p ty 0
+pub outside-none : (text : ℕ) (p : List ℕ) (ty : ℕ) → 0 ≡ outside text p ty 0
 unfolding outside misses
-outside-none p ty = refl
+outside-none text p ty = refl
 
-pub outside-more : (p : List ℕ) (ty k c d : ℕ) → c ≡ outside p ty k → d ≡ cond (inType ty (valueAt p k)) 0 1
-    → c + d ≡ outside p ty (k + 1)
+pub outside-more : (text : ℕ) (p : List ℕ) (ty k c d : ℕ) → c ≡ outside text p ty k → d ≡ cond (inTypeIn text ty (valueAt p k)) 0 1
+    → c + d ≡ outside text p ty (k + 1)
 unfolding outside misses
-outside-more p ty k c d e g = rw (add-one, e, g)
+outside-more text p ty k c d e g = rw (add-one, e, g)
 
-pub outside-low : (p : List ℕ) (ty k : ℕ) → outside p ty k ≤ k
+pub outside-low : (text : ℕ) (p : List ℕ) (ty k : ℕ) → outside text p ty k ≤ k
 unfolding outside
-outside-low p ty k = misses-le (λ (j : ℕ). inType ty (valueAt p j)) k
+outside-low text p ty k = misses-le (λ (j : ℕ). inTypeIn text ty (valueAt p j)) k
 
-pub outside-done : (p l : List ℕ) (ty n c : ℕ) → n ≡ length p / 8 → n < length l → Filled (outside p ty) l n
-    → c ≡ outside p ty n → Outside p ty (set l n c)
+pub outside-done : (text : ℕ) (p l : List ℕ) (ty n c : ℕ) → n ≡ length p / 8 → n < length l → Filled (outside text p ty) l n
+    → c ≡ outside text p ty n → Outside text p ty (set l n c)
 unfolding Outside
-outside-done p l ty n c e h f g k j = filled-more (outside p ty) l n c h f g k (omega (arith, e, j))
+outside-done text p l ty n c e h f g k j = filled-more (outside text p ty) l n c h f g k (omega (arith, e, j))

@@ -1,5 +1,5 @@
 -- Numbers 5, 6 and 7 of 01: what a record asks of the table, of the pool and of the records below it.
--- t is the column table, rs the records, p the pool.
+-- t is the column table, rs the records, p the pool, text what is lent beside it (records, Shape).
 use Prim.Native.Nat.{ℕ, _+_, _/_}
 use mathlib.Core.List.{List, [], _∷_}
 use mathlib.Core.Bool.{Bool, true, false, cond, not, _&&_}
@@ -8,19 +8,19 @@ use lib.Dec.{ltb, leb, eqb}
 use Rattle.records.specs.Bytes.{valueAt, all}
 use Rattle.records.specs.Operator.{isComparison, isLeftOut, isDivision}
 use Rattle.records.specs.Record.{recordAt, inputs}
-use Rattle.records.specs.Shape.{inType}
+use Rattle.records.specs.Shape.{inTypeIn}
 use Rattle.records.specs.declared.operator.Operator.{Operator}
 use Rattle.records.specs.declared.record.Node.{Node}
 use Rattle.records.specs.declared.record.Record.{Record}
 use Rattle.records.specs.declared.record.Record.the-variants as kind
 
 -- count values of the pool, from the one numbered start on, are of the type
-unfoldable pub allFit : List ℕ → ℕ → ℕ → ℕ → Bool
-allFit p ty start count = all (λ (k : ℕ). inType ty (valueAt p (start + k))) count
+unfoldable pub allFitIn : ℕ → List ℕ → ℕ → ℕ → ℕ → Bool
+allFitIn text p ty start count = all (λ (k : ℕ). inTypeIn text ty (valueAt p (start + k))) count
 
 -- 5: a list lies in the pool and its values are of its type
-unfoldable pub listOk : List ℕ → ℕ → ℕ → ℕ → Bool
-listOk p ty start count = leb (start + count) (length p / 8) && allFit p ty start count
+unfoldable pub listOkIn : ℕ → List ℕ → ℕ → ℕ → ℕ → Bool
+listOkIn text p ty start count = leb (start + count) (length p / 8) && allFitIn text p ty start count
 
 -- 5: each input is below its own record
 abbrev pub allBelow : ℕ → List ℕ → Bool
@@ -28,18 +28,28 @@ allBelow n [] = true
 allBelow n (x ∷ l) = ltb x n && allBelow n l
 
 -- 5: a column is in the table, a list in the pool, the inputs of any other record are below it
-unfoldable pub reachOk : List ℕ → List ℕ → Record → Node → Bool
-reachOk t p kind.Invalid n = true
-reachOk t p (kind.Column c) n = ltb (c .0) (length t)
-reachOk t p (kind.Literal ty v) n = true
-reachOk t p (kind.Null ty) n = true
-reachOk t p (kind.Binary o x y) n = allBelow (n .0) (inputs (kind.Binary o x y))
-reachOk t p (kind.Not x) n = allBelow (n .0) (inputs (kind.Not x))
-reachOk t p (kind.IsNull x) n = allBelow (n .0) (inputs (kind.IsNull x))
-reachOk t p (kind.IsNotNull x) n = allBelow (n .0) (inputs (kind.IsNotNull x))
-reachOk t p (kind.IsBetween k x low high) n = allBelow (n .0) (inputs (kind.IsBetween k x low high))
-reachOk t p (kind.List ty marked start count) n = listOk p ty start count
-reachOk t p (kind.IsIn equal x list) n = allBelow (n .0) (inputs (kind.IsIn equal x list))
+unfoldable pub reachOkIn : ℕ → List ℕ → List ℕ → Record → Node → Bool
+reachOkIn text t p kind.Invalid n = true
+reachOkIn text t p (kind.Column c) n = ltb (c .0) (length t)
+reachOkIn text t p (kind.Literal ty v) n = true
+reachOkIn text t p (kind.Null ty) n = true
+reachOkIn text t p (kind.Binary o x y) n = allBelow (n .0) (inputs (kind.Binary o x y))
+reachOkIn text t p (kind.Not x) n = allBelow (n .0) (inputs (kind.Not x))
+reachOkIn text t p (kind.IsNull x) n = allBelow (n .0) (inputs (kind.IsNull x))
+reachOkIn text t p (kind.IsNotNull x) n = allBelow (n .0) (inputs (kind.IsNotNull x))
+reachOkIn text t p (kind.IsBetween k x low high) n = allBelow (n .0) (inputs (kind.IsBetween k x low high))
+reachOkIn text t p (kind.List ty marked start count) n = listOkIn text p ty start count
+reachOkIn text t p (kind.IsIn equal x list) n = allBelow (n .0) (inputs (kind.IsIn equal x list))
+
+-- the same where no text pool is lent
+abbrev pub allFit : List ℕ → ℕ → ℕ → ℕ → Bool
+allFit p ty start count = allFitIn 0 p ty start count
+
+abbrev pub listOk : List ℕ → ℕ → ℕ → ℕ → Bool
+listOk p ty start count = listOkIn 0 p ty start count
+
+abbrev pub reachOk : List ℕ → List ℕ → Record → Node → Bool
+reachOk t p r n = reachOkIn 0 t p r n
 
 -- 6: a left-out operator
 unfoldable pub servedOk : Record → Bool
@@ -55,7 +65,7 @@ servedOk (kind.IsBetween k x low high) = true
 servedOk (kind.List ty marked start count) = true
 servedOk (kind.IsIn equal x list) = true
 
--- the type of a record as an input: 1 Int, 2 Day, 3 Truth; 0 for a list, which is no value
+-- the type of a record as an input: 1 Int, 2 Day, 3 Truth, 4 Text; 0 for a list, which is no value
 unfoldable pub typeOf : List ℕ → Record → ℕ
 typeOf t kind.Invalid = 0
 typeOf t (kind.Column c) = getD t (c .0) 0

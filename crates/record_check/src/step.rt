@@ -59,26 +59,26 @@ fn column_step(t: &[u8], f: Fields) -> Step
     passed(t[at], 1)
 }
 
-fn literal_step(f: Fields) -> Step
-    ensures { λ s. ⌜ s ≡ literalStep f ⌝ }
+fn literal_step(text: u32, f: Fields) -> Step
+    ensures { λ s. ⌜ s ≡ literalStep text f ⌝ }
 {
     let v = (f.b as u64) + 4294967296 * (f.c as u64);
-    if !((f.code == 0) & known_type(f.ty)) {
+    if !((f.code == 0) & known_type(text, f.ty)) {
         return refused(4);
     }
     if f.a != 0 {
         return refused(4);
     }
-    if !in_type(f.ty, v) {
+    if !in_type(text, f.ty, v) {
         return refused(4);
     }
     passed(f.ty, 1)
 }
 
-fn null_step(f: Fields) -> Step
-    ensures { λ s. ⌜ s ≡ nullStep f ⌝ }
+fn null_step(text: u32, f: Fields) -> Step
+    ensures { λ s. ⌜ s ≡ nullStep text f ⌝ }
 {
-    if !(((f.code == 0) & known_type(f.ty)) & ((f.a == 0) & ((f.b == 0) & (f.c == 0)))) {
+    if !(((f.code == 0) & known_type(text, f.ty)) & ((f.a == 0) & ((f.b == 0) & (f.c == 0)))) {
         return refused(4);
     }
     passed(f.ty, 1)
@@ -126,7 +126,7 @@ fn binary_step(types: &[u8], trees: &[u16], f: Fields, n: Node) -> Step
     }
     let a = f.a as usize;
     let b = f.b as usize;
-    if !pair_fits(f.code, types[a] % 4, types[b] % 4) {
+    if !pair_fits(f.code, types[a] % 8, types[b] % 8) {
         return refused(7);
     }
     passed(binary_entry(f.code), 1 + (wide(trees[a]) + wide(trees[b])))
@@ -144,7 +144,7 @@ fn not_step(types: &[u8], trees: &[u16], f: Fields, n: Node) -> Step
         return refused(5);
     }
     let a = f.a as usize;
-    if types[a] % 4 != 3 {
+    if types[a] % 8 != 3 {
         return refused(7);
     }
     passed(3, 1 + wide(trees[a]))
@@ -162,7 +162,7 @@ fn null_test_step(types: &[u8], trees: &[u16], f: Fields, n: Node) -> Step
         return refused(5);
     }
     let a = f.a as usize;
-    if types[a] % 4 == 0 {
+    if types[a] % 8 == 0 {
         return refused(7);
     }
     passed(3, 1 + wide(trees[a]))
@@ -188,24 +188,24 @@ fn between_step(types: &[u8], trees: &[u16], f: Fields, n: Node) -> Step
     let a = f.a as usize;
     let b = f.b as usize;
     let c = f.c as usize;
-    let x = types[a] % 4;
-    if !(((0 < x) & (x == types[b] % 4)) & ((0 < x) & (x == types[c] % 4))) {
+    let x = types[a] % 8;
+    if !(((0 < x) & (x == types[b] % 8)) & ((0 < x) & (x == types[c] % 8))) {
         return refused(7);
     }
     passed(3, 1 + (wide(trees[a]) + (wide(trees[b]) + wide(trees[c]))))
 }
 
-fn list_step(p: &[u8], days: &[u16], truths: &[u16], f: Fields) -> Step
-    requires { ⌜ Counts (now p) (now days) (now truths) ⌝ }
-    ensures { λ s. ⌜ s ≡ listStep (now (p .entry)) f ⌝ }
+fn list_step(text: u32, p: &[u8], days: &[u16], truths: &[u16], symbols: &[u16], f: Fields) -> Step
+    requires { ⌜ Counts text (now p) (now days) (now truths) (now symbols) ⌝ }
+    ensures { λ s. ⌜ s ≡ listStep text (now (p .entry)) f ⌝ }
 {
-    if !(((f.code <= 1) & known_type(f.ty)) & (f.c == 0)) {
+    if !(((f.code <= 1) & known_type(text, f.ty)) & (f.c == 0)) {
         return refused(4);
     }
-    if !list_ok(p, days, truths, f.ty, f.a, f.b) {
+    if !list_ok(text, p, days, truths, symbols, f.ty, f.a, f.b) {
         return refused(5);
     }
-    passed(4 * (f.ty % 4), 1)
+    passed(8 * (f.ty % 8), 1)
 }
 
 fn member_step(types: &[u8], trees: &[u16], f: Fields, n: Node) -> Step
@@ -224,8 +224,8 @@ fn member_step(types: &[u8], trees: &[u16], f: Fields, n: Node) -> Step
     }
     let a = f.a as usize;
     let b = f.b as usize;
-    let x = types[a] % 4;
-    if !((0 < x) & (types[b] == 4 * x)) {
+    let x = types[a] % 8;
+    if !((0 < x) & (types[b] == 8 * x)) {
         return refused(7);
     }
     passed(3, 1 + (wide(trees[a]) + wide(trees[b])))
@@ -235,17 +235,19 @@ fn member_step(types: &[u8], trees: &[u16], f: Fields, n: Node) -> Step
 pub fn record_step(
     t: &[u8],
     p: &[u8],
+    text: u32,
     days: &[u16],
     truths: &[u16],
+    symbols: &[u16],
     types: &[u8],
     trees: &[u16],
     f: Fields,
     n: Node,
 ) -> Step
-    requires { ⌜ Counts (now p) (now days) (now truths) ⌝ }
+    requires { ⌜ Counts text (now p) (now days) (now truths) (now symbols) ⌝ }
     requires { ⌜ n .0 < length (now types) ⌝ }
     requires { ⌜ n .0 < length (now trees) ⌝ }
-    ensures { λ s. ⌜ s ≡ recordStep (now (t .entry)) (now (p .entry)) (now (types .entry)) (now (trees .entry)) f (n .0) ⌝ }
+    ensures { λ s. ⌜ s ≡ recordStep text (now (t .entry)) (now (p .entry)) (now (types .entry)) (now (trees .entry)) f (n .0) ⌝ }
 {
     if f.zero != 0 {
         return refused(4);
@@ -253,14 +255,14 @@ pub fn record_step(
     let kind = f.kind;
     match kind {
         1 => column_step(t, f),
-        2 => literal_step(f),
-        3 => null_step(f),
+        2 => literal_step(text, f),
+        3 => null_step(text, f),
         4 => binary_step(types, trees, f, n),
         5 => not_step(types, trees, f, n),
         6 => null_test_step(types, trees, f, n),
         7 => null_test_step(types, trees, f, n),
         8 => between_step(types, trees, f, n),
-        9 => list_step(p, days, truths, f),
+        9 => list_step(text, p, days, truths, symbols, f),
         10 => member_step(types, trees, f, n),
         _ => refused(4),
     }

@@ -7,7 +7,7 @@ use lib.Dec.{eqb, leb}
 use borrow.Author.Tests.{eqb-true, eqb-false, leb-true}
 use Rattle.records.specs.Operator.{operatorAt, codeOf}
 use Rattle.records.specs.Record.{node, columnNumber, closedAt, closedCode, flagCode, fields, decode, encode}
-use Rattle.records.specs.Shape.{Ty, A, B, C, knownType, inType, maxCode, uses, knownOk, zeroOr, unusedOk, literalOk, shapeOk}
+use Rattle.records.specs.Shape.{Ty, A, B, C, knownTypeIn, inTypeIn, maxCode, uses, knownOkIn, zeroOr, unusedOk, literalOkIn, shapeOkIn}
 use Rattle.records.specs.RoundTrip.{DecodeOfEncode, EncodeOfDecode, ShapeOfEncode}
 use Rattle.records.specs.declared.operator.Operator.{Operator}
 use Rattle.records.specs.declared.operator.Operator.the-variants.{Eq, EqValidity, NotEq, NotEqValidity, Lt, LtEq, Gt, GtEq, Plus, Minus, Multiply, RustDivide, TrueDivide, FloorDivide, Modulus, And, Or, Xor, LogicalAnd, LogicalOr}
@@ -87,22 +87,22 @@ flag-code-back k h =
     eqb-true (flagCode (eqb k 1)) k (all-holds (λ (i : ℕ). eqb (flagCode (eqb i 1)) i) k 2 (omega arith) refl)
 
 -- what the absence of the fault 4 says of each field
-record Shaped (kind code ty z a b c : ℕ) : Type 0 where
+record Shaped (text kind code ty z a b c : ℕ) : Type 0 where
   least : 1 ≤ kind
   most : kind ≤ 10
   code-low : code ≤ maxCode kind
-  type-fits : cond (uses Ty kind) (knownType ty) (eqb ty 0) ≡ true
+  type-fits : cond (uses Ty kind) (knownTypeIn text ty) (eqb ty 0) ≡ true
   zero-zero : z ≡ 0
   a-used : zeroOr (uses A kind) a ≡ true
   b-used : zeroOr (uses B kind) b ≡ true
   c-used : zeroOr (uses C kind) c ≡ true
 
-shaped : (f : Fields) → shapeOk f ≡ true → Shaped (f .kind) (f .code) (f .ty) (f .zero) (f .a) (f .b) (f .c)
-unfolding shapeOk knownOk unusedOk
-shaped f e =
-    let known = and-left (knownOk f) (unusedOk f && literalOk f) e in
-    let unused = and-left (unusedOk f) (literalOk f) (and-right (knownOk f) (unusedOk f && literalOk f) e) in
-    let typed = cond (uses Ty (f .kind)) (knownType (f .ty)) (eqb (f .ty) 0) in
+shaped : (text : ℕ) (f : Fields) → shapeOkIn text f ≡ true → Shaped text (f .kind) (f .code) (f .ty) (f .zero) (f .a) (f .b) (f .c)
+unfolding shapeOkIn knownOkIn unusedOk
+shaped text f e =
+    let known = and-left (knownOkIn text f) (unusedOk f && literalOkIn text f) e in
+    let unused = and-left (unusedOk f) (literalOkIn text f) (and-right (knownOkIn text f) (unusedOk f && literalOkIn text f) e) in
+    let typed = cond (uses Ty (f .kind)) (knownTypeIn text (f .ty)) (eqb (f .ty) 0) in
     let k1 = and-right (leb 1 (f .kind)) (leb (f .kind) 10 && (leb (f .code) (maxCode (f .kind)) && typed)) known in
     let k2 = and-right (leb (f .kind) 10) (leb (f .code) (maxCode (f .kind)) && typed) k1 in
     let ua = zeroOr (uses A (f .kind)) (f .a) in
@@ -128,45 +128,45 @@ same-fields : (kind code ty z a b c code′ ty′ a′ b′ c′ : ℕ) → code
     → fields kind code′ ty′ a′ b′ c′ ≡ raw kind code ty z a b c
 same-fields kind code ty z a b c code′ ty′ a′ b′ c′ ec et ez ea eb ed = rw (ec, et, ez, ea, eb, ed)
 
-back : (kind code ty z a b c : ℕ) → b < 4294967296 → Shaped kind code ty z a b c
+back : (text kind code ty z a b c : ℕ) → b < 4294967296 → Shaped text kind code ty z a b c
     → encode (decode (raw kind code ty z a b c)) ≡ raw kind code ty z a b c
 unfolding encode decode maxCode zeroOr uses
-back zero code ty z a b c h s = let l = s .least in absurd (omega (arith, l))
-back (suc zero) code ty z a b c h s =
+back text zero code ty z a b c h s = let l = s .least in absurd (omega (arith, l))
+back text (suc zero) code ty z a b c h s =
     same-fields 1 code ty z a b c _ _ _ _ _ (let l = s .code-low in omega (arith, l)) (sym (eqb-true ty 0 (s .type-fits))) (s .zero-zero)
     refl (sym (eqb-true b 0 (s .b-used))) (sym (eqb-true c 0 (s .c-used)))
-back (suc (suc zero)) code ty z a b c h s =
+back text (suc (suc zero)) code ty z a b c h s =
     same-fields 2 code ty z a b c _ _ _ _ _ (let l = s .code-low in omega (arith, l)) refl (s .zero-zero)
     (sym (eqb-true a 0 (s .a-used))) (omega arith) (omega arith)
-back (suc (suc (suc zero))) code ty z a b c h s =
+back text (suc (suc (suc zero))) code ty z a b c h s =
     same-fields 3 code ty z a b c _ _ _ _ _ (let l = s .code-low in omega (arith, l)) refl (s .zero-zero)
     (sym (eqb-true a 0 (s .a-used))) (sym (eqb-true b 0 (s .b-used))) (sym (eqb-true c 0 (s .c-used)))
-back (suc (suc (suc (suc zero)))) code ty z a b c h s =
+back text (suc (suc (suc (suc zero)))) code ty z a b c h s =
     same-fields 4 code ty z a b c _ _ _ _ _ (code-back code (s .code-low)) (sym (eqb-true ty 0 (s .type-fits))) (s .zero-zero)
     refl refl (sym (eqb-true c 0 (s .c-used)))
-back (suc (suc (suc (suc (suc zero))))) code ty z a b c h s =
+back text (suc (suc (suc (suc (suc zero))))) code ty z a b c h s =
     same-fields 5 code ty z a b c _ _ _ _ _ (let l = s .code-low in omega (arith, l)) (sym (eqb-true ty 0 (s .type-fits))) (s .zero-zero)
     refl (sym (eqb-true b 0 (s .b-used))) (sym (eqb-true c 0 (s .c-used)))
-back (suc (suc (suc (suc (suc (suc zero)))))) code ty z a b c h s =
+back text (suc (suc (suc (suc (suc (suc zero)))))) code ty z a b c h s =
     same-fields 6 code ty z a b c _ _ _ _ _ (let l = s .code-low in omega (arith, l)) (sym (eqb-true ty 0 (s .type-fits))) (s .zero-zero)
     refl (sym (eqb-true b 0 (s .b-used))) (sym (eqb-true c 0 (s .c-used)))
-back (suc (suc (suc (suc (suc (suc (suc zero))))))) code ty z a b c h s =
+back text (suc (suc (suc (suc (suc (suc (suc zero))))))) code ty z a b c h s =
     same-fields 7 code ty z a b c _ _ _ _ _ (let l = s .code-low in omega (arith, l)) (sym (eqb-true ty 0 (s .type-fits))) (s .zero-zero)
     refl (sym (eqb-true b 0 (s .b-used))) (sym (eqb-true c 0 (s .c-used)))
-back (suc (suc (suc (suc (suc (suc (suc (suc zero)))))))) code ty z a b c h s =
+back text (suc (suc (suc (suc (suc (suc (suc (suc zero)))))))) code ty z a b c h s =
     same-fields 8 code ty z a b c _ _ _ _ _ (closed-code-back code (s .code-low)) (sym (eqb-true ty 0 (s .type-fits))) (s .zero-zero)
     refl refl refl
-back (suc (suc (suc (suc (suc (suc (suc (suc (suc zero))))))))) code ty z a b c h s =
+back text (suc (suc (suc (suc (suc (suc (suc (suc (suc zero))))))))) code ty z a b c h s =
     same-fields 9 code ty z a b c _ _ _ _ _ (flag-code-back code (s .code-low)) refl (s .zero-zero)
     refl refl (sym (eqb-true c 0 (s .c-used)))
-back (suc (suc (suc (suc (suc (suc (suc (suc (suc (suc zero)))))))))) code ty z a b c h s =
+back text (suc (suc (suc (suc (suc (suc (suc (suc (suc (suc zero)))))))))) code ty z a b c h s =
     same-fields 10 code ty z a b c _ _ _ _ _ (flag-code-back code (s .code-low)) (sym (eqb-true ty 0 (s .type-fits))) (s .zero-zero)
     refl refl (sym (eqb-true c 0 (s .c-used)))
-back (suc (suc (suc (suc (suc (suc (suc (suc (suc (suc (suc k))))))))))) code ty z a b c h s = let l = s .most in absurd (omega (arith, l))
+back text (suc (suc (suc (suc (suc (suc (suc (suc (suc (suc (suc k))))))))))) code ty z a b c h s = let l = s .most in absurd (omega (arith, l))
 
 -- fields without the fault 4 are those that encode their record
 pub encode-decode : EncodeOfDecode
-encode-decode f h e = back (f .kind) (f .code) (f .ty) (f .zero) (f .a) (f .b) (f .c) h (shaped f e)
+encode-decode text f h e = back text (f .kind) (f .code) (f .ty) (f .zero) (f .a) (f .b) (f .c) h (shaped text f e)
 
 code-low : (o : Operator) → leb (codeOf o) 19 ≡ true
 code-low Eq = refl
@@ -202,16 +202,16 @@ flag-code-low false = refl
 
 -- what encodes a record is without the fault 4 exactly if the record is
 pub shape-encode : ShapeOfEncode
-unfolding encode shapeOk knownOk unusedOk literalOk maxCode zeroOr uses
-shape-encode kind.Invalid = refl
-shape-encode (kind.Column c) = refl
-shape-encode (kind.Literal ty v) =
+unfolding encode shapeOkIn knownOkIn unusedOk literalOkIn maxCode zeroOr uses
+shape-encode text kind.Invalid = refl
+shape-encode text (kind.Column c) = refl
+shape-encode text (kind.Literal ty v) =
     let e : v % 4294967296 + 4294967296 * (v / 4294967296) ≡ v = omega arith in rw e
-shape-encode (kind.Null ty) = rw and-true
-shape-encode (kind.Binary o x y) = rw (code-low o)
-shape-encode (kind.Not x) = refl
-shape-encode (kind.IsNull x) = refl
-shape-encode (kind.IsNotNull x) = refl
-shape-encode (kind.IsBetween k x low high) = rw (closed-code-low k)
-shape-encode (kind.List ty marked start count) = rw (flag-code-low marked, and-true)
-shape-encode (kind.IsIn equal x list) = rw (flag-code-low equal)
+shape-encode text (kind.Null ty) = rw and-true
+shape-encode text (kind.Binary o x y) = rw (code-low o)
+shape-encode text (kind.Not x) = refl
+shape-encode text (kind.IsNull x) = refl
+shape-encode text (kind.IsNotNull x) = refl
+shape-encode text (kind.IsBetween k x low high) = rw (closed-code-low k)
+shape-encode text (kind.List ty marked start count) = rw (flag-code-low marked, and-true)
+shape-encode text (kind.IsIn equal x list) = rw (flag-code-low equal)

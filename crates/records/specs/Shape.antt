@@ -1,20 +1,43 @@
 -- Number 4 of 01: an unknown kind, code or type, a nonzero unused field, a literal outside its type. A fault of the bytes of
 -- one record alone.
-use Prim.Native.Nat.{ℕ, _+_, _*_}
+use Prim.Native.Nat.{ℕ, _+_, _-_, _*_, _/_, _%_}
 use mathlib.Core.Bool.{Bool, true, false, cond, _&&_, _||_}
 use mathlib.Core.List.{List, [], _∷_}
 use lib.ListN.{getD}
 use lib.Dec.{ltb, leb, eqb}
 use Rattle.records.specs.declared.record.Fields.{Fields}
 
--- types: 1 Int, 2 Day, 3 Truth
-unfoldable pub knownType : ℕ → Bool
-knownType ty = leb 1 ty && leb ty 3
+-- A screen with symbols (02, 2.10) has a text pool beside it. Here and above `text` is one more than the bytes of the pool
+-- that is lent, and 0 where none is: then there is no type 4.
+-- types: 1 Int, 2 Day, 3 Truth, 4 Text
+unfoldable pub knownTypeIn : ℕ → ℕ → Bool
+knownTypeIn text ty = leb 1 ty && leb ty (cond (eqb text 0) 3 4)
 
--- v, 64 bits in two's complement, is a value of the type: any Int; a Day of 32 signed bits; a Truth 0 or 1
-unfoldable pub inType : ℕ → ℕ → Bool
-inType ty v =
-    cond (eqb ty 1) true (cond (eqb ty 2) (ltb v 2147483648 || leb 18446744071562067968 v) (leb v 1))
+-- a symbol packs its start in the low half of its 64 bits and its length in the high half
+abbrev pub startOf : ℕ → ℕ
+startOf v = v % 4294967296
+
+abbrev pub lengthOf : ℕ → ℕ
+lengthOf v = v / 4294967296
+
+-- it lies in a pool of that many bytes, and has at most 16
+unfoldable pub inPool : ℕ → ℕ → Bool
+inPool size v = leb (startOf v + lengthOf v) size && leb (lengthOf v) 16
+
+-- v, 64 bits in two's complement, is a value of the type: any Int; a Day of 32 signed bits; a Text in its pool; a Truth
+-- 0 or 1
+unfoldable pub inTypeIn : ℕ → ℕ → ℕ → Bool
+inTypeIn text ty v =
+    cond (eqb ty 1) true
+    (cond (eqb ty 2) (ltb v 2147483648 || leb 18446744071562067968 v)
+    (cond (eqb text 0) (leb v 1) (cond (eqb ty 4) (inPool (text - 1) v) (leb v 1))))
+
+-- the same where no text pool is lent
+abbrev pub knownType : ℕ → Bool
+knownType ty = knownTypeIn 0 ty
+
+abbrev pub inType : ℕ → ℕ → Bool
+inType ty v = inTypeIn 0 ty v
 
 -- the fields that 01's list of kinds names, the code (`maxCode`) apart; a literal's value in bytes 8-15 is B and C
 pub data Field : Type 0 where
@@ -65,10 +88,10 @@ unfoldable pub maxCode : ℕ → ℕ
 maxCode k = cond (eqb k 4) 19 (cond (eqb k 8) 3 (cond (eqb k 9 || eqb k 10) 1 0))
 
 -- the kind, its code and its type are known; a kind without a type has 0 there
-unfoldable pub knownOk : Fields → Bool
-knownOk f =
+unfoldable pub knownOkIn : ℕ → Fields → Bool
+knownOkIn text f =
     leb 1 (f .kind) && (leb (f .kind) 10
-    && (leb (f .code) (maxCode (f .kind)) && cond (uses Ty (f .kind)) (knownType (f .ty)) (eqb (f .ty) 0)))
+    && (leb (f .code) (maxCode (f .kind)) && cond (uses Ty (f .kind)) (knownTypeIn text (f .ty)) (eqb (f .ty) 0)))
 
 -- a field that is not used is zero
 unfoldable pub zeroOr : Bool → ℕ → Bool
@@ -80,8 +103,11 @@ unusedOk f =
     && (zeroOr (uses A (f .kind)) (f .a) && (zeroOr (uses B (f .kind)) (f .b) && zeroOr (uses C (f .kind)) (f .c)))
 
 -- a literal is of its type
-unfoldable pub literalOk : Fields → Bool
-literalOk f = cond (eqb (f .kind) 2) (inType (f .ty) (f .b + 4294967296 * f .c)) true
+unfoldable pub literalOkIn : ℕ → Fields → Bool
+literalOkIn text f = cond (eqb (f .kind) 2) (inTypeIn text (f .ty) (f .b + 4294967296 * f .c)) true
 
-unfoldable pub shapeOk : Fields → Bool
-shapeOk f = knownOk f && (unusedOk f && literalOk f)
+unfoldable pub shapeOkIn : ℕ → Fields → Bool
+shapeOkIn text f = knownOkIn text f && (unusedOk f && literalOkIn text f)
+
+abbrev pub shapeOk : Fields → Bool
+shapeOk f = shapeOkIn 0 f

@@ -1,8 +1,8 @@
 // `Operator` of src/dsl/expr/mod.rs, its variants in the Rust's order; a binary record holds its place there as a code.
+// Three of its methods are crate operators.
 ghost use mathlib.Core.Path.{_≡_};
 ghost use Prim.Native.Nat.{_<_};
-ghost use Rattle.records.specs.Operator.{codeOf, operatorAt, isComparison, isNullPropagatingComparison, isLeftOut, swapOperands};
-ghost use Rattle.records.specs.Operator as operator;
+ghost use Rattle.records.specs.Operator.{codeOf, operatorAt, isComparison, isLeftOut};
 
 pub enum Operator {
     Eq,
@@ -109,88 +109,4 @@ pub fn is_left_out(o: Operator) -> bool
 {
     let code = operator_code(o);
     (8 <= code) & (code <= 12)
-}
-
-// Comparisons for which a null operand gives null. The validity variants take null as a value.
-pub fn is_null_propagating_comparison(o: Operator) -> bool
-    ensures { λ r. ⌜ r ≡ isNullPropagatingComparison o ⌝ }
-{
-    match o {
-        Operator::Eq => true,
-        Operator::EqValidity => false,
-        Operator::NotEq => true,
-        Operator::NotEqValidity => false,
-        Operator::Lt => true,
-        Operator::LtEq => true,
-        Operator::Gt => true,
-        Operator::GtEq => true,
-        Operator::Plus => false,
-        Operator::Minus => false,
-        Operator::Multiply => false,
-        Operator::RustDivide => false,
-        Operator::TrueDivide => false,
-        Operator::FloorDivide => false,
-        Operator::Modulus => false,
-        Operator::And => false,
-        Operator::Or => false,
-        Operator::Xor => false,
-        Operator::LogicalAnd => false,
-        Operator::LogicalOr => false,
-    }
-}
-
-// The operator such that `b op.swap_operands() a` is equivalent to `a op b`.
-pub fn swap_operands(o: Operator) -> Swapped
-    ensures { λ r. ⌜ r ≡ swapOperands o ⌝ }
-{
-    match o {
-        Operator::Eq => Swapped::To(Operator::Eq),
-        Operator::EqValidity => Swapped::To(Operator::EqValidity),
-        Operator::NotEq => Swapped::To(Operator::NotEq),
-        Operator::NotEqValidity => Swapped::To(Operator::NotEqValidity),
-        Operator::Lt => Swapped::To(Operator::Gt),
-        Operator::LtEq => Swapped::To(Operator::GtEq),
-        Operator::Gt => Swapped::To(Operator::Lt),
-        Operator::GtEq => Swapped::To(Operator::LtEq),
-        Operator::Plus => Swapped::To(Operator::Plus),
-        Operator::Minus => Swapped::Nothing,
-        Operator::Multiply => Swapped::To(Operator::Multiply),
-        Operator::RustDivide => Swapped::Nothing,
-        Operator::TrueDivide => Swapped::Nothing,
-        Operator::FloorDivide => Swapped::Nothing,
-        Operator::Modulus => Swapped::Nothing,
-        Operator::And => Swapped::To(Operator::And),
-        Operator::Or => Swapped::To(Operator::Or),
-        Operator::Xor => Swapped::To(Operator::Xor),
-        Operator::LogicalAnd => Swapped::To(Operator::LogicalAnd),
-        Operator::LogicalOr => Swapped::To(Operator::LogicalOr),
-    }
-}
-
-// The operator such that `a op.negate() b` is equivalent to `!(a op b)`.
-pub fn negate(o: Operator) -> Negated
-    ensures { λ r. ⌜ r ≡ operator.negate o ⌝ }
-{
-    match o {
-        Operator::Eq => Negated::To(Operator::NotEq),
-        Operator::EqValidity => Negated::To(Operator::NotEqValidity),
-        Operator::NotEq => Negated::To(Operator::Eq),
-        Operator::NotEqValidity => Negated::To(Operator::EqValidity),
-        Operator::Lt => Negated::To(Operator::GtEq),
-        Operator::LtEq => Negated::To(Operator::Gt),
-        Operator::Gt => Negated::To(Operator::LtEq),
-        Operator::GtEq => Negated::To(Operator::Lt),
-        Operator::Plus => Negated::Nothing,
-        Operator::Minus => Negated::Nothing,
-        Operator::Multiply => Negated::Nothing,
-        Operator::RustDivide => Negated::Nothing,
-        Operator::TrueDivide => Negated::Nothing,
-        Operator::FloorDivide => Negated::Nothing,
-        Operator::Modulus => Negated::Nothing,
-        Operator::And => Negated::Nothing,
-        Operator::Or => Negated::Nothing,
-        Operator::Xor => Negated::Nothing,
-        Operator::LogicalAnd => Negated::Nothing,
-        Operator::LogicalOr => Negated::Nothing,
-    }
 }

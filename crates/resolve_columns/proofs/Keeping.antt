@@ -7,7 +7,7 @@ use mathlib.Core.Option.{Option, none, some}
 use Prim.Native.Nat.{ℕ, zero, suc, _+_, _-_, _<_, _≤_, _%_}
 use native.Mathlib.Omega.{arith}
 use native.Mathlib.Numerals.{add-one}
-use lib.ListN.{length, getD, set, length-set}
+use lib.ListN.{length, getD, set}
 use lib.Dec.{ltb, eqb}
 use borrow.Author.Tests.{eq-eqb, ne-eqb, ltb-false}
 use Rattle.constraints.specs.Column as q
@@ -60,7 +60,7 @@ pub kept-more :
     (t : Conjuncts) (table : List ColumnConstraints) (ms : List ℕ) (T : ColumnTable) (lefts rights equals kept : List ℕ) (keeps keeps′ e x : ℕ)
     (dropped fixed : Bool) (l : List ℕ) → Shows t table ms T
     → Kept T (edgesOf lefts rights equals e) kept keeps dropped l
-    → getD lefts e 0 < 64 → keeps < 260 → x ≡ getD lefts e 0 % 64
+    → getD lefts e 0 < 64 → keeps < length kept → x ≡ getD lefts e 0 % 64
     → fixed ≡ isFixed (fixedAt lined (columnOf t (columnAt table ms x) .lower)
     (columnOf t (columnAt table ms x) .upper))
     → keeps′ ≡ cond fixed keeps (keeps + 1)
@@ -103,7 +103,6 @@ kept-more t table ms T lefts rights equals kept keeps keeps′ e x dropped fixed
         subst (λ k. Keeps (set kept keeps (getD equals e 0)) k (l ++ keptEqualities lined T es ++ []))
         (sym (ek ∙ ap (λ b. cond b keeps (keeps + 1)) ef))
         (record {
-          size = length-set kept keeps (getD equals e 0) ∙ K .keeping .size;
           listed = first-kept kept keeps (getD equals e 0) keeps (omega arith) ∙ K .keeping .listed
               ∙ sym (append-nil (l ++ keptEqualities lined T es));
         })

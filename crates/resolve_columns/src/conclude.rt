@@ -41,8 +41,8 @@ pub fn keep_equalities(
     kept: &mut [u32],
     keeps: usize,
 ) -> KeptNodes
-    requires { ⌜ (length (now cells) ≡ 704) × (edges ≤ length (now lefts)) × (edges ≤ length (now equals))
-        × (keeps + edges ≤ 256) × (length (now kept) ≡ 260) ⌝ }
+    requires { ⌜ (length (now cells) ≡ 448) × (edges ≤ length (now lefts)) × (edges ≤ length (now equals))
+        × (keeps + edges ≤ 256) × (keeps + edges ≤ length (now kept)) ⌝ }
     requires { ⌜ ((e : ℕ) → e < edges → getD (now lefts) e 0 < 64) ⌝ }
     ensures { λ r. ⌜ ((t : Conjuncts) (marks : List ℕ) (T : ColumnTable) (l rights : List ℕ) →
         Shows t (columnsOf (now (cells .entry))) marks T → Keeps (now (kept .entry)) keeps l →

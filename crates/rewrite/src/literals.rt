@@ -13,7 +13,7 @@ ghost use Rattle.rewrite.specs.Told.{ToldConjunct};
 use read_operands::operands::Comparison;
 use read_operands::operands::Conjunct;
 use read_operands::operands::Says;
-use reading::classify::classify;
+use reading::classify::classify_by_record;
 use records::record::Node;
 
 fn said_by(k: Conjunct) -> Says
@@ -135,7 +135,7 @@ pub fn read_literals(
             i += 1;
             continue;
         }
-        let k = classify(rs, node);
+        let k = classify_by_record(rs, node);
         let s = said_by(k);
         kinds[i] = kind_of(s);
         values[i] = literal_of(s);

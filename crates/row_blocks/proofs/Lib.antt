@@ -1,4 +1,5 @@
 pub mod Turns
 pub mod Worths
+pub mod Telling
 pub mod Working
 pub mod Dividing

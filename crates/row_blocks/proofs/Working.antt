@@ -59,6 +59,11 @@ module _ (rs p : List ℕ) (columns : ℕ) (values nulls : List ℕ) (base rows 
       rw (getD-set-other truths n j (m .truths) 0 d, getD-set-other unknowns n j (m .unknowns) 0 d)
       (w j (omega (arith, h, d)) e kept))
 
+  pub worked-all : (marks truths unknowns : List ℕ) (n root : ℕ) → root < n → Worked marks truths unknowns n → (m : ℕ)
+      → m < root + 1 → getD marks m 0 ≡ 1 → Held rs p columns values nulls base rows truths unknowns m
+  unfolding Worked
+  worked-all marks truths unknowns n root h w m l e = w m (omega (arith, h, l)) e
+
   module _ (root : ℕ) (ok : Ready rs p columns values nulls base rows root) where
     pub ready-upto : (n : ℕ) → n ≤ root → Ready rs p columns values nulls base rows n
     ready-upto n h =
@@ -90,9 +95,8 @@ module _ (rs p : List ℕ) (columns : ℕ) (values nulls : List ℕ) (base rows 
           kept = k;
         }
 
-    pub root-input : (marks truths unknowns : List ℕ) (n : ℕ) → root < n → root < length truths → root < length unknowns
-        → getD marks root 0 ≡ 1 → Worked marks truths unknowns n
+    pub root-held : (marks truths unknowns : List ℕ) → root < length truths → root < length unknowns → getD marks root 0 ≡ 1
+        → ((m : ℕ) → m < root + 1 → getD marks m 0 ≡ 1 → Held rs p columns values nulls base rows truths unknowns m)
         → Input rs p columns values nulls base rows truths unknowns root
-    unfolding Worked
-    root-input marks truths unknowns n h ht hu e w =
-        record { ready = ok; held = w root h e; truths-room = ht; unknowns-room = hu }
+    root-held marks truths unknowns ht hu e w =
+        record { ready = ok; held = w root (omega arith) e; truths-room = ht; unknowns-room = hu }

@@ -170,7 +170,7 @@ module _ (rs p : List ℕ) (columns : ℕ) (values nulls : List ℕ) (base rows 
       is-column : chainValue columns values nulls (f .a) (base + i) ≡ leafOf (rowKeys (rowOf i) (marksOf i)) f
       is-column = column-leaf columns values nulls (base + i) f k
 
-  literal-worth : f .kind ≡ 2 → (i : ℕ) → i < rows → some (key (f .b + 4294967296 * f .c)) ≡ worthOf i
+  pub literal-worth : f .kind ≡ 2 → (i : ℕ) → i < rows → some (key (f .b + 4294967296 * f .c)) ≡ worthOf i
   literal-worth k i h =
       literal-leaf (rowKeys (rowOf i) (marksOf i)) f k ∙ leaf-worth (small-leaf (omega (arith, k))) i h
 

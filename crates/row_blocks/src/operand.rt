@@ -143,6 +143,7 @@ pub fn operand(
             n,
             keys,
             at,
+            truths,
         );
     }
     18446744073709551615

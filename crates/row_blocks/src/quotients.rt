@@ -8,6 +8,7 @@ ghost use lib.ListN.{length, getD};
 ghost use Rattle.truth.specs.Evaluate.{keyed, dividedOf};
 ghost use Rattle.masks.specs.Masks.{KeyAt, Shown};
 ghost use Rattle.masks.specs.Block.{chainWorth, Ready};
+use crate::depths::is_deeper;
 use crate::operand::fill_keys;
 use crate::operand::fill_rows;
 use crate::operand::join;
@@ -115,7 +116,8 @@ fn divides(f: Fields, room: usize, need: usize) -> bool
 }
 
 /// The value of record n: its keys from `at` on, and the word of its nulls. What stands before `at` stays. A division has its
-/// inputs' keys there and in the next 64 words; where there are not so many, rows are worked one by one.
+/// inputs' keys there and in the next 64 words; where there are not so many, rows are worked one by one. `depths`
+/// settles which input is worked first, and no value.
 pub fn fill_worth(
     records: &[u8],
     pool: &[u8],
@@ -127,6 +129,7 @@ pub fn fill_worth(
     n: Node,
     keys: &mut [u64],
     at: usize,
+    depths: &[u64],
 ) -> u64
     requires { ⌜ Ready (now records) (now pool) columns (now values) (now nulls) base rows (n .0) ⌝ }
     requires { ⌜ at + 64 ≤ length (now keys) ⌝ }
@@ -156,9 +159,8 @@ pub fn fill_worth(
             at,
         );
     }
-    // The deeper input first, so that its scratch is free again: one that is no division is not deep.
-    let g = fields_in(records, Node(f.a));
-    let turned = g.kind != 4;
+    // The deeper input first, so that its scratch is free again.
+    let turned = is_deeper(depths, f.b, f.a);
     let p = fill_worth(
         records,
         pool,
@@ -170,6 +172,7 @@ pub fn fill_worth(
         Node(pick_input(turned, f.b, f.a)),
         keys,
         at,
+        depths,
     );
     let q = fill_worth(
         records,
@@ -182,6 +185,7 @@ pub fn fill_worth(
         Node(pick_input(turned, f.a, f.b)),
         keys,
         at + 64,
+        depths,
     );
     divide_turned(f.code, turned, keys, at, rows, p, q)
 }

@@ -9,7 +9,7 @@ ghost use Rattle.three_valued.specs.Logic.{ofBool};
 ghost use Rattle.truth.specs.Evaluate.{nullTest};
 ghost use Rattle.masks.specs.Masks.{Tells, Shown};
 ghost use Rattle.masks.specs.Block.{chainTruth, Turn};
-ghost use Rattle.pool_lists.specs.Order.{Ordered};
+ghost use Rattle.pool_order.specs.Order.{Ordered};
 use crate::operand::operand;
 use crate::operand::truth_input;
 use masks::Masks;
@@ -245,6 +245,17 @@ fn between_record(
     between_columns(f.code, keys, x, low, high)
 }
 
+// Where a column's numbers in the order of the pool may be kept for a block, behind the scratch of divisions; other inputs keep
+// none.
+fn hints_at(g: Fields) -> usize
+    ensures { λ r. ⌜ (64 ≤ r) × (r ≤ 8192) ⌝ }
+{
+    if g.kind == 1 {
+        return 832 + 17 * (g.a % 64) as usize;
+    }
+    8192
+}
+
 // is_in.
 fn member_record(
     records: &[u8],
@@ -283,7 +294,10 @@ fn member_record(
         keys,
         0,
     );
-    member_masks(pool, order, list, f.code == 1, keys, 0, x)
+    let hints = hints_at(fields_in(records, Node(f.a)));
+    // Blocks begin at multiples of 64.
+    let stamp = base as u64 ^ 1;
+    member_masks(pool, order, list, f.code == 1, keys, x, hints, stamp)
 }
 
 // The tests of values.

@@ -8,13 +8,13 @@ use Rattle.records.specs.Bytes.{word, valueAt, all, first}
 use Rattle.records.specs.Course.{upTo, course}
 use Rattle.records.specs.Operator.{operatorAt}
 use Rattle.records.specs.Record.{fieldsAt, closedAt, decode, recordAt}
-use Rattle.records.specs.Shape.{knownType, inType, maxCode, uses, knownOk, zeroOr, unusedOk}
-use Rattle.records.specs.Shape.{literalOk}
-use Rattle.records.specs.Shape.{shapeOk}
-use Rattle.record_check.specs.Fit.{allFit, listOk, reachOk, servedOk, typeOf, typeAt, sameType, binaryFits, betweenFits}
+use Rattle.records.specs.Shape.{knownType, knownTypeIn, inType, inTypeIn, maxCode, uses, knownOkIn, zeroOr, unusedOk}
+use Rattle.records.specs.Shape.{literalOkIn}
+use Rattle.records.specs.Shape.{shapeOk, shapeOkIn}
+use Rattle.record_check.specs.Fit.{allFit, allFitIn, listOk, listOkIn, reachOk, reachOkIn, servedOk, typeOf, typeAt, sameType, binaryFits, betweenFits}
 use Rattle.record_check.specs.Fit.{memberFits, typesOk}
-use Rattle.checking.specs.Check.{typesKnown, tableOk, sizesOk, meaningFault, recordFault, firstFault, recordsAnswer}
-use Rattle.checking.specs.Check.{checkAnswer}
+use Rattle.checking.specs.Check.{typesKnown, typesKnownIn, tableOk, tableOkIn, sizesOk, sizesOkIn, meaningFaultIn, recordFault, recordFaultIn, firstFaultIn, recordsAnswerIn}
+use Rattle.checking.specs.Check.{checkAnswer, checkAnswerIn}
 use Rattle.three_valued.specs.declared.logic.Truth.the-variants.{False, Unknown, True}
 use Rattle.row_test.specs.declared.test.RowAnswer.{RowAnswer}
 use Rattle.row_test.specs.declared.test.RowAnswer.the-variants.{Refused, Tested}
@@ -269,9 +269,9 @@ cases =
     ∷ []
 
 all-hold : askedOf cases ≡ toldOf cases
-unfolding word valueAt all first upTo course operatorAt fieldsAt closedAt decode recordAt knownType
-    inType maxCode uses knownOk zeroOr unusedOk literalOk shapeOk allFit listOk reachOk
-    servedOk typeOf typeAt sameType binaryFits betweenFits memberFits typesOk typesKnown tableOk sizesOk
-    meaningFault recordFault firstFault recordsAnswer checkAnswer valuesFrom aexprOf aexprAt rowKeys columnOk
+unfolding word valueAt all first upTo course operatorAt fieldsAt closedAt decode recordAt knownTypeIn
+    inTypeIn maxCode uses knownOkIn zeroOr unusedOk literalOkIn shapeOkIn allFitIn listOkIn reachOkIn
+    servedOk typeOf typeAt sameType binaryFits betweenFits memberFits typesOk typesKnownIn tableOkIn sizesOkIn
+    meaningFaultIn recordFaultIn firstFaultIn recordsAnswerIn checkAnswerIn valuesFrom aexprOf aexprAt rowKeys columnOk
     columnsOk rowFault checkedAnswer testRowAnswer
 all-hold = refl

@@ -11,9 +11,9 @@ use lib.ListN.{length}
 use borrow.Author.Tests.{ltb-true, leb-true, eqb-true, lt-ltb}
 use Rattle.records.specs.Operator.{operatorAt, codeOf, isLeftOut}
 use Rattle.records.specs.Record.{fieldsAt, decode, recordAt, node, columnNumber, closedAt, inputs}
-use Rattle.records.specs.Shape.{shapeOk, knownOk, unusedOk, literalOk, maxCode, Ty, uses, knownType}
-use Rattle.record_check.specs.Fit.{reachOk, servedOk, typesOk, typeAt, listOk, allFit, memberFits}
-use Rattle.checking.specs.Check.{tableOk, typesKnown}
+use Rattle.records.specs.Shape.{shapeOk, shapeOkIn, knownOkIn, unusedOk, literalOkIn, maxCode, Ty, uses, knownType}
+use Rattle.record_check.specs.Fit.{reachOk, reachOkIn, servedOk, typesOk, typeAt, listOk, listOkIn, allFit, allFitIn, memberFits}
+use Rattle.checking.specs.Check.{tableOk, tableOkIn, typesKnown}
 use Rattle.checking.specs.Checked.{CheckedRecord, Checked}
 use Rattle.records.specs.declared.operator.Operator.{Operator}
 use Rattle.records.specs.declared.operator.Operator.the-variants as operator
@@ -166,11 +166,11 @@ module _ (f : Fields) where
   decode-in k = rw k
 
   code-known : shapeOk f ≡ true → leb (f .code) (maxCode (f .kind)) ≡ true
-  unfolding shapeOk knownOk
+  unfolding shapeOkIn knownOkIn
   code-known e =
       third (leb 1 (f .kind)) (leb (f .kind) 10) (leb (f .code) (maxCode (f .kind)))
       (cond (uses Ty (f .kind)) (knownType (f .ty)) (eqb (f .ty) 0))
-      (and-left (knownOk f) (unusedOk f && literalOk f) e)
+      (and-left (knownOkIn 0 f) (unusedOk f && literalOkIn 0 f) e)
 
   binary-code : f .kind ≡ 4 → shapeOk f ≡ true → f .code < 20
   unfolding maxCode
@@ -186,7 +186,7 @@ module _ (f : Fields) where
   column-fit :
       (t p row : List ℕ) (n : ℕ) → length t ≤ 64 → length row ≡ 8 * length t → f .kind ≡ 1 →
       reachOk t p (decode f) (node n) ≡ true → ColumnThere row (f .a)
-  unfolding reachOk
+  unfolding reachOkIn
   column-fit t p row n small long k e =
       let h : f .a < length t =
       ltb-true (f .a) (length t) (subst (λ r. reachOk t p r (node n) ≡ true) (decode-column k) e) in
@@ -194,7 +194,7 @@ module _ (f : Fields) where
 
   list-fit : (t p : List ℕ) (n : ℕ) → f .kind ≡ 9 → reachOk t p (decode f) (node n) ≡ true → 8 * (f .a + f .b) ≤
       length p
-  unfolding listOk allFit reachOk
+  unfolding listOkIn allFitIn reachOkIn
   list-fit t p n k e =
       let h : f .a + f .b ≤ length p / 8 =
       leb-true (f .a + f .b) (length p / 8)
@@ -225,7 +225,7 @@ module _ (f : Fields) where
       no e = absurd (true≢false (sym e))
 
 pub columns-small : (t rs p : List ℕ) (used root : ℕ) → Checked t rs p used root → length t ≤ 64
-unfolding tableOk
+unfolding tableOkIn
 columns-small t rs p used root ok = leb-true (length t) 64 (and-left (leb (length t) 64) (typesKnown t) (ok .table))
 
 -- ---- a checked screen and a row of its length

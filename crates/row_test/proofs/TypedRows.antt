@@ -12,7 +12,7 @@ use lib.IntN.{ℤ}
 use lib.ListN.{length, getD}
 use borrow.Author.Tests.{leb-true}
 use Rattle.records.specs.Bytes.{valueAt, all}
-use Rattle.records.specs.Shape.{inType}
+use Rattle.records.specs.Shape.{inType, inTypeIn}
 use Rattle.records.proofs.Loops.{all-holds}
 use Rattle.truth.specs.Halves.{key}
 use Rattle.truth.specs.Cell.{TruthKeys}
@@ -38,7 +38,7 @@ IsTruth x = (x ≡ none) ⊎ ((x ≡ some (truthKeys .falseKey)) ⊎ (x ≡ some
 pub truth-columns :
     (t row : List ℕ) (nulls : ℕ) → rowFault t row nulls ≡ 0 → (c : ℕ) → c < length t → getD t c 0 ≡ 3 →
     IsTruth (rowKeys row nulls c)
-unfolding rowKeys columnsOk columnOk inType
+unfolding rowKeys columnsOk columnOk inTypeIn
 truth-columns t row nulls e c h ty =
     go (nullMarked nulls c) (valueAt row c)
     (subst (λ y. cond (nullMarked nulls c) (eqb (valueAt row c) 0) (inType y (valueAt row c)) ≡ true) ty

@@ -14,7 +14,7 @@ fn column_ok(ty: u8, null: bool, v: u64) -> bool
     if null {
         return v == 0;
     }
-    in_type(ty, v)
+    in_type(0, ty, v)
 }
 
 fn columns_ok(table: &[u8], row: &[u8], nulls: u64) -> bool

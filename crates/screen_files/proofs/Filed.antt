@@ -5,7 +5,7 @@ use mathlib.Core.List.{List}
 use Prim.Native.Nat.{ℕ, _<_}
 use lib.ListN.{length, getD}
 use Rattle.file_blocks.specs.Format.{fileOf}
-use Rattle.file_blocks.specs.Read.{held}
+use Rattle.file_structure.specs.Read.{held}
 use Rattle.files.specs.Answers.{saveAnswer, saveBytes, loadAnswer, loadedBytes}
 use Rattle.files.specs.Calls.{saveNumber, savedLength, loadNumber, loadedRoot, loadedColumns, loadedUsed, loadedValues}
 use Rattle.files.specs.Calls.{SavePromise, LoadPromise}

@@ -10,7 +10,7 @@ use Rattle.checking.specs.declared.check.CheckAnswer.the-variants as check
 use Rattle.files.specs.Answers.{saveIf, saveAnswer, roomOk, heldAnswer, loadIf, loadAnswer}
 use Rattle.files.specs.Calls.{saveNumber, loadNumber}
 use Rattle.file_blocks.specs.Format.{fileLength}
-use Rattle.file_blocks.specs.Read.{structureOk, held, total, rootOf}
+use Rattle.file_structure.specs.Read.{structureOk, held, total, rootOf}
 use Rattle.files.specs.declared.save.SaveAnswer.{SaveAnswer}
 use Rattle.files.specs.declared.save.SaveAnswer.the-variants as save
 use Rattle.files.specs.declared.load.LoadAnswer.{LoadAnswer}

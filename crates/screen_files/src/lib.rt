@@ -3,7 +3,7 @@
 ghost use mathlib.Core.Path.{_≡_};
 ghost use mathlib.Core.Bool.{true};
 ghost use lib.ListN.{length};
-ghost use Rattle.file_blocks.specs.Read.{held};
+ghost use Rattle.file_structure.specs.Read.{held};
 ghost use Rattle.files.specs.Answers.{saveAnswer, saveBytes, loadAnswer, loadedBytes};
 ghost use Rattle.files.specs.Calls.{saveNumber, savedLength, loadNumber, loadedRoot, loadedColumns, loadedUsed, loadedValues};
 ghost use Rattle.files.specs.Calls.{SavePromise, LoadPromise};
@@ -11,7 +11,7 @@ ghost use Rattle.screen_files.specs.Listed.{saveListed, loadListed};
 use files::load::LoadAnswer;
 use files::load::load_screen;
 use files::save::SaveAnswer;
-use files::save::save_screen;
+use save_screen::save_screen;
 
 // Below 256: the refusal's number, and nothing is written. 256: the first `size` bytes of `file` are the file of the screen.
 #[no_mangle]

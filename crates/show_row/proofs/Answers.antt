@@ -23,7 +23,7 @@ use Rattle.masks.specs.Masks.{maskTo}
 use Rattle.read_operands.specs.Walk.{walked, firstOf}
 use Rattle.read_operands.proofs.Walks.{first-length}
 use Rattle.stages.proofs.Screens.{minterms-walked, conjuncts-used}
-use Rattle.in_the_way.specs.Lines.{isNothing}
+use Rattle.judge_lines.specs.Lines.{isNothing}
 use Rattle.row_shown.specs.Shown.{nullShown, placeShown, placesBytes}
 use Rattle.show_row.specs.declared.answer.ShowAnswer.{ShowAnswer}
 use Rattle.show_row.specs.declared.answer.ShowAnswer.the-variants as show

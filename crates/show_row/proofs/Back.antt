@@ -24,7 +24,7 @@ use Rattle.places.specs.Places.{wholeAt, halfAt, placeOk, placesOk, isHalf}
 use Rattle.row_shown.specs.declared.place.Place.{Place}
 use Rattle.row_shown.specs.Shown.{exactly, smallest, listPlace, upperPlace, lowerPlace, fixedPlace, placeBy, valuePlace}
 use Rattle.row_shown.specs.Shown.{placeBytes, placesBytes}
-use Rattle.show_row.proofs.Writing.{places-length}
+use Rattle.write_places.proofs.Writing.{places-length}
 
 -- ---- One place among the bytes.
 place-bytes : (f : ℕ → Place) (n c j : ℕ) → c < n → j < 16 → getD (placesBytes f n) (16 * c + j) 0 ≡ getD (placeBytes (f c)) j 0

@@ -13,7 +13,7 @@ use Rattle.listed.proofs.Listed.{refusal-listed}
 use Rattle.truth.specs.FromBytes.{aexprAt}
 use Rattle.merge.specs.Minterms.{minterms}
 use Rattle.merge.specs.Plain.{plainScreen}
-use Rattle.in_the_way.specs.Lines.{nothingPasses}
+use Rattle.judge_lines.specs.Lines.{nothingPasses}
 use Rattle.show_row.specs.declared.answer.ShowAnswer.{ShowAnswer}
 use Rattle.show_row.specs.declared.answer.ShowAnswer.the-variants as show
 use Rattle.show_row.specs.Answer.{shownNulls, showChecked, showIf, showAnswer}

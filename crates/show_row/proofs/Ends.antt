@@ -23,13 +23,13 @@ use Rattle.masks.specs.Masks.{maskTo}
 use Rattle.read_operands.specs.Walk.{firstOf}
 use Rattle.read_operands.proofs.Walks.{first-length}
 use Rattle.column_table.specs.State.{ColumnTable, Shows, edgesOf, Collects, collectTo, Spread, Resolved, resolvedIn}
-use Rattle.in_the_way.specs.Lines.{nothingPasses}
+use Rattle.judge_lines.specs.Lines.{nothingPasses}
 use Rattle.show_row.proofs.Nothing.{nothing-resolved}
 use Rattle.row_shown.specs.Shown.{exactly, valuePlace, nullIn, placeIn, placeShown, placesBytes}
 use Rattle.row_shown.specs.Bits.{bitsColumn}
 use Rattle.show_row.specs.declared.answer.ShowAnswer.the-variants as show
 use Rattle.show_row.specs.Answer.{collectedOf, shownNulls, shownBytes, rowAnswer}
-use Rattle.show_row.specs.Written.{RowWritten}
+use Rattle.write_places.specs.Written.{RowWritten}
 
 pub no-row : (R : ℕ → AExpr ℕ) (nodes : List ℕ) (k : ℕ) → true ≡ nothingPasses R nodes → show.NoRow ≡ rowAnswer R nodes k
 no-row R nodes k e = ap (λ b. cond b show.NoRow (show.Row (shownNulls R nodes k))) e

@@ -1,5 +1,4 @@
 pub mod Nothing
-pub mod Writing
 pub mod Ends
 pub mod Answers
 pub mod Reading

@@ -14,8 +14,8 @@ use Rattle.read_operands.specs.Walk.{firstOf}
 use Rattle.read_operands.proofs.Walks.{first-length}
 use Rattle.column_table.specs.State.{ColumnTable, Shows, edgesOf, Collects, collectTo, Spread, Resolved}
 use Rattle.filter_constraint.proofs.Concluding.{conclude-stopped}
-use Rattle.in_the_way.specs.Lines.{isNothing, nothingPasses}
-use Rattle.in_the_way.proofs.Ends.{nothing-contradict}
+use Rattle.judge_lines.specs.Lines.{isNothing, nothingPasses}
+use Rattle.judge_lines.proofs.Ends.{nothing-contradict}
 
 -- Reading stopped at an impossible line.
 pub nothing-stopped : (R : ℕ → AExpr ℕ) (nodes : List ℕ) (n : ℕ) (b : Bool) → b ≡ collectTo R nodes n .unsat → b ≡ true

@@ -29,9 +29,9 @@ use Rattle.merge.proofs.Demand.{payload, halves}
 use Rattle.merge.proofs.PlainForms.{plain-same}
 use Rattle.merge.proofs.Sound.{isIn-in, unsat-none}
 use Rattle.merge.proofs.Witness.{HalfPoints, rowValue, valueBy, witness}
-use Rattle.in_the_way.specs.Lines.{nothingPasses}
-use Rattle.in_the_way.proofs.Ends.{nothing-dead}
-use Rattle.in_the_way.proofs.Rows.{good, hold, exact}
+use Rattle.judge_lines.specs.Lines.{nothingPasses}
+use Rattle.judge_lines.proofs.Ends.{nothing-dead}
+use Rattle.judge_lines.proofs.Rows.{good, hold, exact}
 use Rattle.row_shown.specs.Shown.{exactly, valuePlace, nullShown, placeShown}
 use Rattle.row_shown.proofs.Witness.{keyOf, value-key}
 use Rattle.show_row.specs.Answer.{collectedOf}

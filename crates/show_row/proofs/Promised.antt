@@ -31,8 +31,8 @@ use Rattle.merge.proofs.Typed.{reads-only}
 use Rattle.merge.proofs.Unreached.{plain-unreached}
 use Rattle.masks.specs.Masks.{maskTo}
 use Rattle.masks.proofs.Bits.{mask-bit}
-use Rattle.in_the_way.specs.Lines.{nothingPasses}
-use Rattle.in_the_way.proofs.Rows.{screen-none}
+use Rattle.judge_lines.specs.Lines.{nothingPasses}
+use Rattle.judge_lines.proofs.Rows.{screen-none}
 use Rattle.places.specs.Places.{wholeAt, halfAt, placeKey, placesRow, placesOk}
 use Rattle.row_shown.specs.Shown.{nullShown, placeShown, placesBytes}
 use Rattle.show_row.specs.declared.answer.ShowAnswer.{ShowAnswer}

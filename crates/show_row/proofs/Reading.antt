@@ -10,7 +10,7 @@ use borrow.Author.Tests.{eqb-true, ltb-true}
 use Rattle.records.specs.Record.{node, recordAt}
 use Rattle.records.specs.declared.record.Record.{Record}
 use Rattle.records.specs.declared.record.Record.the-variants as kind
-use Rattle.record_check.specs.Fit.{reachOk}
+use Rattle.record_check.specs.Fit.{reachOk, reachOkIn}
 use Rattle.checking.specs.Checked.{Checked}
 use Rattle.truth.specs.AExpr.{AExpr, Column, Literal, Null, BinaryExpr, Not, IsNull, IsNotNull, IsBetween}
 use Rattle.truth.specs.AExpr.{ListLiteral, IsIn, Missing, Inputs, WF, Compare}
@@ -62,7 +62,7 @@ module _ (t rs p : List ℕ) (used root : ℕ) (ok : Checked t rs p used root) w
   InTable Missing = Unit {0}
 
   record-in : (n : ℕ) (r : Record) → reachOk t p r (node n) ≡ true → InTable (toAExpr p r)
-  unfolding reachOk
+  unfolding reachOkIn
   record-in n kind.Invalid h = tt
   record-in n (kind.Column c) h = ltb-true (c .0) (length t) h
   record-in n (kind.Literal ty v) h = tt

@@ -17,7 +17,7 @@ use Rattle.merge.specs.Classify.{classify}
 use Rattle.merge.specs.Collect.{Collected, begin, collect}
 use Rattle.merge.specs.Plain.{plainScreen}
 use Rattle.masks.specs.Masks.{maskTo}
-use Rattle.in_the_way.specs.Lines.{nothingPasses}
+use Rattle.judge_lines.specs.Lines.{nothingPasses}
 use Rattle.row_shown.specs.Shown.{nullShown, placeShown, placesBytes}
 use Rattle.show_row.specs.declared.answer.ShowAnswer.{ShowAnswer}
 use Rattle.show_row.specs.declared.answer.ShowAnswer.the-variants as show

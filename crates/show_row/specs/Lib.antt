@@ -1,4 +1,3 @@
 pub mod Answer
 pub mod Calls
-pub mod Written
 pub mod Low

@@ -19,7 +19,6 @@ ghost use Rattle.show_row.specs.Low.{LowShown};
 pub mod answer;
 pub mod indexed;
 pub mod merged;
-pub mod write;
 
 use crate::answer::ShowAnswer;
 use crate::indexed::show_indexed;

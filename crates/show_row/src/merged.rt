@@ -14,10 +14,10 @@ ghost use Rattle.show_row.specs.Answer.{rowAnswer, shownBytes};
 ghost use Rattle.show_row.specs.Calls.{rowOut};
 ghost use Rattle.show_row.specs.Low.{LowWholes};
 use crate::answer::ShowAnswer;
-use crate::write::write_places;
 use collect_constraints::collect::collect;
 use propagate_equalities::propagate::propagate_equalities;
 use resolve_columns::conclude::resolve_all;
+use write_places::write_places;
 
 /// The first n of `nodes` are the lines of a plain screen; kinds, values, starts and counts are their tables, `index` is the
 /// index of the lists or has none, `marks` has room for the columns' numbers, `row` has room for the columns' places.
@@ -45,12 +45,12 @@ pub fn show_lines(
         (firstOf (now (nodes .entry)) n) columns) (now (row .entry)) ⌝ }
     ensures { λ r. ⌜ LowWholes r (aexprOf (now (rs .entry)) (now (p .entry))) (firstOf (now (nodes .entry)) n) columns ⌝ }
 {
-    let mut cells = [0u64; 704];
-    let mut order = [0u32; 260];
-    let mut kept = [0u32; 260];
-    let mut lefts = [0u32; 130];
-    let mut rights = [0u32; 130];
-    let mut equals = [0u32; 130];
+    let mut cells = [0u64; 448];
+    let mut order = [0u32; 256];
+    let mut kept = [0u32; 128];
+    let mut lefts = [0u32; 128];
+    let mut rights = [0u32; 128];
+    let mut equals = [0u32; 128];
     let s = collect(
         rs,
         p,

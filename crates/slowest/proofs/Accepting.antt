@@ -10,14 +10,14 @@ use lib.ListN.{length, getD, replicate, length-replicate, getD-replicate}
 use borrow.Author.Tests.{lt-ltb, le-leb}
 use Rattle.records.specs.Bytes.{all}
 use Rattle.records.specs.Record.{node, columnNumber, fieldsAt, recordAt, encode, inputs}
-use Rattle.records.specs.Shape.{knownType, inType, maxCode, uses, knownOk, zeroOr, unusedOk, literalOk, shapeOk}
+use Rattle.records.specs.Shape.{knownType, knownTypeIn, inType, inTypeIn, maxCode, uses, knownOkIn, zeroOr, unusedOk, literalOkIn, shapeOk, shapeOkIn}
 use Rattle.records.specs.declared.operator.Operator.the-variants as operator
 use Rattle.records.specs.declared.record.Record.{Record}
 use Rattle.records.specs.declared.record.Record.the-variants as kind
 use Rattle.records.proofs.Courses.{course-law}
-use Rattle.checking.specs.Check.{typesKnown, tableOk, sizesOk, checkAnswer}
+use Rattle.checking.specs.Check.{typesKnown, typesKnownIn, tableOk, tableOkIn, sizesOk, checkAnswer}
 use Rattle.checking.specs.Checked.{CheckedRecord, Checked}
-use Rattle.record_check.specs.Fit.{reachOk, servedOk, typeOf, typeAt, sameType, binaryFits, typesOk}
+use Rattle.record_check.specs.Fit.{reachOk, reachOkIn, servedOk, typeOf, typeAt, sameType, binaryFits, typesOk}
 use Rattle.checking.specs.Tree.{sumAt, treeStep, treeCount}
 use Rattle.truth.specs.AExpr.{AExpr, Column, Literal, BinaryExpr, Compare, And, Missing, WF}
 use Rattle.truth.specs.Comparison.{Eq, Gt}
@@ -45,7 +45,7 @@ all-from p zero h = refl
 all-from p (suc n) h = rw (all-from p n (λ i k. h i (omega (arith, k))), h n (omega arith))
 
 table-ok : (n : ℕ) → n ≤ 64 → tableOk (slowestTable n) ≡ true
-unfolding tableOk typesKnown knownType
+unfolding tableOkIn typesKnownIn knownTypeIn
 table-ok n s =
     let l : length (slowestTable n) ≡ n = length-replicate n 1 in
     ap (λ b. b && typesKnown (slowestTable n)) (le-leb (length (slowestTable n)) 64 (omega (arith, l, s)))
@@ -94,7 +94,7 @@ module _ (n : ℕ) (few : 2 ≤ n) (most : n ≤ 64) (rs p : List ℕ) (built : 
       (shapeOk (encode r) ≡ true) × (reachOk t p r (node i) ≡ true) × (servedOk r ≡ true) × (typesOk t rs r ≡ true)
 
   faultless : (i : ℕ) → i < 3 * n → Faultless i (slowestRecord n i)
-  unfolding encode shapeOk knownOk unusedOk literalOk knownType inType maxCode zeroOr uses reachOk servedOk typesOk
+  unfolding encode shapeOkIn knownOkIn unusedOk literalOkIn knownTypeIn inTypeIn maxCode zeroOr uses reachOkIn servedOk typesOk
       binaryFits sameType
   faultless i l =
       by-form n i (Faultless i) l

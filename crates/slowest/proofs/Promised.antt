@@ -8,7 +8,7 @@ use native.Mathlib.Omega.{arith}
 use lib.Dec.{ltb, leb}
 use lib.ListN.{length, length-append, length-map}
 use borrow.Author.Tests.{le-ltb, le-leb}
-use Rattle.checking.specs.Check.{sizesOk, checkAnswer}
+use Rattle.checking.specs.Check.{sizesOk, sizesOkIn, checkAnswer}
 use Rattle.checking.specs.Checked.{Checked}
 use Rattle.checking.specs.Tree.{sumAt, treeCount}
 use Rattle.checking.specs.declared.check.CheckAnswer.the-variants as check
@@ -174,7 +174,7 @@ module _ (m : ℕ) (most : m ≤ 62) (rs : List ℕ) (built : Built (suc (suc m)
   s = collect payload (conjunctsDown f (suc m)) begin
 
   sizes : sizesOk rs [] (slowestUsed n) ≡ true
-  unfolding sizesOk
+  unfolding sizesOkIn
   sizes =
       rw (le-leb (slowestUsed n) 4096 (omega (arith, most)), le-leb (slowestUsed n) (length rs / 16) (omega (arith, lent)))
 

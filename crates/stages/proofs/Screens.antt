@@ -8,8 +8,8 @@ use lib.ListN.{length, getD}
 use lib.Dec.{leb, ltb}
 use borrow.Author.Tests.{ltb-true, ltb-false, leb-true}
 use Rattle.records.specs.Record.{node, recordAt}
-use Rattle.record_check.specs.Fit.{reachOk}
-use Rattle.checking.specs.Check.{tableOk, typesKnown}
+use Rattle.record_check.specs.Fit.{reachOk, reachOkIn}
+use Rattle.checking.specs.Check.{tableOk, tableOkIn, typesKnown}
 use Rattle.checking.specs.Checked.{Checked}
 use Rattle.records.specs.declared.operator.Operator.{Operator}
 use Rattle.records.specs.declared.operator.Operator.the-variants as operator
@@ -133,7 +133,7 @@ binary-in-table k operator.LogicalOr x y = tt
 -- A column that a checked record names is in the table.
 record-in-table : (t p : List ℕ) (n : ℕ) (r : Record) → length t ≤ 64 → reachOk t p r (node n) ≡ true
     → InTable 64 (toAExpr p r)
-unfolding reachOk
+unfolding reachOkIn
 record-in-table t p n kind.Invalid l h = tt
 record-in-table t p n (kind.Column c) l h =
     let k : c .0 < length t = ltb-true (c .0) (length t) h in omega arith
@@ -148,7 +148,7 @@ record-in-table t p n (kind.List ty marked start count) l h = tt
 record-in-table t p n (kind.IsIn equal x list) l h = tt
 
 table-small : (t : List ℕ) → tableOk t ≡ true → length t ≤ 64
-unfolding tableOk
+unfolding tableOkIn
 table-small t h = leb-true (length t) 64 (and-left (leb (length t) 64) (typesKnown t) h)
 
 column-forms : Forms (OperandBelow 64) (ColumnsBelow 64)

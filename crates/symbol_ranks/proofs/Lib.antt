@@ -2,3 +2,4 @@ pub mod Merging
 pub mod Halves
 pub mod Ranking
 pub mod RankKeys
+pub mod SameComparisons

@@ -15,7 +15,8 @@ use Rattle.truth.specs.Order.{View, is-less, is-equal, is-greater}
 use Rattle.truth.specs.Halves.{ordering}
 use Rattle.truth.specs.declared.scalar.Ordering.{Ordering}
 use Rattle.truth.specs.declared.scalar.Ordering.the-variants.{Less, Equal, Greater}
-use Rattle.symbols.specs.Symbol.{startOf, lengthOf, inPool, bytesFrom, cmpBytes, orElse, Rest}
+use Rattle.records.specs.Shape.{startOf, lengthOf, inPool}
+use Rattle.symbols.specs.Symbol.{bytesFrom, cmpBytes, orElse, Rest}
 use Rattle.symbols.proofs.Orders.{lessN, viewN}
 
 pub number-less : (m n : ℕ) → m < n → ordering (compare m n) ≡ Less

@@ -11,7 +11,8 @@ use Rattle.truth.specs.Halves.{ordering, ordZ, twice}
 use Rattle.truth.specs.declared.scalar.Ordering.{Ordering}
 use Rattle.truth.specs.declared.scalar.Ordering.the-variants.{Equal}
 use Rattle.truth.proofs.Orders.{cmp-eq, total-z}
-use Rattle.symbols.specs.Symbol.{startOf, lengthOf, inPool, bytesFrom, symbol, lessBytes, cmpBytes}
+use Rattle.records.specs.Shape.{startOf, lengthOf, inPool}
+use Rattle.symbols.specs.Symbol.{bytesFrom, symbol, lessBytes, cmpBytes}
 use Rattle.symbols.specs.Symbol.{numberOf, symbolNumber, symbolKey}
 use Rattle.symbols.proofs.Orders.{lessN, viewN, Bytes, none, more, number-order, total-bytes}
 use Rattle.symbols.proofs.Comparing.{short, number-less, number-equal, number-greater}

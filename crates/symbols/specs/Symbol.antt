@@ -1,27 +1,15 @@
 -- Symbols (02, 2.10): 0 to 16 bytes of the lent text pool, ordered byte by byte, a prefix below what extends it.
 use mathlib.Core.Path.{_≡_}
-use mathlib.Core.Bool.{Bool, _&&_}
 use mathlib.Core.List.{List, [], _∷_}
 use mathlib.Core.Logic.{_⊎_}
-use Prim.Native.Nat.{ℕ, zero, suc, _+_, _-_, _*_, _/_, _%_, _^_, _<_, _≤_, compare}
-use lib.Dec.{leb}
+use Prim.Native.Nat.{ℕ, zero, suc, _+_, _-_, _*_, _^_, _<_, _≤_, compare}
 use lib.IntN.{ℤ, pos}
 use lib.ListN.{getD}
+use Rattle.records.specs.Shape.{startOf, lengthOf}
 use Rattle.truth.specs.Order.{Order}
 use Rattle.truth.specs.Halves.{ordering, twice}
 use Rattle.truth.specs.declared.scalar.Ordering.{Ordering}
 use Rattle.truth.specs.declared.scalar.Ordering.the-variants.{Less, Equal, Greater}
-
--- A value packs its start in the low half and its length in the high half.
-abbrev pub startOf : ℕ → ℕ
-startOf v = v % 4294967296
-
-abbrev pub lengthOf : ℕ → ℕ
-lengthOf v = v / 4294967296
-
--- It lies in a pool of that many bytes, and has at most 16.
-unfoldable pub inPool : ℕ → ℕ → Bool
-inPool size v = leb (startOf v + lengthOf v) size && leb (lengthOf v) 16
 
 -- Count bytes of the pool, from the one numbered start on.
 unfoldable pub bytesFrom : List ℕ → ℕ → ℕ → List ℕ

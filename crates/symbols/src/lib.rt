@@ -4,18 +4,10 @@ ghost use mathlib.Core.Bool.{true};
 ghost use Prim.Native.Nat.{_+_, _≤_, compare, min};
 ghost use lib.ListN.{length};
 ghost use Rattle.truth.specs.Halves.{ordering};
-ghost use Rattle.symbols.specs.Symbol.{bytesFrom, cmpBytes, inPool, symbol, Rest};
+ghost use Rattle.records.specs.Shape.{inPool};
+ghost use Rattle.symbols.specs.Symbol.{bytesFrom, cmpBytes, symbol, Rest};
 use records::bytes::word_in;
 use truth::scalar::Ordering;
-
-// Whether the value lies in a pool of that many bytes, and has at most 16.
-pub fn in_pool(size: usize, v: u64) -> bool
-    ensures { λ r. ⌜ r ≡ inPool size v ⌝ }
-{
-    let start = v % 4294967296;
-    let count = v / 4294967296;
-    (start + count <= size as u64) & (count <= 16)
-}
 
 fn compare_counts(m: usize, n: usize) -> Ordering
     ensures { λ r. ⌜ r ≡ ordering (compare m n) ⌝ }

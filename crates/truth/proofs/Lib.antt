@@ -4,4 +4,6 @@ pub mod Keys
 pub mod Cells
 pub mod Negations
 pub mod Agree
+pub mod SameWithin
+pub mod SameComparisons
 pub mod Quotients

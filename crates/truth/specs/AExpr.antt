@@ -1,6 +1,6 @@
 -- Records as expressions: inputs are node numbers, list values stand in the list itself. Val is what a literal holds.
 use mathlib.Core.Bool.{Bool}
-use mathlib.Core.List.{List}
+use mathlib.Core.List.{List, map}
 use Prim.Native.Nat.{ℕ, _<_}
 use Rattle.truth.specs.Comparison.{Comparison}
 
@@ -44,3 +44,17 @@ Inputs n Missing = Unit {0}
 -- Every record's inputs are below it.
 abbrev pub WF : {Val : Type 0} → (ℕ → AExpr Val) → Type 0
 WF R = (n : ℕ) → Inputs n (R n)
+
+-- An expression with each of its values taken to another one.
+abbrev pub mapAExpr : {A B : Type 0} → (A → B) → AExpr A → AExpr B
+mapAExpr f (Column c) = Column c
+mapAExpr f (Literal v) = Literal (f v)
+mapAExpr f Null = Null
+mapAExpr f (BinaryExpr op left right) = BinaryExpr op left right
+mapAExpr f (Not a) = Not a
+mapAExpr f (IsNull a) = IsNull a
+mapAExpr f (IsNotNull a) = IsNotNull a
+mapAExpr f (IsBetween lowClosed highClosed a low high) = IsBetween lowClosed highClosed a low high
+mapAExpr f (ListLiteral holdsNull values) = ListLiteral holdsNull (map f values)
+mapAExpr f (IsIn nullsEqual a list) = IsIn nullsEqual a list
+mapAExpr f Missing = Missing

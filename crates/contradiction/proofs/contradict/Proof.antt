@@ -58,7 +58,7 @@ tell-lines-requires c κs =
         st .pre .0 .0,
         st .pre .0 .1,
         st .pre .0 .2,
-        length-replicate {A = ℕ} 704 0,
+        length-replicate {A = ℕ} 448 0,
         columns-empty,
         L .size,
         L
@@ -104,7 +104,7 @@ resolve-all-requires c κs =
     let z = length-replicate {A = ℕ} 64 0 in (
       (
         record {
-          size = tell-lines .ensures .1 .0 ∙ length-replicate {A = ℕ} 704 0;
+          size = tell-lines .ensures .1 .0 ∙ length-replicate {A = ℕ} 448 0;
           narrow = omega (
             arith,
             tell-lines .ensures .1 .1,

@@ -3,7 +3,7 @@ use Rattle.in_the_way.proofs.screen_line_in_the_way.Statement.{statemen
 use Rattle.in_the_way.proofs.screen_line_in_the_way.Tie as tie
 use Rattle.in_the_way.proofs.screen_line_in_the_way.Reads as reads
 use Rattle.in_the_way.proofs.screen_line_in_the_way.Lts as lts
-use Rattle.in_the_way.proofs.line_in_the_way.Reads as line-in-the-way-reads
+use Rattle.way_answer.proofs.line_in_the_way.Reads as line-in-the-way-reads
 use Rattle.in_the_way.proofs.Called.{way-all}
 
 -- src/lib.rt:178:11

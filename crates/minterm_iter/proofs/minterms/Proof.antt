@@ -67,19 +67,19 @@ use Rattle.records.proofs.record.Node.Laws as N′
 use Rattle.truth.specs.AExpr.{Inputs}
 use Rattle.merge.specs.Minterms.{minterms as conjuncts}
 use Rattle.read_operands.specs.Walk.{walked as expressions, firstOf}
-use Rattle.minterm_iter.specs.Iter.{stackIn, Walkable, Next, Taken}
-use Rattle.minterm_iter.specs.declared.Item.{Item}
-use Rattle.minterm_iter.specs.declared.Found.{Found}
-use Rattle.minterm_iter.specs.declared.Stack.{Stack}
+use Rattle.next_minterm.specs.Iter.{stackIn, Walkable, Next, Taken}
+use Rattle.next_minterm.specs.declared.Item.{Item}
+use Rattle.next_minterm.specs.declared.Found.{Found}
+use Rattle.next_minterm.specs.declared.Stack.{Stack}
 use Rattle.minterm_iter.specs.declared.MintermIter.{MintermIter}
 use Rattle.minterm_iter.proofs.Again.{LentAgain, lends-again, comes-back}
-use Rattle.minterm_iter.proofs.Steps.{Turning, toCome, new-walkable, begins, turn}
+use Rattle.next_minterm.proofs.Steps.{Turning, toCome, new-walkable, begins, turn}
 use Rattle.minterm_iter.proofs.MintermIter as T
 use Rattle.minterm_iter.proofs.MintermIter.Laws as T′
-use Rattle.minterm_iter.proofs.Item as I
-use Rattle.minterm_iter.proofs.Item.Laws as I′
-use Rattle.minterm_iter.proofs.Found as F
-use Rattle.minterm_iter.proofs.Found.Laws as F′
+use Rattle.next_minterm.proofs.Item as I
+use Rattle.next_minterm.proofs.Item.Laws as I′
+use Rattle.next_minterm.proofs.Found as F
+use Rattle.next_minterm.proofs.Found.Laws as F′
 use Rattle.minterm_iter.proofs.MintermIter.new as new
 use Rattle.minterm_iter.proofs.MintermIter.new.Symbol as new-def
 use Rattle.minterm_iter.proofs.MintermIter.new.Symbol.{name as #minterm-iter·new}
@@ -88,10 +88,10 @@ use Rattle.minterm_iter.proofs.MintermIter.next as next
 use Rattle.minterm_iter.proofs.MintermIter.next.Symbol as next-def
 use Rattle.minterm_iter.proofs.MintermIter.next.Symbol.{name as #minterm-iter·next}
 use Rattle.minterm_iter.proofs.MintermIter.next.Met as next-thm
-use Rattle.minterm_iter.proofs.take as take
-use Rattle.minterm_iter.proofs.take.Symbol as take-def
-use Rattle.minterm_iter.proofs.take.Symbol.{name as #minterm-iter·take}
-use Rattle.minterm_iter.proofs.take.Met as take-thm
+use Rattle.next_minterm.proofs.take as take
+use Rattle.next_minterm.proofs.take.Symbol as take-def
+use Rattle.next_minterm.proofs.take.Symbol.{name as #next-minterm·take}
+use Rattle.next_minterm.proofs.take.Met as take-thm
 use Rattle.minterm_iter.proofs.minterms.Key.{name as #minterm-iter·minterms}
 use Rattle.minterm_iter.proofs.minterms as minterms
 use Rattle.minterm_iter.proofs.minterms.Statement as stated
@@ -451,7 +451,7 @@ module _ {M : Type 1} (𝓤 : URA M) (H : Heap 𝓤) (A : Atoms 𝓤) (W : Given
 
   module _ (𝓣 : Tables 𝓤 H) (known-new : Triple 𝓤 (𝓣 .C #minterm-iter·new) (New 𝓤 H A at-mem run))
       (known-next : Triple 𝓤 (𝓣 .C #minterm-iter·next) (Nx 𝓤 H A at-mem run))
-      (known-take : Triple 𝓤 (𝓣 .C #minterm-iter·take) (Tk 𝓤 H A at-mem run)) where
+      (known-take : Triple 𝓤 (𝓣 .C #next-minterm·take) (Tk 𝓤 H A at-mem run)) where
     fm : FmC 𝓤 H (W .laws) (𝓣 .C)
     fm = fmOf 𝓤 H (W .laws) 𝓣
 
@@ -661,7 +661,7 @@ module _ {M : Type 1} (𝓤 : URA M) (H : Heap 𝓤) (A : Atoms 𝓤) (W : Given
 module _ {M : Type 1} (𝓤 : URA M) (H : Heap 𝓤) (A : Atoms 𝓤) (W : Given 𝓤 H A) (mem : Memory → SProp 𝓤)
     (run : Routine → Fun 𝓤) (𝓣 : Tables 𝓤 H) (known-new : Triple 𝓤 (𝓣 .C #minterm-iter·new) (New 𝓤 H A mem run))
     (known-next : Triple 𝓤 (𝓣 .C #minterm-iter·next) (Nx 𝓤 H A mem run))
-    (known-take : Triple 𝓤 (𝓣 .C #minterm-iter·take) (Tk 𝓤 H A mem run)) where
+    (known-take : Triple 𝓤 (𝓣 .C #next-minterm·take) (Tk 𝓤 H A mem run)) where
   minterms-walks : Walks 𝓤 H A minterms.ended stayed (WpFn 𝓤 H (𝓣 .C) (𝓣 .Λ) code.function)
       (minterms.clauses 𝓤 H A mem run)
   minterms-walks = walked 𝓤 H A minterms.ended stayed (minterms.clauses 𝓤 H A mem run)
@@ -701,5 +701,5 @@ minterms-spec 𝓤 H 𝓜 𝓖 𝓡 =
     code.calls-minterm-iter·MintermIter·new (new-thm.met 𝓤 H 𝓜 𝓖 𝓡))
     (cited 𝓤 H (Nx 𝓤 H (𝓖 .A) (𝓜 .mem) (𝓡 .run)) 𝓜 𝓡 code.env #minterm-iter·next next-def.routine
     code.calls-minterm-iter·MintermIter·next (next-thm.met 𝓤 H 𝓜 𝓖 𝓡))
-    (cited 𝓤 H (Tk 𝓤 H (𝓖 .A) (𝓜 .mem) (𝓡 .run)) 𝓜 𝓡 code.env #minterm-iter·take take-def.routine
-    code.calls-minterm-iter·take (take-thm.met 𝓤 H 𝓜 𝓖 𝓡)))
+    (cited 𝓤 H (Tk 𝓤 H (𝓖 .A) (𝓜 .mem) (𝓡 .run)) 𝓜 𝓡 code.env #next-minterm·take take-def.routine
+    code.calls-next-minterm·take (take-thm.met 𝓤 H 𝓜 𝓖 𝓡)))

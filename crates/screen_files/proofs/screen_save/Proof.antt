@@ -3,7 +3,7 @@ use Rattle.screen_files.proofs.screen_save.Statement.{statement}
 use Rattle.screen_files.proofs.screen_save.Tie as tie
 use Rattle.screen_files.proofs.screen_save.Reads as reads
 use Rattle.screen_files.proofs.screen_save.Lts as lts
-use Rattle.files.proofs.save.save_screen.Reads as save-screen-reads
+use Rattle.save_screen.proofs.save_screen.Reads as save-screen-reads
 use Rattle.screen_files.proofs.Filed.{save-all}
 
 -- src/lib.rt:166:11

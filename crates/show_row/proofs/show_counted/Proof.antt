@@ -15,7 +15,7 @@ use Rattle.checking.proofs.Accepted.{checked, accepted-root}
 use Rattle.merge.specs.Minterms as mt
 use Rattle.read_operands.specs.Walk.{walked}
 use Rattle.stages.proofs.Screens.{walked-inputs}
-use Rattle.in_the_way.proofs.Answers.{table-few}
+use Rattle.plain_lines.proofs.Refusals.{table-few}
 use Rattle.show_row.proofs.Answers.{show-9, show-17, show-14}
 
 -- src/lib.rt:114:32

@@ -7,7 +7,7 @@ use lib.ListN.{length-replicate}
 use Rattle.checking.proofs.Accepted.{checked}
 use Rattle.stages.proofs.Screens.{node-columns}
 use Rattle.merge_conjuncts.proofs.Sizes.{no-index}
-use Rattle.in_the_way.proofs.Answers.{table-few}
+use Rattle.plain_lines.proofs.Refusals.{table-few}
 use Rattle.show_row.proofs.Answers as answers
 
 slice-aggregate-read-literals : tie.Need-slice-aggregate-read-literals

@@ -4,22 +4,26 @@ use Rattle.chain_rows.proofs.judge.judge_ordered.Tie as tie
 use Rattle.chain_rows.proofs.judge.judge_ordered.Reads as reads
 use Rattle.chain_rows.proofs.judge.judge_ordered.Lts as lts
 use Rattle.chain_rows.proofs.judge.judge_blocks.Reads as judge-blocks-reads
-use Rattle.pool_lists.proofs.making.make_order.Reads as make-order-reads
+use Rattle.pool_order.proofs.making.make_order.Reads as make-order-reads
 use Rattle.chain_rows.proofs.Rows.{in-order}
 
--- src/judge.rt:202:22
+-- src/judge.rt:205:22
 slice-aggregate-make-order : tie.Need-slice-aggregate-make-order
 slice-aggregate-make-order c = search needs
 
--- src/judge.rt:202:5
+-- src/judge.rt:205:5
 make-order-requires : tie.Need-make-order-requires
 make-order-requires c κs = search needs
 
--- src/judge.rt:206:9
+-- src/judge.rt:209:9
 slice-aggregate-judge-blocks : tie.Need-slice-aggregate-judge-blocks
 slice-aggregate-judge-blocks c = search needs
 
--- src/judge.rt:203:5
+-- src/judge.rt:217:9
+slice-aggregate-judge-blocks-2 : tie.Need-slice-aggregate-judge-blocks-2
+slice-aggregate-judge-blocks-2 c = search needs
+
+-- src/judge.rt:206:5
 judge-blocks-requires : tie.Need-judge-blocks-requires
 judge-blocks-requires c κs =
     let st = c .before .before .before .before .before .before .before .before .before .before .before .before
@@ -35,14 +39,13 @@ judge-blocks-requires c κs =
             (
               st .pre .1 .1 .1 .1 .0,
               (
-                st .pre .1
-                    .1 .1 .1 .1 .0,
+                st
+                    .pre .1 .1 .1 .1 .1 .0,
                 (
-                  st .pre .1 .1 .1 .1 .1 .1 .0,
+                  search needs,
                   (
                     st .pre .1 .1 .1 .1 .1 .1 .1,
-                    in-order _ _ (make-order
-                        .ensures),
+                    in-order _ _ (make-order .ensures),
                   ),
                 ),
               ),
@@ -52,23 +55,19 @@ judge-blocks-requires c κs =
       ),
     )
 
--- src/judge.rt:177:1
+-- src/judge.rt:178:1
 same-length : tie.Need-same-length
 same-length c = search needs
 
--- src/judge.rt:177:1
+-- src/judge.rt:178:1
 same-length-2 : tie.Need-same-length-2
 same-length-2 c = search needs
 
--- src/judge.rt:177:1
+-- src/judge.rt:178:1
 same-length-3 : tie.Need-same-length-3
 same-length-3 c = search needs
 
--- src/judge.rt:177:1
-same-length-4 : tie.Need-same-length-4
-same-length-4 c = search needs
-
--- src/judge.rt:177:1
+-- src/judge.rt:178:1
 returns : tie.Need-returns
 returns c = search needs
 
@@ -79,9 +78,9 @@ judge-ordered-spec =
     slice-aggregate-make-order
     make-order-requires
     slice-aggregate-judge-blocks
+    slice-aggregate-judge-blocks-2
     judge-blocks-requires
     same-length
     same-length-2
     same-length-3
-    same-length-4
     returns)

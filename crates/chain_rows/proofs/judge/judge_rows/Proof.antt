@@ -4,7 +4,7 @@ use Rattle.chain_rows.proofs.judge.judge_rows.Tie as tie
 use Rattle.chain_rows.proofs.judge.judge_rows.Reads as reads
 use Rattle.chain_rows.proofs.judge.judge_rows.Lts as lts
 use Rattle.chain_rows.proofs.judge.judge_fitting.Reads as judge-fitting-reads
-use Rattle.chain_rows.proofs.judge.rows_fit.Reads as rows-fit-reads
+use Rattle.chain_rows.proofs.fitting.rows_fit.Reads as rows-fit-reads
 use Prim.Native.Nat.{_+_, _*_, _≤_, _<_}
 use mathlib.Core.Path.{_≡_, refl, sym, _∙_, ap}
 use mathlib.Core.Bool.{true≢false}
@@ -19,7 +19,7 @@ use Rattle.chain_rows.proofs.Rows.{all-tested, judged-of, evaluates-of}
 rows-fit-requires : tie.Need-rows-fit-requires
 rows-fit-requires c κs =
     let st = c .before .before .before .before .before .before in
-    (columns-small _ _ _ _ _ (st .pre .0), st .pre .1 .1 .1 .0)
+    (columns-small _ _ _ _ _ (st .pre .0), (st .pre .1 .1 .1 .0, st .pre .1 .1 .1 .1 .0))
 
 -- src/judge.rt:187:9
 returns : tie.Need-returns

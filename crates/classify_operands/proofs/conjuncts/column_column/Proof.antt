@@ -3,7 +3,7 @@ use Rattle.classify_operands.proofs.conjuncts.column_column.Statement.{
 use Rattle.classify_operands.proofs.conjuncts.column_column.Tie as tie
 use Rattle.classify_operands.proofs.conjuncts.column_column.Reads as reads
 use Rattle.classify_operands.proofs.conjuncts.column_column.Lts as lts
-use Rattle.records.proofs.operator.is_null_propagating_comparison.Reads as is-null-propagating-comparison-reads
+use Rattle.operators.proofs.is_null_propagating_comparison.Reads as is-null-propagating-comparison-reads
 use Rattle.records.proofs.operator.operator_code.Reads as operator-code-reads
 use mathlib.Core.Path.{_∙_, sym}
 use borrow.Author.Tests.{not-false}

@@ -3,7 +3,7 @@ use Rattle.classify_operands.proofs.conjuncts.literal_first.Statement.{
 use Rattle.classify_operands.proofs.conjuncts.literal_first.Tie as tie
 use Rattle.classify_operands.proofs.conjuncts.literal_first.Reads as reads
 use Rattle.classify_operands.proofs.conjuncts.literal_first.Lts as lts
-use Rattle.records.proofs.operator.swap_operands.Reads as swap-operands-reads
+use Rattle.operators.proofs.swap_operands.Reads as swap-operands-reads
 use Rattle.classify_operands.proofs.conjuncts.literal_column.Reads as literal-column-reads
 
 -- src/conjuncts.rt:105:25

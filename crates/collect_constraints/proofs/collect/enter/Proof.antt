@@ -9,39 +9,39 @@ use mathlib.Core.Path.{_≡_, refl}
 use native.Mathlib.Omega.{arith}
 use Rattle.collect_constraints.proofs.Collecting.{entered-at}
 
--- src/collect.rt:48:9
+-- src/collect.rt:52:9
 slot-requires : tie.Need-slot-requires
 slot-requires c κs = search needs
 
--- src/collect.rt:49:5
+-- src/collect.rt:53:5
 mul-order : tie.Need-mul-order
 mul-order c = search needs
 
--- src/collect.rt:49:5
+-- src/collect.rt:53:5
 slice-write-order : tie.Need-slice-write-order
 slice-write-order c = search needs
 
--- src/collect.rt:50:21
+-- src/collect.rt:54:21
 slice-read-bump : tie.Need-slice-read-bump
 slice-read-bump c = search needs
 
--- src/collect.rt:50:9
+-- src/collect.rt:54:9
 bump-requires : tie.Need-bump-requires
 bump-requires c κs = search needs
 
--- src/collect.rt:51:5
+-- src/collect.rt:55:5
 slice-write-seen : tie.Need-slice-write-seen
 slice-write-seen c = search needs
 
--- src/collect.rt:42:1
+-- src/collect.rt:46:1
 same-length : tie.Need-same-length
 same-length c = search needs
 
--- src/collect.rt:42:1
+-- src/collect.rt:46:1
 same-length-2 : tie.Need-same-length-2
 same-length-2 c = search needs
 
--- src/collect.rt:42:1
+-- src/collect.rt:46:1
 returns : tie.Need-returns
 returns c =
     let st = c .before .before .before .before .before in

@@ -44,9 +44,9 @@ returns : tie.Need-returns
 returns c =
     let st = c .before .before .before in
     let read-words = c .read-words in
-    let s : 11 ≡ stride (st .args .cells .now) = sym (ap (λ n. n / 64) (st .pre .1)) in
+    let s : 7 ≡ stride (st .args .cells .now) = sym (ap (λ n. n / 64) (st .pre .1)) in
     read-words .ensures ∙ ap columnFrom (row-lent (st .args .cells .now) (st .args .x) _ _ (ap (λ n. st .args .x
-    * n) s) (ap (λ n. st .args .x * 11 + n) s)) ∙ sym (column-loaded (st .args .cells .now) (st .args .x) (st
+    * n) s) (ap (λ n. st .args .x * 7 + n) s)) ∙ sym (column-loaded (st .args .cells .now) (st .args .x) (st
     .pre .0))
 
 pub load-spec : {M : Type 1} → statement M

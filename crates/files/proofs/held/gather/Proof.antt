@@ -8,9 +8,9 @@ use mathlib.Core.Path.{_≡_, _∙_, refl, sym}
 use lib.ListN.{length}
 use native.Mathlib.Omega.{arith}
 use Rattle.file_blocks.specs.Format.{overwrite}
-use Rattle.file_blocks.specs.Read.{heldTo, held, blockAt, taken, blocksIn}
+use Rattle.file_structure.specs.Read.{heldTo, held, blockAt, taken, blocksIn}
 use Rattle.file_blocks.proofs.Lists.{overwrite-none}
-use Rattle.file_blocks.proofs.Parts.{part-block, length-block}
+use Rattle.file_structure.proofs.Parts.{part-block, length-block}
 use Rattle.files.proofs.Contents.{held-room, held-length, gather-more, block-is-ok, block-fits}
 use borrow.Author.Needs.{needs}
 

@@ -4,12 +4,12 @@ use Rattle.files.proofs.held.take_block.Tie as tie
 use Rattle.files.proofs.held.take_block.Reads as reads
 use Rattle.files.proofs.held.take_block.Lts as lts
 use Rattle.file_blocks.proofs.copy.put.Reads as put-reads
-use Rattle.file_blocks.proofs.structure.content_size.Reads as content-size-reads
+use Rattle.file_structure.proofs.content_size.Reads as content-size-reads
 use mathlib.Core.Path.{_≡_, sym, _∙_, ap}
 use lib.ListN.{length}
 use native.Mathlib.Omega.{arith}
 use Rattle.file_blocks.specs.Format.{overwrite}
-use Rattle.file_blocks.specs.Read.{taken, kindOf, contentOf, contentSize}
+use Rattle.file_structure.specs.Read.{taken, kindOf, contentOf, contentSize}
 use Rattle.file_blocks.proofs.Lists.{overwrite-none}
 use Rattle.files.proofs.Contents.{taken-none, taken-some, length-content, content-part}
 

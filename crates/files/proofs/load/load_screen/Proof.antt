@@ -6,13 +6,13 @@ use Rattle.files.proofs.load.load_screen.Lts as lts
 use Rattle.files.proofs.held.gather.Reads as gather-reads
 use Rattle.files.proofs.load.check_held.Reads as check-held-reads
 use Rattle.files.proofs.load.room_ok.Reads as room-ok-reads
-use Rattle.file_blocks.proofs.structure.end_word.Reads as end-word-reads
-use Rattle.file_blocks.proofs.structure.structure_ok.Reads as structure-ok-reads
-use Rattle.file_blocks.proofs.structure.total_of.Reads as total-of-reads
+use Rattle.file_structure.proofs.end_word.Reads as end-word-reads
+use Rattle.file_structure.proofs.structure_ok.Reads as structure-ok-reads
+use Rattle.file_structure.proofs.total_of.Reads as total-of-reads
 use mathlib.Core.Path.{_≡_, refl, sym, _∙_}
 use native.Mathlib.Omega.{arith}
 use Rattle.records.proofs.Loops.{flag-no, flag-yes}
-use Rattle.file_blocks.specs.Read.{rootOf}
+use Rattle.file_structure.specs.Read.{rootOf}
 use Rattle.files.proofs.Loading.{ok-blocks, ok-length, room-told, room-table, room-records, room-pool}
 use Rattle.files.proofs.Loading.{refused-structure, refused-room, refused-check, loaded-all}
 

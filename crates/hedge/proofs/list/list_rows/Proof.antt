@@ -3,8 +3,8 @@ use Rattle.hedge.proofs.list.list_rows.Statement.{statement}
 use Rattle.hedge.proofs.list.list_rows.Tie as tie
 use Rattle.hedge.proofs.list.list_rows.Reads as reads
 use Rattle.hedge.proofs.list.list_rows.Lts as lts
-use Rattle.chain_rows.proofs.listing.count_class.Reads as count-class-reads
-use Rattle.chain_rows.proofs.listing.write_list.Reads as write-list-reads
+use Rattle.row_list.proofs.count_class.Reads as count-class-reads
+use Rattle.row_list.proofs.write_list.Reads as write-list-reads
 use Rattle.tally.proofs.sums_fit.Reads as sums-fit-reads
 use mathlib.Core.Path.{refl, _∙_}
 use Rattle.records.proofs.Loops.{flag-no, flag-yes}

@@ -19,8 +19,8 @@ mul-t8 c = search needs
 shared-slice-read-t10 : tie.Need-shared-slice-read-t10 Inv-loop μ-loop
 shared-slice-read-t10 c = search needs
 
-classify-requires : tie.Need-classify-requires Inv-loop μ-loop
-classify-requires c κs = search needs
+classify-by-record-requires : tie.Need-classify-by-record-requires Inv-loop μ-loop
+classify-by-record-requires c κs = search needs
 
 is-equality-requires : tie.Need-is-equality-requires Inv-loop μ-loop
 is-equality-requires c κs = search needs
@@ -57,7 +57,7 @@ equality-count-spec =
     loop-holds
     mul-t8
     shared-slice-read-t10
-    classify-requires
+    classify-by-record-requires
     is-equality-requires
     bump-requires
     add-i

@@ -52,17 +52,17 @@ use denote.Triple.Clauses.{ensured, lasts}
 use Rattle.records.specs.declared.record.Node.{Node}
 use Rattle.records.proofs.record.Node as N
 use Rattle.records.proofs.record.Node.Laws as N′
-use Rattle.minterm_iter.specs.Iter.{stackIn}
+use Rattle.next_minterm.specs.Iter.{stackIn}
 use Rattle.minterm_iter.specs.declared.MintermIter.{MintermIter}
-use Rattle.minterm_iter.specs.declared.Stack.{Stack}
+use Rattle.next_minterm.specs.declared.Stack.{Stack}
 use Rattle.minterm_iter.proofs.MintermIter as T
 use Rattle.minterm_iter.proofs.MintermIter.Laws as T′
-use Rattle.minterm_iter.proofs.Stack as K
-use Rattle.minterm_iter.proofs.Stack.Laws as K′
-use Rattle.minterm_iter.proofs.rooted as rooted
-use Rattle.minterm_iter.proofs.rooted.Symbol as rooted-def
-use Rattle.minterm_iter.proofs.rooted.Symbol.{name as #minterm-iter·rooted}
-use Rattle.minterm_iter.proofs.rooted.Met as rooted-thm
+use Rattle.next_minterm.proofs.Stack as K
+use Rattle.next_minterm.proofs.Stack.Laws as K′
+use Rattle.next_minterm.proofs.rooted as rooted
+use Rattle.next_minterm.proofs.rooted.Symbol as rooted-def
+use Rattle.next_minterm.proofs.rooted.Symbol.{name as #next-minterm·rooted}
+use Rattle.next_minterm.proofs.rooted.Met as rooted-thm
 use Rattle.minterm_iter.proofs.MintermIter.new.Key.{name as #minterm-iter·new}
 use Rattle.minterm_iter.proofs.MintermIter.new as new
 use Rattle.minterm_iter.proofs.MintermIter.new.Statement as stated
@@ -162,7 +162,7 @@ module _ {M : Type 1} (𝓤 : URA M) (H : Heap 𝓤) (A : Atoms 𝓤) (W : Given
       nothing ! $ move ! (1 ∷ 0 ∷ []) $ fjoin ! $ move ! (3 ∷ 0 ∷ []) $ fjoin ! $ frame ! $ nothing ! $
       move ! (2 ∷ 0 ∷ []) $ fjoin ! $ move ! (1 ∷ 0 ∷ []) $ fjoin ! $ by ! (shut t u)
 
-  module _ (C : Calls 𝓤 H) (Λ : Loops 𝓤 H) (fm : FmC 𝓤 H (W .laws) C) (known : Triple 𝓤 (C #minterm-iter·rooted)
+  module _ (C : Calls 𝓤 H) (Λ : Loops 𝓤 H) (fm : FmC 𝓤 H (W .laws) C) (known : Triple 𝓤 (C #next-minterm·rooted)
       (Rooted 𝓤 H A mem run)) where
     walk : Is (ShrSlice (named 0) κ u8) s (v ∷ []) → Is N.the-row root (nv ∷ [])
         → ent 𝓤 (onEntry 𝓤 H A new.signature (κ, tt) (q, tt) (root, (s, tt)) at)
@@ -198,7 +198,7 @@ module _ {M : Type 1} (𝓤 : URA M) (H : Heap 𝓤) (A : Atoms 𝓤) (W : Given
 module _ {M : Type 1} (𝓤 : URA M) (H : Heap 𝓤) (A : Atoms 𝓤) (W : Given 𝓤 H A) (mem : Memory → SProp 𝓤)
     (run : Routine → Fun 𝓤) where
   new-walks : (C : Calls 𝓤 H) (Λ : Loops 𝓤 H) → FmC 𝓤 H (W .laws) C
-      → Triple 𝓤 (C #minterm-iter·rooted) (Rooted 𝓤 H A mem run)
+      → Triple 𝓤 (C #next-minterm·rooted) (Rooted 𝓤 H A mem run)
       → Walks 𝓤 H A new.ended stayed (WpFn 𝓤 H C Λ code.function) (new.clauses 𝓤 H A mem run)
   new-walks C Λ fm known = walked 𝓤 H A new.ended stayed (new.clauses 𝓤 H A mem run) (WpFn 𝓤 H C Λ code.function)
       (λ κs. (LL.vals N.the-type N′.the-laws, (slice-vals, tt))) (λ κs.
@@ -215,7 +215,7 @@ goes 𝓤 H A W =
 
 new-meets : {M : Type 1} (𝓤 : URA M) (H : Heap 𝓤) (A : Atoms 𝓤) (W : Given 𝓤 H A) (mem : Memory → SProp 𝓤)
     (run : Routine → Fun 𝓤) (𝓣 : Tables 𝓤 H)
-    → Triple 𝓤 (𝓣 .C #minterm-iter·rooted) (Rooted 𝓤 H A mem run)
+    → Triple 𝓤 (𝓣 .C #next-minterm·rooted) (Rooted 𝓤 H A mem run)
     → Meets 𝓤 H A new.signature (WpFn 𝓤 H (𝓣 .C) (𝓣 .Λ) code.function) (new.spec 𝓤 H A mem run)
 new-meets 𝓤 H A W mem run 𝓣 known = walk-meets 𝓤 H A new.ended stayed W
     (goes 𝓤 H A W) (new.clauses 𝓤 H A mem run) (WpFn 𝓤 H (𝓣 .C) (𝓣 .Λ) code.function)
@@ -228,5 +228,5 @@ new-spec 𝓤 H 𝓜 𝓖 𝓡 =
     entered 𝓤 H (tripleOf 𝓤 H (𝓖 .A) new.signature (new.spec 𝓤 H (𝓖 .A) (𝓜 .mem) (𝓡 .run)))
     (tables 𝓤 H 𝓜 𝓡 code.env .C) (tables 𝓤 H 𝓜 𝓡 code.env .Λ) #minterm-iter·new code.function (code.unfolded 𝓤 H 𝓜 𝓡)
     (new-meets 𝓤 H (𝓖 .A) (givenOf 𝓤 H 𝓜 𝓖) (𝓜 .mem) (𝓡 .run) (tablesOf 𝓤 H 𝓜 (tables 𝓤 H 𝓜 𝓡 code.env))
-    (cited 𝓤 H (Rooted 𝓤 H (𝓖 .A) (𝓜 .mem) (𝓡 .run)) 𝓜 𝓡 code.env #minterm-iter·rooted rooted-def.routine
-    code.calls-minterm-iter·rooted (rooted-thm.met 𝓤 H 𝓜 𝓖 𝓡)))
+    (cited 𝓤 H (Rooted 𝓤 H (𝓖 .A) (𝓜 .mem) (𝓡 .run)) 𝓜 𝓡 code.env #next-minterm·rooted rooted-def.routine
+    code.calls-next-minterm·rooted (rooted-thm.met 𝓤 H 𝓜 𝓖 𝓡)))

@@ -59,23 +59,23 @@ use denote.Triple.Table.{entered, cited}
 use denote.Triple.Walked.{says, needs, Stays, stay-ref, walkOf, goes-ref, Walks, ends-at, walked, walk-meets}
 use denote.Triple.Clauses.{ensured, lasts}
 use Rattle.read_operands.specs.Walk.{walked as expressions, stackOf, InputsBelow}
-use Rattle.minterm_iter.specs.Iter.{Walkable, Next, stackIn}
+use Rattle.next_minterm.specs.Iter.{Walkable, Next, stackIn}
 use Rattle.minterm_iter.specs.declared.MintermIter.{MintermIter}
-use Rattle.minterm_iter.specs.declared.Minterm.{Minterm}
-use Rattle.minterm_iter.specs.declared.Stack.{Stack}
-use Rattle.minterm_iter.proofs.Steps.{map-same}
+use Rattle.next_minterm.specs.declared.Minterm.{Minterm}
+use Rattle.next_minterm.specs.declared.Stack.{Stack}
+use Rattle.next_minterm.proofs.Steps.{map-same}
 use Rattle.minterm_iter.proofs.MintermIter as T
 use Rattle.minterm_iter.proofs.MintermIter.Laws as T′
-use Rattle.minterm_iter.proofs.Item as I
-use Rattle.minterm_iter.proofs.Item.Laws as I′
-use Rattle.minterm_iter.proofs.Minterm as S
-use Rattle.minterm_iter.proofs.Minterm.Laws as S′
-use Rattle.minterm_iter.proofs.Stack as K
-use Rattle.minterm_iter.proofs.Stack.Laws as K′
-use Rattle.minterm_iter.proofs.next_minterm as step
-use Rattle.minterm_iter.proofs.next_minterm.Symbol as step-def
-use Rattle.minterm_iter.proofs.next_minterm.Symbol.{name as #minterm-iter·next-minterm}
-use Rattle.minterm_iter.proofs.next_minterm.Met as step-thm
+use Rattle.next_minterm.proofs.Item as I
+use Rattle.next_minterm.proofs.Item.Laws as I′
+use Rattle.next_minterm.proofs.Minterm as S
+use Rattle.next_minterm.proofs.Minterm.Laws as S′
+use Rattle.next_minterm.proofs.Stack as K
+use Rattle.next_minterm.proofs.Stack.Laws as K′
+use Rattle.next_minterm.proofs.next_minterm as step
+use Rattle.next_minterm.proofs.next_minterm.Symbol as step-def
+use Rattle.next_minterm.proofs.next_minterm.Symbol.{name as #next-minterm·next-minterm}
+use Rattle.next_minterm.proofs.next_minterm.Met as step-thm
 use Rattle.minterm_iter.proofs.MintermIter.next.Key.{name as #minterm-iter·next}
 use Rattle.minterm_iter.proofs.MintermIter.next as next
 use Rattle.minterm_iter.proofs.MintermIter.next.Statement as stated
@@ -325,7 +325,7 @@ module _ {M : Type 1} (𝓤 : URA M) (H : Heap 𝓤) (A : Atoms 𝓤) (W : Given
       (own-open 𝓤 H A W S.the-type S′.the-laws (r .item, (r .depth, tt)) (rv r)) $ learn ! (λ _. fsplit ! $
       keep ! (0 ∷ []) $ done !)
 
-  module _ (C : Calls 𝓤 H) (Λ : Loops 𝓤 H) (fm : FmC 𝓤 H (W .laws) C) (known : Triple 𝓤 (C #minterm-iter·next-minterm)
+  module _ (C : Calls 𝓤 H) (Λ : Loops 𝓤 H) (fm : FmC 𝓤 H (W .laws) C) (known : Triple 𝓤 (C #next-minterm·next-minterm)
       (NextMinterm 𝓤 H A at-mem run)) where
     walk : ent 𝓤 (onEntry 𝓤 H A next.signature (κ, (κ′, tt)) (q, (q′, tt)) x at)
         (WpFn 𝓤 H C Λ code.function (vptr b o ∷ []) Post)
@@ -430,7 +430,7 @@ module _ {M : Type 1} (𝓤 : URA M) (H : Heap 𝓤) (A : Atoms 𝓤) (W : Given
 module _ {M : Type 1} (𝓤 : URA M) (H : Heap 𝓤) (A : Atoms 𝓤) (W : Given 𝓤 H A) (mem : Memory → SProp 𝓤)
     (run : Routine → Fun 𝓤) where
   next-walks : (C : Calls 𝓤 H) (Λ : Loops 𝓤 H) → FmC 𝓤 H (W .laws) C
-      → Triple 𝓤 (C #minterm-iter·next-minterm) (NextMinterm 𝓤 H A mem run)
+      → Triple 𝓤 (C #next-minterm·next-minterm) (NextMinterm 𝓤 H A mem run)
       → Walks 𝓤 H A next.ended stayed (WpFn 𝓤 H C Λ code.function) (next.clauses 𝓤 H A mem run)
   next-walks C Λ fm known = walked 𝓤 H A next.ended stayed (next.clauses 𝓤 H A mem run) (WpFn 𝓤 H C Λ code.function)
       (λ κs. (ptr-vals, tt)) (λ κs. (mut-tells (named 0) (κs .0) (B (κs .1 .0)), tt))
@@ -440,7 +440,7 @@ module _ {M : Type 1} (𝓤 : URA M) (H : Heap 𝓤) (A : Atoms 𝓤) (W : Given
 
 next-meets : {M : Type 1} (𝓤 : URA M) (H : Heap 𝓤) (A : Atoms 𝓤) (W : Given 𝓤 H A) (mem : Memory → SProp 𝓤)
     (run : Routine → Fun 𝓤) (𝓣 : Tables 𝓤 H)
-    → Triple 𝓤 (𝓣 .C #minterm-iter·next-minterm) (NextMinterm 𝓤 H A mem run)
+    → Triple 𝓤 (𝓣 .C #next-minterm·next-minterm) (NextMinterm 𝓤 H A mem run)
     → Meets 𝓤 H A next.signature (WpFn 𝓤 H (𝓣 .C) (𝓣 .Λ) code.function) (next.spec 𝓤 H A mem run)
 next-meets 𝓤 H A W mem run 𝓣 known = walk-meets 𝓤 H A next.ended stayed W (goes-ref 𝓤 H A W 2 0 tt behind, tt)
     (next.clauses 𝓤 H A mem run) (WpFn 𝓤 H (𝓣 .C) (𝓣 .Λ) code.function) (WpFn-mono 𝓤 H (W .laws) 𝓣 code.function)
@@ -452,5 +452,5 @@ next-spec 𝓤 H 𝓜 𝓖 𝓡 =
     entered 𝓤 H (tripleOf 𝓤 H (𝓖 .A) next.signature (next.spec 𝓤 H (𝓖 .A) (𝓜 .mem) (𝓡 .run)))
     (tables 𝓤 H 𝓜 𝓡 code.env .C) (tables 𝓤 H 𝓜 𝓡 code.env .Λ) #minterm-iter·next code.function (code.unfolded 𝓤 H 𝓜 𝓡)
     (next-meets 𝓤 H (𝓖 .A) (givenOf 𝓤 H 𝓜 𝓖) (𝓜 .mem) (𝓡 .run) (tablesOf 𝓤 H 𝓜 (tables 𝓤 H 𝓜 𝓡 code.env))
-    (cited 𝓤 H (NextMinterm 𝓤 H (𝓖 .A) (𝓜 .mem) (𝓡 .run)) 𝓜 𝓡 code.env #minterm-iter·next-minterm step-def.routine
-    code.calls-minterm-iter·next-minterm (step-thm.met 𝓤 H 𝓜 𝓖 𝓡)))
+    (cited 𝓤 H (NextMinterm 𝓤 H (𝓖 .A) (𝓜 .mem) (𝓡 .run)) 𝓜 𝓡 code.env #next-minterm·next-minterm step-def.routine
+    code.calls-next-minterm·next-minterm (step-thm.met 𝓤 H 𝓜 𝓖 𝓡)))

@@ -3,9 +3,9 @@ use Rattle.pool_lists.proofs.member.find_one.Statement.{statement}
 use Rattle.pool_lists.proofs.member.find_one.Tie as tie
 use Rattle.pool_lists.proofs.member.find_one.Reads as reads
 use Rattle.pool_lists.proofs.member.find_one.Lts as lts
-use Rattle.pool_lists.proofs.asking.holds.Reads as holds-reads
+use Rattle.pool_order.proofs.asking.holds.Reads as holds-reads
 use Rattle.pool_lists.proofs.member.find_key.Reads as find-key-reads
-use Rattle.pool_lists.specs.Order.{Ordered}
+use Rattle.pool_order.specs.Order.{Ordered}
 
 -- src/member.rt:59:9
 find-key-requires : tie.Need-find-key-requires

@@ -4,7 +4,7 @@ use Rattle.reading.proofs.classify.classify_negation.Statement.{stateme
 use Rattle.reading.proofs.classify.classify_negation.Tie as tie
 use Rattle.reading.proofs.classify.classify_negation.Reads as reads
 use Rattle.reading.proofs.classify.classify_negation.Lts as lts
-use Rattle.records.proofs.operator.negate.Reads as negate-reads
+use Rattle.operators.proofs.negate.Reads as negate-reads
 use Rattle.classify_operands.proofs.conjuncts.classify_is_in.Reads as classify-is-in-reads
 use Rattle.classify_operands.proofs.conjuncts.classify_negated.Reads as classify-negated-reads
 use Rattle.classify_operands.proofs.conjuncts.classify_null.Reads as classify-null-reads

@@ -3,8 +3,8 @@ use Rattle.reasons.proofs.reason.reason_length.Statement.{statement}
 use Rattle.reasons.proofs.reason.reason_length.Tie as tie
 use Rattle.reasons.proofs.reason.reason_length.Reads as reads
 use Rattle.reasons.proofs.reason.reason_length.Lts as lts
-use Rattle.reasons.proofs.number.decimal_length.Reads as decimal-length-reads
-use Rattle.reasons.proofs.number.signed_length.Reads as signed-length-reads
+use Rattle.decimals.proofs.decimal_length.Reads as decimal-length-reads
+use Rattle.decimals.proofs.signed_length.Reads as signed-length-reads
 use Rattle.reasons.proofs.operator.operator_length.Reads as operator-length-reads
 use native.Mathlib.Omega.{arith}
 use mathlib.Core.List.{_∷_, []}

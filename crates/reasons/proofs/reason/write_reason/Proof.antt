@@ -3,8 +3,8 @@ use Rattle.reasons.proofs.reason.write_reason.Statement.{statement}
 use Rattle.reasons.proofs.reason.write_reason.Tie as tie
 use Rattle.reasons.proofs.reason.write_reason.Reads as reads
 use Rattle.reasons.proofs.reason.write_reason.Lts as lts
-use Rattle.reasons.proofs.number.write_number.Reads as write-number-reads
-use Rattle.reasons.proofs.number.write_signed.Reads as write-signed-reads
+use Rattle.decimals.proofs.write_number.Reads as write-number-reads
+use Rattle.decimals.proofs.write_signed.Reads as write-signed-reads
 use Rattle.reasons.proofs.operator.write_operator.Reads as write-operator-reads
 use native.Mathlib.Omega.{arith}
 use mathlib.Core.Path.{_≡_, _∙_, ap}

@@ -6,8 +6,8 @@ use mathlib.Core.Bool.{true}
 use mathlib.Core.Path.{_≡_}
 use Prim.Native.Nat.{ℕ, _+_, _-_, _≤_}
 use Rattle.records.proofs.Laws.{flags}
-use Rattle.record_check.specs.Fit.{allFit}
-use Rattle.records.specs.Shape.{inType}
+use Rattle.record_check.specs.Fit.{allFitIn}
+use Rattle.records.specs.Shape.{inTypeIn}
 use Rattle.record_check.proofs.fit.all_fit.Statement.{statement}
 use Rattle.record_check.proofs.fit.all_fit.Tie as tie
 use Rattle.record_check.proofs.fit.all_fit.Reads as reads
@@ -16,10 +16,10 @@ use Rattle.records.proofs.bytes.value_in.Reads as value-in-reads
 use Rattle.records.proofs.shape.in_type.Reads as in-type-reads
 
 abbrev Inv-loop : tie.InvT-loop
-Inv-loop p ty start count k₀ k = (k ≤ count) × (all (λ (j : ℕ). inType ty (valueAt p (start + j))) k ≡ true)
+Inv-loop text p ty start count k₀ k = (k ≤ count) × (all (λ (j : ℕ). inTypeIn text ty (valueAt p (start + j))) k ≡ true)
 
 abbrev μ-loop : tie.MeasureT-loop
-μ-loop p ty start count k₀ k = count - k
+μ-loop text p ty start count k₀ k = count - k
 
 -- src/fit.rt:16:5
 loop-holds : tie.Need-loop-holds Inv-loop μ-loop
@@ -43,7 +43,7 @@ in-type-requires c κs = search needs
 
 -- src/fit.rt:19:13
 returns : tie.Need-returns Inv-loop μ-loop
-unfolding allFit
+unfolding allFitIn
 returns c = all-fails _ _ _ (c .before .before .before .loop-test .taken) (rw (← c .before .before .value-in .ensures, ← c .before .in-type .ensures) (not-true _ (c .if1 .taken)))
 
 -- src/fit.rt:21:9
@@ -60,7 +60,7 @@ loop-again c = (search needs, all-more _ _ (c .before .before .before .before .l
 
 -- src/fit.rt:12:1
 returns-2 : tie.Need-returns-2 Inv-loop μ-loop
-unfolding allFit
+unfolding allFitIn
 returns-2 c = search all-done
 
 pub all-fit-spec : {M : Type 1} → statement M

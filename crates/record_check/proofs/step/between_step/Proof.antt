@@ -94,7 +94,7 @@ returns-5 c =
       lt-ltb _ _ ((c .before .before .before .before .before .before .before .before .before .before .before .before .before .before .if2) .left),
       lt-ltb _ _ ((c .before .before .before .before .before .before .before .before .before .before .before .if3) .left),
       lt-ltb _ _ ((c .before .before .before .before .before .before .before .before .if4) .left),
-      not-true (betweenFits (getD types (f .a) 0 % 4) (getD types (f .b) 0 % 4) (getD types (f .c) 0 % 4)) ((c .before .if5) .taken),
+      not-true (betweenFits (getD types (f .a) 0 % 8) (getD types (f .b) 0 % 8) (getD types (f .c) 0 % 8)) ((c .before .if5) .taken),
     )
 
 -- src/step.rt:188:25
@@ -164,7 +164,7 @@ returns-6 c =
       lt-ltb _ _ ((c .before .before .before .before .before .before .before .before .before .before .before .before .before .before .before .before .before .before .before .before .if2) .left),
       lt-ltb _ _ ((c .before .before .before .before .before .before .before .before .before .before .before .before .before .before .before .before .before .if3) .left),
       lt-ltb _ _ ((c .before .before .before .before .before .before .before .before .before .before .before .before .before .before .if4) .left),
-      not-false (betweenFits (getD types (f .a) 0 % 4) (getD types (f .b) 0 % 4) (getD types (f .c) 0 % 4)) ((c .before .before .before .before .before .before .before .if5) .left),
+      not-false (betweenFits (getD types (f .a) 0 % 8) (getD types (f .b) 0 % 8) (getD types (f .c) 0 % 8)) ((c .before .before .before .before .before .before .before .if5) .left),
       (c .before .before .before .before .before .wide) .ensures .0,
       (c .before .before .before .wide2) .ensures .0,
       (c .before .wide3) .ensures .0,

@@ -118,7 +118,7 @@ returns-5 c =
       not-false (memberShape f) ((c .before .before .before .before .before .before .before .before .before .before .before .before .before .before .before .before .if1) .left),
       lt-ltb _ _ ((c .before .before .before .before .before .before .before .before .before .before .before .before .before .if2) .left),
       lt-ltb _ _ ((c .before .before .before .before .before .before .before .before .before .before .if3) .left),
-      not-false (ltb 0 (getD types (f .a) 0 % 4) && eqb (getD types (f .b) 0) (4 * (getD types (f .a) 0 % 4))) ((c .before .before .before .before .before .if4) .left),
+      not-false (ltb 0 (getD types (f .a) 0 % 8) && eqb (getD types (f .b) 0) (8 * (getD types (f .a) 0 % 8))) ((c .before .before .before .before .before .if4) .left),
       (c .before .before .before .wide) .ensures .0,
       (c .before .wide2) .ensures .0,
     )

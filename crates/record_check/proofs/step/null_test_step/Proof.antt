@@ -53,7 +53,7 @@ returns-3 c =
       (c .refused3) .ensures,
       not-false (onlyA f) ((c .before .before .before .before .before .before .before .if1) .left),
       lt-ltb _ _ ((c .before .before .before .before .if2) .left),
-      le-ltb 0 (getD ((c .before .before .before .before .before .before .before .before .before .before .before .before .before .before) .args .types .now) (f .a) 0 % 4) (omega (arith, (c .before .if3) .taken)),
+      le-ltb 0 (getD ((c .before .before .before .before .before .before .before .before .before .before .before .before .before .before) .args .types .now) (f .a) 0 % 8) (omega (arith, (c .before .if3) .taken)),
     )
 
 -- src/step.rt:161:24
@@ -85,7 +85,7 @@ returns-4 c =
       (c .passed) .ensures,
       not-false (onlyA f) ((c .before .before .before .before .before .before .before .before .before .if1) .left),
       lt-ltb _ _ ((c .before .before .before .before .before .before .if2) .left),
-      lt-ltb 0 (getD ((c .before .before .before .before .before .before .before .before .before .before .before .before .before .before .before .before) .args .types .now) (f .a) 0 % 4) (omega (arith, (c .before .before .before .if3) .left)),
+      lt-ltb 0 (getD ((c .before .before .before .before .before .before .before .before .before .before .before .before .before .before .before .before) .args .types .now) (f .a) 0 % 8) (omega (arith, (c .before .before .before .if3) .left)),
       (c .before .wide) .ensures .0,
     )
 

@@ -124,7 +124,21 @@ returns-11 c = search (flags, ← c .member-step .ensures, c .before .match .key
 -- src/step.rt:227:1
 returns-12 : tie.Need-returns-12
 unfolding recordStep
-returns-12 c = search (flags, ← c .refused2 .ensures)
+returns-12 c =
+    let r = c .before .match .rest in
+    rw (
+      c .refused2 .ensures,
+      ne-eqb _ _ (r .0 .0 .0 .0 .0 .0 .0 .0 .0 .1),
+      ne-eqb _ _ (r .0 .0 .0 .0 .0 .0 .0 .0 .1),
+      ne-eqb _ _ (r .0 .0 .0 .0 .0 .0 .0 .1),
+      ne-eqb _ _ (r .0 .0 .0 .0 .0 .0 .1),
+      ne-eqb _ _ (r .0 .0 .0 .0 .0 .1),
+      ne-eqb _ _ (r .0 .0 .0 .0 .1),
+      ne-eqb _ _ (r .0 .0 .0 .1),
+      ne-eqb _ _ (r .0 .0 .1),
+      ne-eqb _ _ (r .0 .1),
+      ne-eqb _ _ (r .1),
+    ) (search flags)
 
 pub record-step-spec : {M : Type 1} → statement M
 record-step-spec =

@@ -1,19 +1,23 @@
 use Rattle.records.proofs.Laws.{flags}
-use Rattle.records.specs.Shape.{knownType}
+use Rattle.records.specs.Shape.{knownTypeIn}
 use Rattle.records.proofs.shape.known_type.Statement.{statement}
 use Rattle.records.proofs.shape.known_type.Tie as tie
-use Rattle.records.proofs.shape.known_type.Reads as reads
-use Rattle.records.proofs.shape.known_type.Lts as lts
 
--- src/shape.rt:7:1
 returns : tie.Need-returns
-unfolding knownType
+unfolding knownTypeIn
 returns c = search flags
 
--- src/shape.rt:7:1
 returns-2 : tie.Need-returns-2
-unfolding knownType
+unfolding knownTypeIn
 returns-2 c = search flags
 
+returns-3 : tie.Need-returns-3
+unfolding knownTypeIn
+returns-3 c = search flags
+
+returns-4 : tie.Need-returns-4
+unfolding knownTypeIn
+returns-4 c = search flags
+
 pub known-type-spec : {M : Type 1} → statement M
-known-type-spec = tie.close (tie.spec returns returns-2)
+known-type-spec = tie.close (tie.spec returns returns-2 returns-3 returns-4)

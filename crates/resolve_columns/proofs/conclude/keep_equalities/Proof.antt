@@ -23,55 +23,55 @@ use borrow.Author.Needs.{needs}
 
 abbrev Inv-loop : tie.InvT-loop
 Inv-loop cells lefts equals edges kept₀ keeps next₀ dropped₀ e₀ kept next dropped e =
-    (e ≤ edges) × (next ≤ keeps + e) × ((t : Conjuncts) (marks : List ℕ) (T : ColumnTable) (l rights : List ℕ) → Shows
-    t (columnsOf cells) marks T → Keeps kept₀ keeps l → Kept T (edgesOf lefts rights equals e) kept next dropped
-    l) × (length kept ≡ length kept₀)
+    (e ≤ edges) × (next ≤ keeps + e) × ((t : Conjuncts) (marks : List ℕ) (T : ColumnTable) (l rights : List ℕ) →
+    Shows t (columnsOf cells) marks T → Keeps kept₀ keeps l → Kept T (edgesOf lefts rights equals e) kept next
+    dropped l) × (length kept ≡ length kept₀)
 
 abbrev μ-loop : tie.MeasureT-loop
 μ-loop cells lefts equals edges kept₀ keeps next₀ dropped₀ e₀ kept next dropped e =
     edges - e
 
--- src/conclude.rt:55:5
+-- src/conclude.rt:56:5
 loop-holds : tie.Need-loop-holds Inv-loop μ-loop
 loop-holds c =
     (omega arith, omega arith, (λ t marks T l rights S K. kept-none T _ _ _ _ _ l K), refl)
 
--- src/conclude.rt:56:29
+-- src/conclude.rt:57:29
 mul-kept : tie.Need-mul-kept Inv-loop μ-loop
 mul-kept c = search needs
 
--- src/conclude.rt:56:29
+-- src/conclude.rt:57:29
 shared-slice-read-kept : tie.Need-shared-slice-read-kept Inv-loop μ-loop
 shared-slice-read-kept c = search needs
 
--- src/conclude.rt:56:13
+-- src/conclude.rt:57:13
 slot-requires : tie.Need-slot-requires Inv-loop μ-loop
 slot-requires c κs = search needs
 
--- src/conclude.rt:57:13
+-- src/conclude.rt:58:13
 load-requires : tie.Need-load-requires Inv-loop μ-loop
 load-requires c κs =
     let st = c .before .before .before .before .before .before .before .before in
     let slot = c .slot in
     (omega (arith, slot .ensures), st .pre .0 .0)
 
--- src/conclude.rt:58:13
+-- src/conclude.rt:59:13
 is-fixed-requires : tie.Need-is-fixed-requires Inv-loop μ-loop
 is-fixed-requires c κs = search needs
 
--- src/conclude.rt:59:22
+-- src/conclude.rt:60:22
 mul-kept-2 : tie.Need-mul-kept-2 Inv-loop μ-loop
 mul-kept-2 c = search needs
 
--- src/conclude.rt:59:22
+-- src/conclude.rt:60:22
 shared-slice-read-kept-2 : tie.Need-shared-slice-read-kept-2 Inv-loop μ-loop
 shared-slice-read-kept-2 c = search needs
 
--- src/conclude.rt:59:9
+-- src/conclude.rt:60:9
 mul-kept-3 : tie.Need-mul-kept-3 Inv-loop μ-loop
 mul-kept-3 c = search needs
 
--- src/conclude.rt:59:9
+-- src/conclude.rt:60:9
 slice-write-kept : tie.Need-slice-write-kept Inv-loop μ-loop
 slice-write-kept c =
     let st = c .before .before .before .before .before .before .before .before .before .before .before in
@@ -79,7 +79,7 @@ slice-write-kept c =
     let t1 = c .before .before .before .before .before .loop-test in
     omega (arith, t1 .taken, l1 .inv .1, l1 .inv .3, st .pre .0 .3, st .pre .0 .4)
 
--- src/conclude.rt:60:9
+-- src/conclude.rt:61:9
 bump-requires : tie.Need-bump-requires Inv-loop μ-loop
 bump-requires c κs =
     let st = c .before .before .before .before .before .before .before .before .before .before .before in
@@ -87,15 +87,15 @@ bump-requires c κs =
     let t1 = c .before .before .before .before .before .loop-test in
     omega (arith, t1 .taken, l1 .inv .1, st .pre .0 .3)
 
--- src/conclude.rt:62:9
+-- src/conclude.rt:63:9
 add-e : tie.Need-add-e Inv-loop μ-loop
 add-e c = search needs
 
--- src/conclude.rt:55:5
+-- src/conclude.rt:56:5
 loop-less : tie.Need-loop-less Inv-loop μ-loop
 loop-less c = search needs
 
--- src/conclude.rt:55:5
+-- src/conclude.rt:56:5
 loop-again : tie.Need-loop-again Inv-loop μ-loop
 loop-again c =
     let st = c .before .before .before .before .before .before .before .before .before .before .before .before
@@ -115,18 +115,21 @@ loop-again c =
             t1
                 .taken,
             l1 .inv .1,
+            l1 .inv .3,
             st .pre .0 .3,
-          )) (slot .ensures) (is-fixed .ensures t (rowOf marks (slot .result)) ∙ ap
-          (λ d. isFixed (fixedAt lined (columnOf t (numbered (rowOf marks (slot .result)) d) .lower) (columnOf t
-          (numbered (rowOf marks (slot .result)) d) .upper))) (load .ensures)) (bump .ensures .0)),
+            st .pre .0 .4,
+          )) (slot .ensures) (is-fixed .ensures t (rowOf
+          marks (slot .result)) ∙ ap (λ d. isFixed (fixedAt lined (columnOf t (numbered (rowOf marks (slot .result))
+          d) .lower) (columnOf t (numbered (rowOf marks (slot .result)) d) .upper))) (load .ensures)) (bump .ensures
+          .0)),
       search needs,
     )
 
--- src/conclude.rt:35:1
+-- src/conclude.rt:36:1
 same-length : tie.Need-same-length Inv-loop μ-loop
 same-length c = search needs
 
--- src/conclude.rt:35:1
+-- src/conclude.rt:36:1
 returns : tie.Need-returns Inv-loop μ-loop
 returns c =
     let st = c .before .before .before .before .before .before in

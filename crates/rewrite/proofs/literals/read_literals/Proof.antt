@@ -2,7 +2,7 @@ use Rattle.rewrite.proofs.literals.read_literals.Statement.{statement}
 use Rattle.rewrite.proofs.literals.read_literals.Tie as tie
 use Rattle.rewrite.proofs.literals.read_literals.Reads as reads
 use Rattle.rewrite.proofs.literals.read_literals.Lts as lts
-use Rattle.reading.proofs.classify.classify.Reads as classify-reads
+use Rattle.reading.proofs.classify.classify_by_record.Reads as classify-by-record-reads
 use Rattle.rewrite.proofs.literals.count_of.Reads as count-of-reads
 use Rattle.rewrite.proofs.literals.kind_of.Reads as kind-of-reads
 use Rattle.rewrite.proofs.literals.literal_of.Reads as literal-of-reads
@@ -69,8 +69,8 @@ loop-again c =
     )
 
 -- src/literals.rt:137:13
-classify-requires : tie.Need-classify-requires Inv-loop μ-loop
-classify-requires c κs = search needs
+classify-by-record-requires : tie.Need-classify-by-record-requires Inv-loop μ-loop
+classify-by-record-requires c κs = search needs
 
 -- src/literals.rt:138:13
 said-by-requires : tie.Need-said-by-requires Inv-loop μ-loop
@@ -135,7 +135,7 @@ loop-again-2 c =
     .before .before .before .before .before in
     let loop = c .before .before .before .before .before .before .before .before .before .before .loop in
     let loop-test = c .before .before .before .before .before .before .before .before .before .loop-test in
-    let classify = c .before .before .before .before .before .classify in
+    let classify-by-record = c .before .before .before .before .before .classify-by-record in
     let said-by = c .before .before .before .before .said-by in
     let kind-of = c .before .before .before .kind-of in
     let literal-of = c .before .before .literal-of in
@@ -150,14 +150,14 @@ loop-again-2 c =
       length-set (loop .counts) (loop .i)
           _ ∙ loop .inv .4,
       filled-more (st .args .rs .now) (st .args .nodes .now) (loop .kinds) (loop .values) (loop
-          .starts) (loop .counts) (loop .i) (classify .result) (said-by .result) (kind-of .result) (literal-of
+          .starts) (loop .counts) (loop .i) (classify-by-record .result) (said-by .result) (kind-of .result) (literal-of
           .result) (start-of .result) (count-of .result) (omega (arith, h, loop .inv .1, st .pre .1 .0)) (omega
           (arith, h, loop .inv .2, st .pre .1 .1)) (omega (arith, h, loop .inv .3, st .pre .1 .2)) (omega (
             arith,
             h,
             loop .inv .4,
             st .pre .1 .3,
-          )) (classify .ensures) (said-by .ensures) (kind-of .ensures) (literal-of
+          )) (classify-by-record .ensures) (said-by .ensures) (kind-of .ensures) (literal-of
           .ensures) (start-of .ensures) (count-of .ensures) (loop .inv .5),
     )
 
@@ -197,7 +197,7 @@ read-literals-spec =
     add-i
     loop-less
     loop-again
-    classify-requires
+    classify-by-record-requires
     said-by-requires
     kind-of-requires
     slice-write-kinds

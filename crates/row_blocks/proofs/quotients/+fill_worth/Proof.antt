@@ -1,8 +1,6 @@
 -- `quotients::fill_worth`, which calls itself on the inputs of a division: their numbers are below the record's. Assumes nothing.
 use Prim.Native.Nat.{ℕ, _<_}
 use mathlib.Core.Path.{refl, _∙_}
-use mathlib.Core.Bool.{not}
-use lib.Dec.{eqb}
 use native.Mathlib.Omega.{arith}
 use borrow.Fn.Kinds.{In}
 use borrow.Fn.PlainCycle.{Measures, is, falls, and}
@@ -10,7 +8,7 @@ use borrow.Author.Needs.{needs}
 use Rattle.records.proofs.Loops.{flag-yes}
 use Rattle.masks.proofs.Comparing.{shown-same}
 use Rattle.row_blocks.proofs.Worths.{record-there, column-there, column-worth, literal-shown}
-use Rattle.row_blocks.proofs.Dividing.{first-there, below-one, below-two, ready-at, quotient-shown}
+use Rattle.row_blocks.proofs.Dividing.{below-one, below-two, ready-at, quotient-shown}
 use Rattle.row_blocks.proofs.quotients.fill_worth.Reads as fill-worth
 use Rattle.row_blocks.proofs.quotients.fill_worth.Kinds as fill-worth-kinds
 use Rattle.row_blocks.proofs.quotients.+fill_worth.Lts-fill_worth as fill-worth-lts
@@ -23,19 +21,20 @@ use Rattle.row_blocks.proofs.operand.join.Reads as join-reads
 use Rattle.row_blocks.proofs.quotients.divide_turned.Reads as divide-turned-reads
 use Rattle.row_blocks.proofs.quotients.pick_input.Reads as pick-input-reads
 use Rattle.row_blocks.proofs.quotients.divides.Reads as divides-reads
+use Rattle.row_blocks.proofs.depths.is_deeper.Reads as is-deeper-reads
 use Rattle.row_blocks.proofs.quotients.+fill_worth.{statement}
 use Rattle.row_blocks.proofs.quotients.+fill_worth.Tie.{close}
 
-abbrev μ-fill-worth : Measures 5 fill-worth-kinds.ps ℕ
+abbrev μ-fill-worth : Measures 6 fill-worth-kinds.ps ℕ
 μ-fill-worth κs a = a .1 .1 .1 .1 .1 .1 .1 .0 .0
 
-abbrev fill-worth-at : ℕ → In 5 fill-worth-kinds.ps
+abbrev fill-worth-at : ℕ → In 6 fill-worth-kinds.ps
 fill-worth-at t =
-    and 5 fill-worth-kinds.ps (is 5 fill-worth-kinds.ps μ-fill-worth t) fill-worth.Pre
+    and 6 fill-worth-kinds.ps (is 6 fill-worth-kinds.ps μ-fill-worth t) fill-worth.Pre
 
-abbrev fill-worth-below : ℕ → In 5 fill-worth-kinds.ps
+abbrev fill-worth-below : ℕ → In 6 fill-worth-kinds.ps
 fill-worth-below t =
-    and 5 fill-worth-kinds.ps (falls 5 fill-worth-kinds.ps _<_ μ-fill-worth t) fill-worth.Pre
+    and 6 fill-worth-kinds.ps (falls 6 fill-worth-kinds.ps _<_ μ-fill-worth t) fill-worth.Pre
 
 -- what is asked of and learnt from each callee
 abbrev calls : ℕ → fill-worth-lts.Claims
@@ -54,6 +53,8 @@ calls t = (
   divides-reads.Learnt,
   fill-rows-reads.Asked,
   fill-rows-reads.Learnt,
+  is-deeper-reads.Asked,
+  is-deeper-reads.Learnt,
   pick-input-reads.Asked,
   pick-input-reads.Learnt,
   fill-worth-below t,
@@ -64,12 +65,12 @@ calls t = (
 
 fill-worth-fields-in-requires : (t : ℕ) → fill-worth-lts.Need-fields-in-requires (calls t) (fill-worth-at t) fill-worth.Post
 fill-worth-fields-in-requires t c κs =
-    let st = c .before .before .before .before .before in
+    let st = c .before .before .before .before .before .before in
     record-there _ _ _ _ _ _ _ (st .args .n) _ (st .pre .1 .0) refl
 
 fill-worth-fill-column-requires : (t : ℕ) → fill-worth-lts.Need-fill-column-requires (calls t) (fill-worth-at t) fill-worth.Post
 fill-worth-fill-column-requires t c κs =
-    let st = c .before .before .before .before .before .before .before .before .before in
+    let st = c .before .before .before .before .before .before .before .before .before .before in
     let fields-in = c .before .before .before .fields-in in
     let if1 = c .before .if1 in
     let r = st .pre .1 .0 in (
@@ -92,8 +93,7 @@ fill-worth-same-length t c = search needs
 
 fill-worth-returns : (t : ℕ) → fill-worth-lts.Need-returns (calls t) (fill-worth-at t) fill-worth.Post
 fill-worth-returns t c =
-    let st = c .before .before .before .before .before .before .before .before .before .before .before .before
-    in
+    let st = c .before .before .before .before .before .before .before .before .before .before .before .before .before in
     let fields-in = c .before .before .before .before .before .before .fields-in in
     let if1 = c .before .before .before .before .if1 in
     let fill-column = c .before .before .fill-column in (
@@ -116,10 +116,8 @@ fill-worth-same-length-2 t c = search needs
 
 fill-worth-returns-2 : (t : ℕ) → fill-worth-lts.Need-returns-2 (calls t) (fill-worth-at t) fill-worth.Post
 fill-worth-returns-2 t c =
-    let st = c .before .before .before .before .before .before .before .before .before .before .before .before
-    .before .before .before .before in
-    let fields-in = c .before .before .before .before .before .before .before .before .before .before .fields-in
-    in
+    let st = c .before .before .before .before .before .before .before .before .before .before .before .before .before .before .before .before .before in
+    let fields-in = c .before .before .before .before .before .before .before .before .before .before .fields-in in
     let if2 = c .before .before .before .before .before .before .if2 in
     let join = c .before .before .before .before .join in
     let biased = c .before .before .before .biased in
@@ -137,8 +135,7 @@ fill-worth-divides-requires t c κs = search needs
 
 fill-worth-fill-rows-requires : (t : ℕ) → fill-worth-lts.Need-fill-rows-requires (calls t) (fill-worth-at t) fill-worth.Post
 fill-worth-fill-rows-requires t c κs =
-    let st = c .before .before .before .before .before .before .before .before .before .before .before .before
-    .before in
+    let st = c .before .before .before .before .before .before .before .before .before .before .before .before .before .before in
     (st .pre .1 .0, st .pre .1 .1)
 
 fill-worth-same-length-3 : (t : ℕ) → fill-worth-lts.Need-same-length-3 (calls t) (fill-worth-at t) fill-worth.Post
@@ -149,32 +146,23 @@ fill-worth-returns-3 t c =
     let fill-rows = c .before .before .fill-rows in
     fill-rows .ensures
 
-fill-worth-fields-in-requires-2 : (t : ℕ) → fill-worth-lts.Need-fields-in-requires-2 (calls t) (fill-worth-at t) fill-worth.Post
-fill-worth-fields-in-requires-2 t c κs =
-    let st = c .before .before .before .before .before .before .before .before .before .before .before .before
-    in
-    let fields-in = c .before .before .before .before .before .before .fields-in in
-    let divides = c .before .divides in
-    let if3 = c .if3 in
-    let d = divides .ensures (flag-yes refl (if3 .left)) in
-    first-there _ _ _ _ _ _ _ (st .args .n) _ (st .pre .1 .0) (fields-in .ensures) (d .0)
+fill-worth-is-deeper-requires : (t : ℕ) → fill-worth-lts.Need-is-deeper-requires (calls t) (fill-worth-at t) fill-worth.Post
+fill-worth-is-deeper-requires t c κs = search needs
 
 fill-worth-pick-input-requires : (t : ℕ) → fill-worth-lts.Need-pick-input-requires (calls t) (fill-worth-at t) fill-worth.Post
 fill-worth-pick-input-requires t c κs = search needs
 
 fill-worth-fill-worth-requires : (t : ℕ) → fill-worth-lts.Need-fill-worth-requires (calls t) (fill-worth-at t) fill-worth.Post
 fill-worth-fill-worth-requires t c κs =
-    let st = c .before .before .before .before .before .before .before .before .before .before .before .before
-    .before .before .before .before in
-    let fields-in = c .before .before .before .before .before .before .before .before .before .before .fields-in
-    in
-    let divides = c .before .before .before .before .before .divides in
-    let if3 = c .before .before .before .before .if3 in
-    let fields-in2 = c .before .before .before .fields-in2 in
+    let st = c .before .before .before .before .before .before .before .before .before .before .before .before .before .before .before .before in
+    let fields-in = c .before .before .before .before .before .before .before .before .before .fields-in in
+    let divides = c .before .before .before .before .divides in
+    let if3 = c .before .before .before .if3 in
+    let is-deeper = c .before .before .is-deeper in
     let pick-input = c .before .pick-input in
     let d = divides .ensures (flag-yes refl (if3 .left)) in
     let h : pick-input .result < st .args .n .0 = below-one _ _ _ _ _ _ _ (st .args .n) _ (st .pre .1 .0)
-    (fields-in .ensures) (d .0) (not (eqb (fields-in2 .result .kind) 4)) _ (pick-input .ensures) in (
+    (fields-in .ensures) (d .0) (is-deeper .result) _ (pick-input .ensures) in (
       omega arith,
       (
         ready-at _ _ _ _ _ _ _ (st .args .n) _ (st .pre .1 .0) (fields-in .ensures) (d .0) _ h,
@@ -188,27 +176,24 @@ fill-worth-pick-input-requires-2 t c κs = search needs
 
 fill-worth-add-fill-worth : (t : ℕ) → fill-worth-lts.Need-add-fill-worth (calls t) (fill-worth-at t) fill-worth.Post
 fill-worth-add-fill-worth t c =
-    let st = c .before .before .before .before .before .before .before .before .before .before .before .before
-    .before .before .before .before .before .before .before .before .before in
-    let divides = c .before .before .before .before .before .before .before .before .before .before .divides in
-    let if3 = c .before .before .before .before .before .before .before .before .before .if3 in
+    let st = c .before .before .before .before .before .before .before .before .before .before .before .before .before .before .before .before .before .before .before .before .before in
+    let divides = c .before .before .before .before .before .before .before .before .before .divides in
+    let if3 = c .before .before .before .before .before .before .before .before .if3 in
     let d = divides .ensures (flag-yes refl (if3 .left)) in
     omega (arith, d .3, st .pre .1 .1)
 
 fill-worth-fill-worth-requires-2 : (t : ℕ) → fill-worth-lts.Need-fill-worth-requires-2 (calls t) (fill-worth-at t) fill-worth.Post
 fill-worth-fill-worth-requires-2 t c κs =
-    let st = c .before .before .before .before .before .before .before .before .before .before .before .before
-    .before .before .before .before .before .before .before .before .before in
-    let fields-in = c .before .before .before .before .before .before .before .before .before .before .before
-    .before .before .before .before .fields-in in
-    let divides = c .before .before .before .before .before .before .before .before .before .before .divides in
-    let if3 = c .before .before .before .before .before .before .before .before .before .if3 in
-    let fields-in2 = c .before .before .before .before .before .before .before .before .fields-in2 in
+    let st = c .before .before .before .before .before .before .before .before .before .before .before .before .before .before .before .before .before .before .before .before .before in
+    let fields-in = c .before .before .before .before .before .before .before .before .before .before .before .before .before .before .fields-in in
+    let divides = c .before .before .before .before .before .before .before .before .before .divides in
+    let if3 = c .before .before .before .before .before .before .before .before .if3 in
+    let is-deeper = c .before .before .before .before .before .before .before .is-deeper in
     let fill-worth = c .before .before .before .before .fill-worth in
     let pick-input2 = c .before .pick-input2 in
     let d = divides .ensures (flag-yes refl (if3 .left)) in
     let h : pick-input2 .result < st .args .n .0 = below-two _ _ _ _ _ _ _ (st .args .n) _ (st .pre .1 .0)
-    (fields-in .ensures) (d .0) (not (eqb (fields-in2 .result .kind) 4)) _ (pick-input2 .ensures) in (
+    (fields-in .ensures) (d .0) (is-deeper .result) _ (pick-input2 .ensures) in (
       omega arith,
       (
         ready-at _ _ _ _ _ _ _ (st .args .n) _ (st .pre .1 .0) (fields-in .ensures) (d .0) _ h,
@@ -219,13 +204,9 @@ fill-worth-fill-worth-requires-2 t c κs =
 
 fill-worth-divide-turned-requires : (t : ℕ) → fill-worth-lts.Need-divide-turned-requires (calls t) (fill-worth-at t) fill-worth.Post
 fill-worth-divide-turned-requires t c κs =
-    let st = c .before .before .before .before .before .before .before .before .before .before .before .before
-    .before .before .before .before .before .before .before .before .before .before .before .before .before
-    in
-    let divides = c .before .before .before .before .before .before .before .before .before .before .before
-    .before .before .before .divides in
-    let if3 = c .before .before .before .before .before .before .before .before .before .before .before .before
-    .before .if3 in
+    let st = c .before .before .before .before .before .before .before .before .before .before .before .before .before .before .before .before .before .before .before .before .before .before .before .before .before in
+    let divides = c .before .before .before .before .before .before .before .before .before .before .before .before .before .divides in
+    let if3 = c .before .before .before .before .before .before .before .before .before .before .before .before .if3 in
     let fill-worth = c .before .before .before .before .before .before .before .before .fill-worth in
     let fill-worth2 = c .before .before .before .fill-worth2 in
     let d = divides .ensures (flag-yes refl (if3 .left)) in (
@@ -234,8 +215,7 @@ fill-worth-divide-turned-requires t c κs =
         arith,
         d .3,
         fill-worth .kept .1 .1 .1 .1 .1 .1 .1 .1 .0,
-        fill-worth2 .kept .1
-            .1 .1 .1 .1 .1 .1 .1 .0,
+        fill-worth2 .kept .1 .1 .1 .1 .1 .1 .1 .1 .0,
       ),
     )
 
@@ -244,27 +224,18 @@ fill-worth-same-length-4 t c = search needs
 
 fill-worth-returns-4 : (t : ℕ) → fill-worth-lts.Need-returns-4 (calls t) (fill-worth-at t) fill-worth.Post
 fill-worth-returns-4 t c =
-    let st = c .before .before .before .before .before .before .before .before .before .before .before .before
-    .before .before .before .before .before .before .before .before .before .before .before .before .before
-    .before .before .before in
-    let fields-in = c .before .before .before .before .before .before .before .before .before .before .before
-    .before .before .before .before .before .before .before .before .before .before .before .fields-in in
-    let divides = c .before .before .before .before .before .before .before .before .before .before .before
-    .before .before .before .before .before .before .divides in
-    let if3 = c .before .before .before .before .before .before .before .before .before .before .before .before
-    .before .before .before .before .if3 in
-    let fields-in2 = c .before .before .before .before .before .before .before .before .before .before .before
-    .before .before .before .before .fields-in2 in
-    let pick-input = c .before .before .before .before .before .before .before .before .before .before .before
-    .before .before .pick-input in
-    let fill-worth = c .before .before .before .before .before .before .before .before .before .before .before
-    .fill-worth in
+    let st = c .before .before .before .before .before .before .before .before .before .before .before .before .before .before .before .before .before .before .before .before .before .before .before .before .before .before .before .before in
+    let fields-in = c .before .before .before .before .before .before .before .before .before .before .before .before .before .before .before .before .before .before .before .before .before .fields-in in
+    let divides = c .before .before .before .before .before .before .before .before .before .before .before .before .before .before .before .before .divides in
+    let if3 = c .before .before .before .before .before .before .before .before .before .before .before .before .before .before .before .if3 in
+    let is-deeper = c .before .before .before .before .before .before .before .before .before .before .before .before .before .before .is-deeper in
+    let pick-input = c .before .before .before .before .before .before .before .before .before .before .before .before .before .pick-input in
+    let fill-worth = c .before .before .before .before .before .before .before .before .before .before .before .fill-worth in
     let pick-input2 = c .before .before .before .before .before .before .before .before .pick-input2 in
     let fill-worth2 = c .before .before .before .before .before .before .fill-worth2 in
     let divide-turned = c .before .before .divide-turned in
     let d = divides .ensures (flag-yes refl (if3 .left)) in (
-      quotient-shown _ _ _ _ _ _ _ (st .args .n) _ (st .pre .1 .0) (fields-in .ensures) (d .0) (d .1) (d .2) (not
-          (eqb (fields-in2 .result .kind) 4)) _ _ (pick-input .ensures) (pick-input2 .ensures) _ _ _ _ _ _ _
+      quotient-shown _ _ _ _ _ _ _ (st .args .n) _ (st .pre .1 .0) (fields-in .ensures) (d .0) (d .1) (d .2) (is-deeper .result) _ _ (pick-input .ensures) (pick-input2 .ensures) _ _ _ _ _ _ _
           (fill-worth .ensures .0) (fill-worth2 .ensures .0) (fill-worth2 .ensures .1) (divide-turned .ensures .0),
       λ
           j h. divide-turned .ensures .1 j h ∙ fill-worth2 .ensures .1 j (omega (arith, h)) ∙ fill-worth .ensures .1 j
@@ -287,7 +258,7 @@ pub +fill-worth-spec : {M : Type 1} → statement M
     (fill-worth-fill-rows-requires t)
     (fill-worth-same-length-3 t)
     (fill-worth-returns-3 t)
-    (fill-worth-fields-in-requires-2 t)
+    (fill-worth-is-deeper-requires t)
     (fill-worth-pick-input-requires t)
     (fill-worth-fill-worth-requires t)
     (fill-worth-pick-input-requires-2 t)

@@ -6,7 +6,7 @@ use Rattle.show_row.proofs.merged.show_lines.Lts as lts
 use Rattle.collect_constraints.proofs.collect.collect.Reads as collect-reads
 use Rattle.resolve_columns.proofs.conclude.resolve_all.Reads as resolve-all-reads
 use Rattle.propagate_equalities.proofs.propagate.propagate_equalities.Reads as propagate-equalities-reads
-use Rattle.show_row.proofs.write.write_places.Reads as write-places-reads
+use Rattle.write_places.proofs.write_places.Reads as write-places-reads
 use mathlib.Core.Path.{_∙_, refl}
 use Prim.Native.Nat.{ℕ, _-_}
 use native.Mathlib.Omega.{arith}
@@ -50,13 +50,13 @@ collect-requires c κs =
         st .pre .0 .0,
         st .pre .0 .1,
         st .pre .0 .2,
-        length-replicate {A = ℕ} 704 0,
+        length-replicate {A = ℕ} 448 0,
         columns-empty,
-        length-replicate {A = ℕ} 260 0,
-        length-replicate {A = ℕ} 260 0,
-        length-replicate {A = ℕ} 130 0,
-        length-replicate {A = ℕ} 130 0,
-        length-replicate {A = ℕ} 130 0,
+        omega (arith, length-replicate {A = ℕ} 256 0, st .pre .0 .0, st .pre .0 .1),
+        omega (arith, length-replicate {A = ℕ} 128 0, st .pre .0 .0, st .pre .0 .1),
+        omega (arith, length-replicate {A = ℕ} 128 0, st .pre .0 .0, st .pre .0 .1),
+        omega (arith, length-replicate {A = ℕ} 128 0, st .pre .0 .0, st .pre .0 .1),
+        omega (arith, length-replicate {A = ℕ} 128 0, st .pre .0 .0, st .pre .0 .1),
       ),
       (st .pre .1 .0, st .pre .1 .1),
     )
@@ -99,8 +99,8 @@ propagate-equalities-requires c κs =
     .before .before .before .before .before .before in
     let collect = c .before .before .before .before .before .before .before .before .before .before .before
     .before .before .collect in
-    let zl = collect .ensures .0 .1 .linked .left-size in
-    let zr = collect .ensures .0 .1 .linked .right-size in (
+    let zl = collect .kept .1 .1 .1 .1 .1 .1 .1 .1 .1 .1 .1 .1 .0 ∙ length-replicate {A = ℕ} 128 0 in
+    let zr = collect .kept .1 .1 .1 .1 .1 .1 .1 .1 .1 .1 .1 .1 .1 .0 ∙ length-replicate {A = ℕ} 128 0 in (
       (
         record {
           size = collect .ensures .1 .3;
@@ -154,7 +154,7 @@ resolve-all-requires c κs =
     let collect = c .before .before .before .before .before .before .before .before .before .before .before
     .before .before .before .before .before .before .before .before .before .collect in
     let propagate-equalities = c .before .before .before .before .before .before .propagate-equalities in
-    let zo = collect .ensures .0 .1 .entered .order-size in (
+    let zo = collect .kept .1 .1 .1 .1 .1 .1 .1 .1 .1 .1 .0 ∙ length-replicate {A = ℕ} 256 0 in (
       (
         propagate-equalities .ensures .1,
         omega (
@@ -221,7 +221,7 @@ slice-aggregate-write-places-2 c =
     let collect = c .before .before .before .before .before .before .before .before .before .before .before
     .before .before .before .before .before .before .before .before .before .before .before .before .before
     .before .before .before .before .collect in
-    let zo = collect .ensures .0 .1 .entered .order-size in
+    let zo = collect .kept .1 .1 .1 .1 .1 .1 .1 .1 .1 .1 .0 ∙ length-replicate {A = ℕ} 256 0 in
     search (needs, zo)
 
 -- src/merged.rt:103:9
@@ -235,7 +235,7 @@ write-places-requires c κs =
     .before .before .before .before .before .before .before .before .before .before .before .before .before
     .before .before .before .before .before .collect in
     let resolve-all = c .before .before .before .before .before .before .before .before .resolve-all in
-    let zo = collect .ensures .0 .1 .entered .order-size in (
+    let zo = collect .kept .1 .1 .1 .1 .1 .1 .1 .1 .1 .1 .0 ∙ length-replicate {A = ℕ} 256 0 in (
       resolve-all .ensures .1 .0 .size,
       omega (
         arith,

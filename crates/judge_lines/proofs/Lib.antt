@@ -1,0 +1,4 @@
+pub mod Ends
+pub mod LeftOut
+pub mod Answers
+pub mod Rows

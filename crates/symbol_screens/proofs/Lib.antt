@@ -1,0 +1,4 @@
+pub mod Cases
+pub mod NumbersChecked
+pub mod Numbers
+pub mod ColumnKinds

@@ -1,0 +1,5 @@
+pub mod Held
+pub mod Reading
+pub mod Rewriting
+pub mod Rows
+pub mod Cases

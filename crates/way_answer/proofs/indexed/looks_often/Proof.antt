@@ -1,0 +1,95 @@
+use borrow.Author.Needs.{needs}
+use Rattle.way_answer.proofs.indexed.looks_often.Statement.{statement}
+use Rattle.way_answer.proofs.indexed.looks_often.Tie as tie
+use mathlib.Core.Path.{_≡_, sym}
+use mathlib.Core.Bool.{true≢false}
+use Prim.Native.Nat.{ℕ, _+_, _*_, _≤_, _<_, _-_}
+use native.Mathlib.Omega.{arith}
+use lib.ListN.{getD}
+use Rattle.merge_conjuncts.proofs.Sizes.{ends-more, work-bound}
+
+abbrev Inv-loop : tie.InvT-loop
+Inv-loop starts counts n total₀ j₀ total j =
+    (j ≤ 128) × (total ≤ j * 8192) × ((i : ℕ) → i < j → getD starts i 0 + getD counts i 0 ≤ 8192)
+
+abbrev μ-loop : tie.MeasureT-loop
+μ-loop starts counts n total₀ j₀ total j = 128 - j
+
+loop-holds : tie.Need-loop-holds Inv-loop μ-loop
+loop-holds c = (search needs, search needs, λ i l. absurd (omega (arith, l)))
+
+number-at-requires : tie.Need-number-at-requires Inv-loop μ-loop
+number-at-requires c κs = search needs
+
+cast-start : tie.Need-cast-start Inv-loop μ-loop
+cast-start c = search needs
+
+number-at-requires-2 : tie.Need-number-at-requires-2 Inv-loop μ-loop
+number-at-requires-2 c κs = search needs
+
+cast-count : tie.Need-cast-count Inv-loop μ-loop
+cast-count c = search needs
+
+add-if1 : tie.Need-add-if1 Inv-loop μ-loop
+add-if1 c = search needs
+
+returns : tie.Need-returns Inv-loop μ-loop
+returns c = λ e. absurd (true≢false (sym e))
+
+add-total : tie.Need-add-total Inv-loop μ-loop
+add-total c =
+    let loop = c .before .before .before .before .loop in
+    let if1 = c .if1 in
+    omega (arith, loop .inv .1, loop .inv .0, if1 .left)
+
+add-j : tie.Need-add-j Inv-loop μ-loop
+add-j c = search needs
+
+loop-less : tie.Need-loop-less Inv-loop μ-loop
+loop-less c = search needs
+
+loop-again : tie.Need-loop-again Inv-loop μ-loop
+loop-again c =
+    let st = c .before .before .before .before .before .before .before in
+    let loop = c .before .before .before .before .loop in
+    let number-at = c .before .before .number-at in
+    let number-at2 = c .before .number-at2 in
+    let if1 = c .if1 in (
+      search needs,
+      omega (arith, loop .inv .1, if1 .left),
+      ends-more (st .args .starts .now) (st .args .counts .now) (loop .j) _ _ (number-at .ensures) (number-at2
+          .ensures) (if1 .left) (loop .inv .2),
+    )
+
+mul-result : tie.Need-mul-result Inv-loop μ-loop
+mul-result c =
+    let st = c .before .before .before .before in
+    let loop = c .before .loop in
+    let b = work-bound (st .args .n) (loop .total) (st .pre) (omega (arith, loop .inv .1, loop .inv .0)) .1 in
+    omega (arith, b)
+
+returns-2 : tie.Need-returns-2 Inv-loop μ-loop
+returns-2 c =
+    let loop = c .before .loop in
+    let loop-test = c .loop-test in
+    let e : loop .j ≡ 128 = omega (arith, loop .inv .0, loop-test .left) in λ h. rw e at (loop .inv .2)
+
+pub looks-often-spec : {M : Type 1} → statement M
+looks-often-spec =
+    tie.close
+    (tie.spec
+    Inv-loop
+    μ-loop
+    loop-holds
+    number-at-requires
+    cast-start
+    number-at-requires-2
+    cast-count
+    add-if1
+    returns
+    add-total
+    add-j
+    loop-less
+    loop-again
+    mul-result
+    returns-2)
