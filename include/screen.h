@@ -403,7 +403,7 @@ enum screen_rewrite_answer {
  *
  * A conjunct with a FloorDivide or Modulus in it is none of these: it stays as it is and says nothing of its columns.
  *
- * The call needs some 62 KB of stack, less than 100 KB where the pool has over 128 values, and less than 384 KB where many
+ * The call needs some 70 KB of stack, less than 100 KB where the pool has over 128 values, and less than 400 KB where many
  * lists are carried by many equalities.
  */
 SCREEN_MUST_USE

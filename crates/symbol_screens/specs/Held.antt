@@ -3,12 +3,12 @@
 use mathlib.Core.Bool.{cond}
 use mathlib.Core.List.{List}
 use mathlib.Core.Path.{refl}
-use Prim.Native.Nat.{ℕ, _+_}
+use Prim.Native.Nat.{ℕ}
 use lib.Dec.{eqb}
-use lib.IntN.{ℤ, pos}
-use Rattle.truth.specs.Halves.{ordZ, key, twice}
+use lib.IntN.{ℤ}
+use Rattle.truth.specs.Halves.{ordZ, key}
 use Rattle.truth.proofs.Orders.{total-z}
-use Rattle.symbols.specs.Symbol.{symbolNumber}
+use Rattle.symbols.specs.Symbol.{symbolKey}
 use Rattle.constraints.specs.Scalars.{Scalars}
 
 pub data Held : Type 0 where
@@ -24,11 +24,11 @@ abbrev pub bitsOf : Held → ℕ
 bitsOf (Number v) = v
 bitsOf (Symbol v) = v
 
--- The keys of symbols are above all others, in the order of their bytes: "equal bytes are equal values wherever they lie".
--- Values of two types never meet in a checked screen, so where the one lie to the other says nothing.
+-- The key of a symbol is that of its bytes: "equal bytes are equal values wherever they lie". Values of two types never meet
+-- in a checked screen, so how the keys of symbols lie to those of numbers says nothing.
 abbrev pub keyIn : List ℕ → Held → ℤ
 keyIn text (Number v) = key v
-keyIn text (Symbol v) = twice (pos (18446744073709551616 + symbolNumber text v))
+keyIn text (Symbol v) = symbolKey text v
 
 -- An excluded value that opens a bound is what the bound then holds, as in the Rust: "for a bound opened by an excluded value
 -- the excluded one's" start.

@@ -3,7 +3,7 @@ use mathlib.Core.Path.{_≡_}
 use mathlib.Core.Bool.{true, cond}
 use mathlib.Core.List.{List}
 use mathlib.Core.Option.{Option, none, some}
-use Prim.Native.Nat.{ℕ, _+_, _≤_, _<_}
+use Prim.Native.Nat.{ℕ, _≤_, _<_}
 use lib.IntN.{ℤ, pos}
 use lib.ListN.{length, getD}
 use Rattle.records.specs.Bytes.{valueAt}
@@ -29,7 +29,7 @@ pub record IsSymbol (k : ℤ) : Type 0 where
   pub symbol : List ℕ
   pub short : length symbol ≤ 16
   pub bytes : (i : ℕ) → getD symbol i 0 < 256
-  pub is : k ≡ twice (pos (18446744073709551616 + numberOf 16 symbol))
+  pub is : k ≡ twice (pos (numberOf 16 symbol))
 
 abbrev pub NullOrSymbol : Option ℤ → Type 0
 NullOrSymbol none = Unit {0}
