@@ -1,6 +1,7 @@
 pub mod Cases
 pub mod NumbersChecked
 pub mod Numbers
+pub mod NumbersTested
 pub mod ColumnKinds
 pub mod Places
 pub mod Ranked

@@ -63,7 +63,7 @@ back (Rebuilt ns cs) = ap (Rebuilt ns) (go cs)
     go (x ∷ l) = λ i. (x .0, one (x .1) i) ∷ go l i
 
 module _ (rs p : List ℕ) (used : ℕ) (none : NoSymbol rs used) where
-  numbers-held : (n : ℕ) → heldAt rs p used n ≡ mapAExpr Number (aexprAt rs p used n)
+  pub numbers-held : (n : ℕ) → heldAt rs p used n ≡ mapAExpr Number (aexprAt rs p used n)
   unfolding heldAt aexprAt aexprOf
   numbers-held n = go (ltb n used) refl
     where
