@@ -3,7 +3,7 @@
 -- places that carried the proof that they are below n would ask for, and below n it is what stands there
 -- (`within-below`).
 use mathlib.Core.Path.{_≡_, refl, sym, _∙_}
-use mathlib.Core.Bool.{Bool, true, false, cond, true≢false}
+use mathlib.Core.Bool.{Bool, true, false, cond}
 use mathlib.Core.List.{List}
 use Prim.Native.Nat.{ℕ, zero, suc, _≤_, _<_}
 use native.Mathlib.Omega.{arith}
@@ -13,11 +13,8 @@ use lib.ListN.{getD}
 use borrow.Author.Tests.{lt-ltb, le-ltb, ltb-true}
 use Rattle.truth.specs.Halves.{ordZ, key}
 use Rattle.truth.proofs.Orders.{cmp-refl, total-z}
-use Rattle.constraints.specs.Scalars.{Scalars}
 use Rattle.constraints.specs.Payload.{payload}
-use Rattle.constraints.proofs.Carried.{Carries, along}
-use Rattle.constraints.proofs.SameComparisons.{SameComparisons}
-use Rattle.constraints.proofs.SameWithin.{SameWithin}
+use Rattle.constraints.proofs.Carried.{Carries}
 use Rattle.symbols.specs.Symbol.{symbolKey}
 use Rattle.symbol_ranks.specs.Ranks.{Ranked, Pooled}
 use Rattle.symbol_ranks.proofs.RankKeys.{rank-keys}
@@ -42,35 +39,6 @@ below n i = go (ltb i (suc n)) (ltb-true i (suc n))
 none-below : (i : ℕ) → within 0 i ≡ 0
 none-below i = rw (le-ltb i 0 (omega arith))
 
--- Values by their symbols; of these too the excluded value is what an opened bound holds.
-abbrev pub symbolic : List ℕ → Scalars ℤ ℕ
-symbolic text =
-    record {
-      key = symbolKey text;
-      order = ordZ;
-      total = total-z;
-      opened = λ held excluded. excluded;
-      opened-key = λ held excluded. refl;
-    }
-
--- Places are taken to the values that stand there, and to the ranks.
-abbrev pub values-carry : (text values : List ℕ) (n : ℕ) → Carries (symbolic text) (standing values n)
-values-carry text values n =
-    record {
-      opened = λ held excluded. excluded;
-      opened-key = λ held excluded. refl;
-      opens = λ held excluded. refl;
-    }
-
-abbrev pub ranks-carry : (ranks : List ℕ) (n : ℕ) → Carries payload (standing ranks n)
-unfolding payload
-ranks-carry ranks n =
-    record {
-      opened = λ held excluded. excluded;
-      opened-key = λ held excluded. refl;
-      opens = λ held excluded. refl;
-    }
-
 module _ {text values ranks : List ℕ} (bytes : (q : ℕ) → getD text q 0 < 256) where
   pub places-compare : (n : ℕ) → Pooled text values n → n ≤ 9223372036854775808 → Ranked text values n ranks →
       (i j : ℕ) → ordZ .cmp (symbolKey text (standing values n i)) (symbolKey text (standing values n j)) ≡
@@ -80,35 +48,9 @@ module _ {text values ranks : List ℕ} (bytes : (q : ℕ) → getD text q 0 < 2
       (cmp-refl total-z (symbolKey text (getD values 0 0)) ∙ sym (cmp-refl total-z (key (getD ranks 0 0))))
   places-compare (suc n) p h r i j = sym (rank-keys bytes p h r _ _ (below n i) (below n j))
 
-  -- So what is merged of the ranks is what is merged of the symbols (`translated-within` in merge).
-  pub same-comparisons : {n : ℕ} → Pooled text values n → n ≤ 9223372036854775808 → Ranked text values n ranks →
-      SameComparisons (along (values-carry text values n)) (along (ranks-carry ranks n))
-  unfolding payload
-  same-comparisons {n} p h r = record { compares = places-compare n p h r; opens = λ held excluded. refl }
-
--- ---- Beside values of other types: whether it is a symbol, and the symbol or its place; else the 64 bits. A rank does
--- not compare with a number as the symbol would, so this holds within each kind (`translated-within` in merge).
-abbrev pub symbolicOrNot : List ℕ → Scalars ℤ (Bool × ℕ)
-symbolicOrNot text =
-    record {
-      key = λ v. cond (v .0) (symbolKey text (v .1)) (key (v .1));
-      order = ordZ;
-      total = total-z;
-      opened = λ held excluded. excluded;
-      opened-key = λ held excluded. refl;
-    }
-
+-- ---- Beside values of other types: whether it is a symbol, and its place; else the 64 bits.
 abbrev pub standingOrNot : List ℕ → ℕ → Bool × ℕ → ℕ
 standingOrNot l n v = cond (v .0) (standing l n (v .1)) (v .1)
-
-abbrev pub values-carry-all : (text values : List ℕ) (n : ℕ) →
-    Carries (symbolicOrNot text) (λ (v : Bool × ℕ). (v .0, standingOrNot values n v))
-values-carry-all text values n =
-    record {
-      opened = λ held excluded. excluded;
-      opened-key = λ held excluded. refl;
-      opens = λ held excluded. refl;
-    }
 
 abbrev pub ranks-carry-all : (ranks : List ℕ) (n : ℕ) → Carries payload (standingOrNot ranks n)
 unfolding payload
@@ -118,23 +60,3 @@ ranks-carry-all ranks n =
       opened-key = λ held excluded. refl;
       opens = λ held excluded. refl;
     }
-
-pub same-within : {text values ranks : List ℕ} {n : ℕ} → ((q : ℕ) → getD text q 0 < 256) → Pooled text values n →
-    n ≤ 9223372036854775808 → Ranked text values n ranks →
-    SameWithin (λ (v : Bool × ℕ). v .0) (along (values-carry-all text values n)) (along (ranks-carry-all ranks n))
-unfolding payload
-same-within {text} {values} {ranks} {n} bytes p h r =
-    record {
-      compares = λ a b e. go (a .0) (b .0) e (a .1) (b .1);
-      opens = λ held excluded. refl;
-      opened-kind = λ held excluded. refl;
-    }
-  where
-    go : (s t : Bool) → s ≡ t → (i j : ℕ) →
-        ordZ .cmp (symbolicOrNot text .key (s, standingOrNot values n (s, i)))
-        (symbolicOrNot text .key (t, standingOrNot values n (t, j))) ≡
-        ordZ .cmp (key (standingOrNot ranks n (s, i))) (key (standingOrNot ranks n (t, j)))
-    go true true e i j = places-compare bytes n p h r i j
-    go true false e i j = absurd (true≢false e)
-    go false true e i j = absurd (true≢false (sym e))
-    go false false e i j = refl

@@ -152,9 +152,12 @@ module _ (t : List ℕ) where
   null-has n must Other = tt
 
 -- ---- Types that fit.
-same-type : (x y : ℕ) → sameType x y ≡ true → x ≡ y
+pub same-types : (x y : ℕ) → sameType x y ≡ true → (0 < x) × (x ≡ y)
 unfolding sameType
-same-type x y h = eqb-true x y (and-right (ltb 0 x) (eqb x y) h)
+same-types x y h = (ltb-true 0 x (and-left (ltb 0 x) (eqb x y) h), eqb-true x y (and-right (ltb 0 x) (eqb x y) h))
+
+same-type : (x y : ℕ) → sameType x y ≡ true → x ≡ y
+same-type x y h = same-types x y h .1
 
 binary-same : (o : Operator) (x y : ℕ) → binaryFits o x y ≡ true → x ≡ y
 unfolding binaryFits

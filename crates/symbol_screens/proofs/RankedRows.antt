@@ -36,7 +36,7 @@ use Rattle.symbol_screens.specs.Reading.{heldAt}
 use Rattle.symbol_screens.specs.Rewriting.{lent}
 use Rattle.symbol_screens.specs.Rows.{rowKeysWith, truthWith}
 use Rattle.symbol_screens.specs.Placed.{Placed, number, placedFrom, placedAExpr, placedAt, placeCount, Standing}
-use Rattle.symbol_screens.proofs.ColumnKinds.{kindAt}
+use Rattle.symbol_screens.proofs.ColumnKinds.{kindAt, same-types}
 use Rattle.symbol_screens.proofs.Places.{heldBy, held-placed}
 use Rattle.symbol_screens.proofs.Ranked.{rankedAt}
 
@@ -157,10 +157,6 @@ module _ (t : List ℕ) where
 typed-root : (t rs : List ℕ) (n : ℕ) → typeAt t rs (node n) ≡ 3 → typeOf t (recordAt rs (node n)) ≡ 3
 unfolding typeAt
 typed-root t rs n e = e
-
-same-types : (x y : ℕ) → sameType x y ≡ true → (0 < x) × (x ≡ y)
-unfolding sameType
-same-types x y h = (ltb-true 0 x (and-left (ltb 0 x) (eqb x y) h), eqb-true x y (and-right (ltb 0 x) (eqb x y) h))
 
 -- a binary record by what its operator is
 by-operator : (C : AExpr ℕ → Type 0) (x y : ℕ) → C Missing → (o : Operator) →
