@@ -2,7 +2,7 @@
 #define _POSIX_C_SOURCE 200809L
 #include "lend.h"
 
-#include <pthread.h>
+#include "stack.h"
 
 enum { INT = SCREEN_TYPE_INT, DAY = SCREEN_TYPE_DAY, TRUTH = SCREEN_TYPE_TRUTH };
 
@@ -148,12 +148,7 @@ static void *largest(void *unused)
 
 static void test_largest(void)
 {
-    pthread_attr_t attributes;
-    pthread_t thread;
-    if (pthread_attr_init(&attributes) != 0 || pthread_attr_setstacksize(&attributes, (size_t)3 << 16) != 0 ||
-        pthread_create(&thread, &attributes, largest, NULL) != 0 || pthread_join(thread, NULL) != 0)
-        abort();
-    pthread_attr_destroy(&attributes);
+    on_stack(largest, NULL, (size_t)3 << 16);
 }
 
 static void test_round_trips(void)

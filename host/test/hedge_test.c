@@ -5,7 +5,7 @@
 #define _POSIX_C_SOURCE 200809L
 #include "lend.h"
 
-#include <pthread.h>
+#include "stack.h"
 
 enum { INT = SCREEN_TYPE_INT, DAY = SCREEN_TYPE_DAY, TRUTH = SCREEN_TYPE_TRUTH };
 enum { ROWS = 1100, MARK = 0xa5 };
@@ -462,28 +462,18 @@ static void *alone(void *answer)
     return NULL;
 }
 
-static void on_thread(void *(*work)(void *), void *argument, size_t stack)
-{
-    pthread_attr_t attributes;
-    pthread_t thread;
-    if (pthread_attr_init(&attributes) != 0 || pthread_attr_setstacksize(&attributes, stack) != 0 ||
-        pthread_create(&thread, &attributes, work, argument) != 0 || pthread_join(thread, NULL) != 0)
-        abort();
-    pthread_attr_destroy(&attributes);
-}
-
 /* The deepest screens, on threads with as much stack as the header asks for. */
 static void test_deep(void)
 {
     uint32_t answer = 0;
-    on_thread(deep, NULL, (size_t)3 << 19);
+    on_stack(deep, NULL, (size_t)3 << 19);
 
     begin_mixed();
     uint32_t top = is_not_null(column(0));
     for (unsigned n = 0; n < 4094; n++)
         top = not_of(top);
     zero_chain(64);
-    on_thread(alone, &answer, 128 << 10);
+    on_stack(alone, &answer, 128 << 10);
     report(answer == SCREEN_HEDGED, "4,094 Nots", "not every row on a thread of 128 KB");
 
     begin_mixed();
@@ -493,15 +483,15 @@ static void test_deep(void)
         top = binary(SCREEN_OP_FLOOR_DIVIDE, top, divisor);
     is_not_null(top);
     zero_chain(64);
-    on_thread(alone, &answer, 512 << 10);
-    report(answer == SCREEN_HEDGED, "2,046 divisions", "not every row on a thread of 512 KB");
+    on_stack(alone, &answer, 768 << 10);
+    report(answer == SCREEN_HEDGED, "2,046 divisions", "not every row on a thread of 768 KB");
 
     begin_mixed();
     for (unsigned i = 0; i < SCREEN_MAX_POOL_VALUES; i++)
         pool_value(i);
     is_in(0, column(0), list(0, INT, 0, SCREEN_MAX_POOL_VALUES));
     zero_chain(128);
-    on_thread(alone, &answer, 384 << 10);
+    on_stack(alone, &answer, 384 << 10);
     report(answer == SCREEN_HEDGED, "the longest list", "not every row on a thread of 384 KB");
 
     begin_mixed();
@@ -513,8 +503,8 @@ static void test_deep(void)
         top = binary(SCREEN_OP_FLOOR_DIVIDE, top, divisor);
     is_in(0, top, list(0, INT, 0, SCREEN_MAX_POOL_VALUES));
     zero_chain(128);
-    on_thread(alone, &answer, 512 << 10);
-    report(answer == SCREEN_HEDGED, "2,044 divisions and the longest list", "not every row on a thread of 512 KB");
+    on_stack(alone, &answer, 1088 << 10);
+    report(answer == SCREEN_HEDGED, "2,044 divisions and the longest list", "not every row on a thread of 1,088 KB");
 }
 
 static void test_texts(void)

@@ -2,7 +2,7 @@
 #define _POSIX_C_SOURCE 200809L
 #include "lend.h"
 
-#include <pthread.h>
+#include "stack.h"
 
 enum { INT = SCREEN_TYPE_INT, DAY = SCREEN_TYPE_DAY, TRUTH = SCREEN_TYPE_TRUTH };
 enum { F = SCREEN_FALSE, U = SCREEN_UNKNOWN, T = SCREEN_TRUE };
@@ -596,12 +596,7 @@ static void *deep(void *unused)
 
 static void test_deep(void)
 {
-    pthread_attr_t attributes;
-    pthread_t thread;
-    if (pthread_attr_init(&attributes) != 0 || pthread_attr_setstacksize(&attributes, (size_t)3 << 19) != 0 ||
-        pthread_create(&thread, &attributes, deep, NULL) != 0 || pthread_join(thread, NULL) != 0)
-        abort();
-    pthread_attr_destroy(&attributes);
+    on_stack(deep, NULL, (size_t)3 << 19);
 }
 
 static void test_texts(void)

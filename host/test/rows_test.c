@@ -3,9 +3,10 @@
  * rows shown by hand, values at the ends of 64 bits, and random plain screens: the row shown passes the check and, if it is
  * whole, the row test, and none is shown exactly if rewriting says that nothing passes.
  */
+#define _POSIX_C_SOURCE 200809L
 #include "typed_lines.h"
 
-#include <pthread.h>
+#include "stack.h"
 
 enum { INT = SCREEN_TYPE_INT, DAY = SCREEN_TYPE_DAY, TRUTH = SCREEN_TYPE_TRUTH };
 enum { EQ = SCREEN_OP_EQ, NOT_EQ = SCREEN_OP_NOT_EQ, LT = SCREEN_OP_LT, LT_EQ = SCREEN_OP_LT_EQ };
@@ -1009,13 +1010,8 @@ static void *check_there(void *answer)
 
 static void on_thread(const char *name, void *(*work)(void *), size_t stack, uint32_t want)
 {
-    pthread_attr_t attributes;
-    pthread_t thread;
     uint32_t answer = 0;
-    if (pthread_attr_init(&attributes) != 0 || pthread_attr_setstacksize(&attributes, stack) != 0 ||
-        pthread_create(&thread, &attributes, work, &answer) != 0 || pthread_join(thread, NULL) != 0)
-        abort();
-    pthread_attr_destroy(&attributes);
+    on_stack(work, &answer, stack);
     report(answer == want, name, "another answer");
 }
 

@@ -100,7 +100,7 @@ answer-listed t rs p used root row nulls = go (checkAnswer t rs p used root) ref
     go : (a : CheckAnswer) → checkAnswer t rs p used root ≡ a
         → rowListed (refusedOr (refusalIf a (checkedRefusal t rs p used root))
         (rowAnswer (length t) row nulls (passes rs p used root (placesRow row nulls)))) ≡ true
-    go (check.Refused k) e = refusal-listed t rs p used root (8 ∷ 9 ∷ 17 ∷ 18 ∷ 256 ∷ 257 ∷ []) k e
+    go (check.Refused k) e = refusal-listed 0 t rs p used root (8 ∷ 9 ∷ 17 ∷ 18 ∷ 256 ∷ 257 ∷ []) k e
     go check.Accepted e =
         refused (ltb 4096 (treeCount rs root)) (ltb 128 (length (minterms (aexprAt rs p used) root)))
         (plainScreen t (aexprAt rs p used) root) _

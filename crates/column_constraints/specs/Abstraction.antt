@@ -71,9 +71,9 @@ unfoldable pub disallowedBy : List ℕ → List ℕ → List ℕ → List ℕ �
 disallowedBy kinds starts counts pool a n =
     gather (ofKind kinds 2) (λ l j. extend lined l (valuesOf starts counts pool j)) [] a n
 
--- A value of a bound with the number of the conjunct that gave it.
+-- A value of a bound with the number of the conjunct that gave it, and whose excluded value opened it.
 abbrev pub limitOf : Limit → Lined
-limitOf v = onLine (v .line) (v .value .0)
+limitOf v = record { bits = v .value .0; line = v .line; opener = v .opener }
 
 abbrev pub boundOf : Bound → b.Bound Lined
 boundOf Absent = b.absent

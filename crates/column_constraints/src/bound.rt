@@ -14,10 +14,12 @@ use truth::scalar::Ordering;
 use truth::scalar::Scalar;
 use truth::scalar::scalar_cmp;
 
-/// A value with the number of the conjunct that gave it.
+/// A value with the number of the conjunct that gave it. `opener` is 0, or one more than the number of the conjunct whose
+/// excluded value opened the bound.
 pub struct Limit {
     pub value: Scalar,
-    pub line: u64,
+    pub line: u8,
+    pub opener: u32,
 }
 
 /// `Closed` is `>=` or `<=`, `Open` is `>` or `<`.

@@ -60,7 +60,8 @@ pub fn limit_at(values: &[u64], j: u8) -> Limit
 {
     Limit {
         value: literal_at(values, j),
-        line: j as u64,
+        line: j,
+        opener: 0,
     }
 }
 

@@ -11,18 +11,28 @@ use borrow.Author.Tests.{eqb-true, eqb-false}
 use Rattle.records.proofs.Laws.{by-test}
 use Rattle.constraints.specs.declared.column.Nullability.{Nullability}
 use Rattle.constraints.specs.declared.column.Nullability.the-variants.{Unconstrained, Null, NonNull}
+use Rattle.column_constraints.specs.declared.bound.Limit.{Limit}
 use Rattle.column_constraints.specs.declared.bound.Bound.{Bound}
 use Rattle.column_constraints.specs.declared.bound.Bound.the-variants.{Absent, Open, Closed}
 use Rattle.column_constraints.specs.declared.column.ColumnConstraints.{ColumnConstraints}
 use Rattle.stages.specs.Rows.{stride, rowOf, RowsKept}
 use Rattle.column_table.specs.Words.{pastColumn, kindWord, valueWord, lineWord, nullWord, flagWord, boundFrom, nullFrom}
-use Rattle.column_table.specs.Words.{columnFrom, wordsOf, columnsTo, columnsOf}
+use Rattle.column_table.specs.Words.{columnFrom, wordsOf, columnsTo, columnsOf, limitLines, LineFits, limitFrom}
 
 -- ---- a column and its words
-bound-back : (b : Bound) → boundFrom (kindWord b) (valueWord b) (lineWord b) ≡ b
-bound-back Absent = refl
-bound-back (Open s) = refl
-bound-back (Closed s) = refl
+line-back : (l o : ℕ) → l < 256 → (l + 4294967296 * o) % 256 ≡ l
+line-back l o h = omega (arith, h)
+
+opener-back : (l o : ℕ) → l < 256 → (l + 4294967296 * o) / 4294967296 ≡ o
+opener-back l o h = omega (arith, h)
+
+limit-back : (s : Limit) → s .line < 256 → limitFrom (s .value .0) (limitLines s) ≡ s
+limit-back s h = rw (line-back (s .line) (s .opener) h, opener-back (s .line) (s .opener) h)
+
+bound-back : (b : Bound) → LineFits b → boundFrom (kindWord b) (valueWord b) (lineWord b) ≡ b
+bound-back Absent h = refl
+bound-back (Open s) h = ap Open (limit-back s h)
+bound-back (Closed s) h = ap Closed (limit-back s h)
 
 null-back : (n : Nullability) → nullFrom (nullWord n) ≡ n
 null-back Unconstrained = refl
@@ -64,9 +74,9 @@ module _ (l u n s d : ℕ) (hl : l < 4) (hu : u < 4) (hn : n < 4) (hs : s < 2) w
   small-unsat : (l + 4 * u + 16 * n + 64 * s + 128 * d) / 128 ≡ d
   small-unsat = omega (arith, hl, hu, hn, hs)
 
-pub words-back : (c : ColumnConstraints) → columnFrom (wordsOf c) ≡ c
+pub words-back : (c : ColumnConstraints) → LineFits (c .lower) × LineFits (c .upper) → columnFrom (wordsOf c) ≡ c
 unfolding columnFrom wordsOf
-words-back c =
+words-back c h =
     let l = kindWord (c .lower) in
     let u = kindWord (c .upper) in
     let n = nullWord (c .nullability) in
@@ -82,8 +92,8 @@ words-back c =
       small-null l u n s d hl hu hn hs,
       small-strict l u n s d hl hu hn hs,
       small-unsat l u n s d hl hu hn hs,
-      bound-back (c .lower),
-      bound-back (c .upper),
+      bound-back (c .lower) (h .0),
+      bound-back (c .upper) (h .1),
       flag-back (c .strict),
       null-back (c .nullability),
       flag-back (c .unsat),
@@ -123,14 +133,14 @@ columns-size ws = columns-length ws 64
 
 -- A row was written with the words of c: the table is the one before with c at its place.
 pub column-stored : (ws ws′ : List ℕ) (x : ℕ) (c : ColumnConstraints) → x < 64 → RowsKept ws ws′ x
-    → rowOf ws′ x ≡ wordsOf c → columnsOf ws′ ≡ set (columnsOf ws) x c
-column-stored ws ws′ x c h K e = ext-getD pastColumn (columnsOf ws′) (set (columnsOf ws) x c) sizes same
+    → rowOf ws′ x ≡ wordsOf c → LineFits (c .lower) × LineFits (c .upper) → columnsOf ws′ ≡ set (columnsOf ws) x c
+column-stored ws ws′ x c h K e f = ext-getD pastColumn (columnsOf ws′) (set (columnsOf ws) x c) sizes same
   where
     sizes : length (columnsOf ws′) ≡ length (set (columnsOf ws) x c)
     sizes = columns-size ws′ ∙ sym (length-set (columnsOf ws) x c ∙ columns-size ws)
 
     at-x : getD (columnsOf ws′) x pastColumn ≡ getD (set (columnsOf ws) x c) x pastColumn
-    at-x = column-loaded ws′ x h ∙ ap columnFrom e ∙ words-back c
+    at-x = column-loaded ws′ x h ∙ ap columnFrom e ∙ words-back c f
         ∙ sym (getD-set-same (columnsOf ws) x c pastColumn (rw (columns-size ws) h))
 
     same : (i : ℕ) → i < length (columnsOf ws′) → getD (columnsOf ws′) i pastColumn ≡ getD (set (columnsOf ws) x c) i pastColumn

@@ -1,7 +1,7 @@
 -- A column as seven words, and the table that a slice of 64 times seven words stands for.
 use mathlib.Core.Bool.{Bool, true, false, cond}
 use mathlib.Core.List.{List, [], _∷_, _++_}
-use Prim.Native.Nat.{ℕ, zero, suc, _+_, _*_, _/_, _%_}
+use Prim.Native.Nat.{ℕ, zero, suc, _+_, _*_, _/_, _%_, _<_}
 use lib.ListN.{getD}
 use lib.Dec.{eqb}
 use Rattle.constraints.specs.declared.column.Nullability.{Nullability}
@@ -35,10 +35,20 @@ valueWord Absent = 0
 valueWord (Open s) = s .value .0
 valueWord (Closed s) = s .value .0
 
+-- The line and the opener of a limit in one word, 32 bits each.
+abbrev pub limitLines : Limit → ℕ
+limitLines s = s .line + 4294967296 * s .opener
+
 abbrev pub lineWord : Bound → ℕ
 lineWord Absent = 0
-lineWord (Open s) = s .line
-lineWord (Closed s) = s .line
+lineWord (Open s) = limitLines s
+lineWord (Closed s) = limitLines s
+
+-- A line has 8 bits, so that it is read back from its word.
+abbrev pub LineFits : Bound → Type 0
+LineFits Absent = Unit {0}
+LineFits (Open s) = s .line < 256
+LineFits (Closed s) = s .line < 256
 
 abbrev pub nullWord : Nullability → ℕ
 nullWord Unconstrained = 0
@@ -54,7 +64,7 @@ smallWord lower upper nullability strict unsat =
     kindWord lower + 4 * kindWord upper + 16 * nullWord nullability + 64 * flagWord strict + 128 * flagWord unsat
 
 abbrev pub limitFrom : ℕ → ℕ → Limit
-limitFrom v l = record { value = record { 0 = v }; line = l }
+limitFrom v l = record { value = record { 0 = v }; line = l % 256; opener = l / 4294967296 }
 
 abbrev pub boundFrom : ℕ → ℕ → ℕ → Bound
 boundFrom k v l = cond (eqb k 0) Absent (cond (eqb k 1) (Open (limitFrom v l)) (Closed (limitFrom v l)))

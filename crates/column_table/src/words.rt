@@ -1,11 +1,11 @@
 // A column as seven words: one of small numbers (the bounds' kinds, nullability, strict, unsat), the lower bound's value, the
-// upper bound's, how many numbers, the lower bound's line, the upper bound's, the null requirement's. Seven zeros are the
-// empty column. The table is cleared for every screen, so a word less is time.
+// upper bound's, how many numbers, the lower bound's line and opener, the upper bound's, the null requirement's line. Seven
+// zeros are the empty column. The table is cleared for every screen, so a word less is time.
 ghost use mathlib.Core.Path.{_≡_};
 ghost use Prim.Native.Nat.{_<_};
 ghost use lib.ListN.{length};
-ghost use Rattle.column_table.specs.Words.{kindWord, valueWord, lineWord, nullWord, flagWord, smallWord};
-ghost use Rattle.column_table.specs.Words.{boundFrom, nullFrom, columnFrom, wordsOf};
+ghost use Rattle.column_table.specs.Words.{kindWord, valueWord, limitLines, lineWord, nullWord, flagWord, smallWord};
+ghost use Rattle.column_table.specs.Words.{boundFrom, nullFrom, columnFrom, wordsOf, LineFits};
 use column_constraints::bound::Bound;
 use column_constraints::bound::Limit;
 use column_constraints::column::ColumnConstraints;
@@ -33,22 +33,32 @@ fn bound_value(b: Bound) -> u64
     }
 }
 
+// The line in the low half of the word, the opener in the high one.
+fn limit_lines(v: Limit) -> u64
+    ensures { λ r. ⌜ r ≡ limitLines v ⌝ }
+    ensures { λ _. ⌜ v .line < 256 ⌝ }
+{
+    v.line as u64 + 4294967296 * (v.opener as u64)
+}
+
 fn bound_line(b: Bound) -> u64
     ensures { λ r. ⌜ r ≡ lineWord b ⌝ }
+    ensures { λ _. ⌜ LineFits b ⌝ }
 {
     match b {
         Bound::Absent => 0,
-        Bound::Open(v) => v.line,
-        Bound::Closed(v) => v.line,
+        Bound::Open(v) => limit_lines(v),
+        Bound::Closed(v) => limit_lines(v),
     }
 }
 
-fn bound_from(kind: u64, value: u64, line: u64) -> Bound
-    ensures { λ r. ⌜ r ≡ boundFrom kind value line ⌝ }
+fn bound_from(kind: u64, value: u64, lines: u64) -> Bound
+    ensures { λ r. ⌜ r ≡ boundFrom kind value lines ⌝ }
 {
     let limit = Limit {
         value: Scalar(value),
-        line: line,
+        line: (lines % 256) as u8,
+        opener: (lines / 4294967296) as u32,
     };
     if kind == 0 {
         return Bound::Absent;
@@ -137,6 +147,7 @@ pub fn read_words(words: &[u64]) -> ColumnConstraints
 pub fn write_words(words: &mut [u64], c: ColumnConstraints)
     requires { ⌜ length (now words) ≡ 7 ⌝ }
     ensures { λ _. ⌜ now (words .exit) ≡ wordsOf c ⌝ }
+    ensures { λ _. ⌜ LineFits (c .lower) × LineFits (c .upper) ⌝ }
 {
     let low = c.lower;
     let upp = c.upper;

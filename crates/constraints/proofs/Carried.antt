@@ -24,7 +24,7 @@ use Rattle.constraints.specs.Resolve.{resolveDeferred}
 use Rattle.constraints.specs.Comparisons.{IsLower, IsUpper, IsNotEq, collectBy}
 use Rattle.constraints.specs.Comparisons.{collectColumnComparisons}
 use Rattle.constraints.specs.Payload.{payload}
-use Rattle.constraints.specs.Lined.{Lined, onLine, lined}
+use Rattle.constraints.specs.Lined.{Lined, openedLined, lined}
 use Rattle.constraints.specs.Mapped.{mapBound, mapAllowed, mapColumn, mapConstraint, mapComparison}
 
 -- What opens a bound is taken to what opens it there.
@@ -355,7 +355,7 @@ abbrev pub lines-carry : Carries payload (λ (v : Lined). v .bits)
 unfolding payload
 lines-carry =
     record {
-      opened = λ held excluded. onLine (held .line) (excluded .bits);
+      opened = openedLined;
       opened-key = λ held excluded. refl;
       opens = λ held excluded. refl;
     }

@@ -18,7 +18,7 @@ use Rattle.constraints.specs.Column.{put, add, addAll, allowedOf, emitte
 use Rattle.constraints.specs.Resolve.{Range, classifyBy, classifyUpper, classifyAt, openAt, resolveBy}
 use Rattle.constraints.specs.Resolve.{resolveExcluded, resolveDeferred}
 use Rattle.constraints.specs.Lined.{Lined, lined}
-use Rattle.constraints.specs.LineKept.{Limit, LowerBound, UpperBound, ExcludedValue, boundValue, heldAs}
+use Rattle.constraints.specs.LineKept.{Limit, LowerBound, UpperBound, ExcludedValue, isBound, boundValue, heldAs}
 use Rattle.constraints.specs.LineKept.{OneOf}
 use Rattle.constraints.specs.LineKept.{BoundStays, ExcludedStays, PassingKeeps, EqualityIsLower}
 use Rattle.constraints.specs.LineKept.{OpeningKeepsLine, ResolvingKeepsLines}
@@ -156,15 +156,16 @@ module _ {K Val : Type 0} (S : Scalars K Val) where
     merge-held q r h k = addAll-held (recorded r) (addAll S (emitted r) q) (recorded-gives r)
         (addAll-held (emitted r) q (emitted-gives r k) h)
 
-    -- resolving, where it stays true of a bound that is opened at its own key
-    module _ (opens : (k : Limit) (w v : Val) → S .key v ≡ S .key w → P k w → P k (S .opened w v)) where
+    -- resolving, where it stays true of a bound that an excluded value opens at its own key
+    module _ (opens : (k : Limit) (w v : Val) → isBound k ≡ true → S .key v ≡ S .key w → P k w → P ExcludedValue v →
+        P k (S .opened w v)) where
       abbrev HeldRange : Range Val → Type 0
       HeldRange r = Each (P LowerBound) (boundValue (r .lower)) × Each (P UpperBound) (boundValue (r .upper)) ×
           Each (P ExcludedValue) (r .kept)
 
-      open-held : (k : Limit) (c : Bool) (w v : Val) → S .key v ≡ S .key w → Each (P k) (boundValue (at c w)) →
-          Each (P k) (boundValue (openAt S (at c w) v))
-      open-held k c w v e h = each-one (P k) (S .opened w v) (opens k w v e (h w (inl refl)))
+      open-held : (k : Limit) (c : Bool) (w v : Val) → isBound k ≡ true → S .key v ≡ S .key w → P ExcludedValue v →
+          Each (P k) (boundValue (at c w)) → Each (P k) (boundValue (openAt S (at c w) v))
+      open-held k c w v b e p h = each-one (P k) (S .opened w v) (opens k w v b e (h w (inl refl)) p)
 
       -- above the lower bound it is looked at against the upper one
       upper-held : (l u : Bound Val) (m : List Val) (x : Bool) (v : Val) → P ExcludedValue v →
@@ -179,7 +180,7 @@ module _ {K Val : Type 0} (S : Scalars K Val) where
           go : (d : Bool) {o : Ordering} → View (S .order .less) (S .key w) (S .key v) o →
               HeldRange (resolveBy S (classifyBy o d TightenUpper Keep) v (r d))
           go d (is-less p) = h
-          go true (is-equal e) = (h .0, open-held UpperBound true w v (sym e) (h .1), h .2)
+          go true (is-equal e) = (h .0, open-held UpperBound true w v refl (sym e) p (h .1), h .2)
           go false (is-equal e) = h
           go d (is-greater q) = (h .0, h .1, insert-held v m (h .2) p)
 
@@ -200,7 +201,7 @@ module _ {K Val : Type 0} (S : Scalars K Val) where
               go : (c : Bool) {o : Ordering} → View (S .order .less) (S .key v) (S .key w) o →
                   HeldRange (resolveBy S (classifyBy o c TightenLower (classifyUpper S (r .upper) v)) v (s c))
               go c (is-less q) = h
-              go true (is-equal e) = (open-held LowerBound true w v e (h .0), h .1, h .2)
+              go true (is-equal e) = (open-held LowerBound true w v refl e p (h .0), h .1, h .2)
               go false (is-equal e) = h
               go c (is-greater q) = upper-held (at c w) (r .upper) (r .kept) (r .crossed) v p h
 
@@ -234,7 +235,7 @@ opening-keeps-line c w v = refl
 pub resolving-keeps-lines : ResolvingKeepsLines
 unfolding lined
 resolving-keeps-lines q k v = held-each lined P (resolveDeferred lined q)
-    (resolve-held lined P (λ k w v e p. p) q (each-held lined P q (λ k v i. line-of v (heldAs q k) i))) k v
+    (resolve-held lined P (λ k w v b e p x. p) q (each-held lined P q (λ k v i. line-of v (heldAs q k) i))) k v
   where
     P : Limit → Lined → Type 0
     P k v = OneOf (v .line) (map (λ w. w .line) (heldAs q k))

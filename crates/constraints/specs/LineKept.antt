@@ -1,7 +1,7 @@
 -- 'The line behind a limit' (02, 2.6), of one column: a value that is held is held with its line, and each part of the
 -- sentence on lines says which value stays (as statements; proved in proofs/LineKept.antt and HoldsFirst.antt).
 use mathlib.Core.Path.{_≡_}
-use mathlib.Core.Bool.{Bool, true, _&&_}
+use mathlib.Core.Bool.{Bool, true, false, _&&_}
 use mathlib.Core.List.{List, [], _∷_, _++_, map}
 use mathlib.Core.Logic.{_⊎_}
 use mathlib.Core.Option.{some}
@@ -16,6 +16,11 @@ use Rattle.constraints.specs.Lined.{Lined, lined}
 -- What a value limits a column as.
 pub data Limit : Type 0 where
   LowerBound UpperBound ExcludedValue : Limit
+
+abbrev pub isBound : Limit → Bool
+isBound LowerBound = true
+isBound UpperBound = true
+isBound ExcludedValue = false
 
 abbrev pub boundValue : {Val : Type 0} → Bound Val → List Val
 boundValue b = ofBound (λ inclusive v. v) b

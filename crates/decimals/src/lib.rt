@@ -45,7 +45,8 @@ fn write_digits(s: &mut [u8], at: usize, end: usize, n: u64)
     s[at] = last_digit(rest);
 }
 
-fn put_byte(s: &mut [u8], at: usize, b: u8)
+/// One byte.
+pub fn put_byte(s: &mut [u8], at: usize, b: u8)
     requires { ⌜ at + 1 ≤ length (now s) ⌝ }
     ensures { λ _. ⌜ now (s .exit) ≡ splice (now (s .entry)) at (b ∷ []) ⌝ }
 {

@@ -39,6 +39,7 @@ use Rattle.stages.proofs.Answers.{chain-written, chain-unwritten}
 use Rattle.merge.specs.Lines.{mapOutcome}
 use Rattle.merge.proofs.Compared.{rebuilt-compares}
 use Rattle.merge.proofs.Carried.{carried, carried-passes}
+use Rattle.filter_constraint.specs.Concluded.{linedTo, Concluded}
 use Rattle.read_operands.proofs.Walks.{first-length}
 use Rattle.column_table.proofs.Arrays.{low-slot}
 use Rattle.stages.proofs.Chains.{chain-bytes, chain-not-empty}
@@ -82,13 +83,38 @@ outcome-by s x y ex ey =
     ap (λ b. cond b NothingPasses (cond (rewrites lined s) (rebuilt lined s) Unchanged)) ex ∙
     ap (λ b. cond x NothingPasses (cond b (rebuilt lined s) Unchanged)) ey
 
-pub conclude-stopped : (R : ℕ → AExpr ℕ) (nodes : List ℕ) (n : ℕ) (b : Bool) → b ≡ collectTo R nodes n .unsat → b ≡ true
-    → outcomeTo R nodes n ≡ NothingPasses
-conclude-stopped R nodes n b e h = outcome-is R nodes n ∙ ap withoutLines (stopped (collectTo R nodes n) (sym e ∙ h))
+-- The first nodes' outcome, with lines.
+pub lined-is : (R : ℕ → AExpr ℕ) (nodes : List ℕ) (n : ℕ) → linedTo R nodes n ≡ conclude lined (collectTo R nodes n)
+unfolding collectTo
+lined-is R nodes n = refl
+
+pub without-lines : (R : ℕ → AExpr ℕ) (nodes : List ℕ) (n : ℕ) (o : Outcome Lined) → linedTo R nodes n ≡ o →
+    outcomeTo R nodes n ≡ withoutLines o
+without-lines R nodes n o e = outcome-is R nodes n ∙ ap withoutLines (sym (lined-is R nodes n) ∙ e)
+
+stopped-lined : (R : ℕ → AExpr ℕ) (nodes : List ℕ) (n : ℕ) (b : Bool) → b ≡ collectTo R nodes n .unsat → b ≡ true
+    → linedTo R nodes n ≡ NothingPasses
+stopped-lined R nodes n b e h = lined-is R nodes n ∙ stopped (collectTo R nodes n) (sym e ∙ h)
   where
     stopped : (s : Collected Lined) → s .unsat ≡ true → conclude lined s ≡ NothingPasses
     stopped s h =
         outcome-by s true (rewrites lined s) (ap (λ b. b || anyUnsat (s .order) (resolved lined s)) h) refl
+
+pub conclude-stopped : (R : ℕ → AExpr ℕ) (nodes : List ℕ) (n : ℕ) (b : Bool) → b ≡ collectTo R nodes n .unsat → b ≡ true
+    → outcomeTo R nodes n ≡ NothingPasses
+conclude-stopped R nodes n b e h = without-lines R nodes n NothingPasses (stopped-lined R nodes n b e h)
+
+-- Reading stopped, so the slices say nothing more.
+pub concluded-stopped : (R : ℕ → AExpr ℕ) (nodes : List ℕ) (n : ℕ) (b : Bool) (T : ColumnTable) (order kept : List ℕ)
+    (columns keeps total : ℕ) → b ≡ collectTo R nodes n .unsat → b ≡ true
+    → Concluded (linedTo R nodes n) T order kept true false columns keeps total
+concluded-stopped R nodes n b T order kept columns keeps total e h =
+    record {
+      stops = λ u. stopped-lined R nodes n b e h;
+      stays = λ u. absurd (true≢false u);
+      rebuilds = λ u. absurd (true≢false u);
+      counted = λ u. absurd (true≢false u);
+    }
 
 pub passes-stopped : (R : ℕ → AExpr ℕ) (nodes : List ℕ) (n : ℕ) (b : Bool) → b ≡ collectTo R nodes n .unsat → b ≡ true
     → 0 ≡ passesTo R nodes n
@@ -172,12 +198,6 @@ module _ (t : Conjuncts) (table₁ table₂ table₃ : List ColumnConstraints) (
   resolved-count : total ≡ length (comparisons lined (s .order) (resolved lined s))
   resolved-count = Q .counted ∙ ap (λ l. length (comparisons lined l (resolved lined s))) order-is
 
-  pub total-is : total ≡ length (comparisons lined (firstOf order columns) (shown t table₃ ms₃))
-  total-is = resolved-count ∙ ap length (sym written-comparisons)
-
-  pub resolved-fine : (a : ℕ) → a < 64 → Fine (stride ms₃) (rowOf ms₃ a) (getD table₃ a pastColumn .len)
-  resolved-fine = Q .shows .fine
-
   rewrites-is : (ltb total bounds || (normalized || (emitted || dropped))) ≡ rewrites lined s
   rewrites-is =
       let n = length (comparisons lined (s .order) (resolved lined s)) in
@@ -188,35 +208,27 @@ module _ (t : Conjuncts) (table₁ table₂ table₃ : List ColumnConstraints) (
       ∙ ap (λ b. ltb n (s .boundConjuncts)
       || (s .normalized || (propagateEmitted lined (length (s .order)) (s .edges) (s .constraints) || b))) dropped-is
 
-  pub conclude-dead : unsat ≡ true → withoutLines (conclude lined s) ≡ NothingPasses
-  conclude-dead h = ap withoutLines (outcome-by s true (rewrites lined s) (sym unsat-is ∙ h) refl)
-
-  pub conclude-same : unsat ≡ false → not (ltb total bounds || (normalized || (emitted || dropped))) ≡ true
-      → withoutLines (conclude lined s) ≡ Unchanged
-  conclude-same h r =
-      ap withoutLines (outcome-by s false false (sym unsat-is ∙ h)
-      (sym rewrites-is ∙ not-true (ltb total bounds || (normalized || (emitted || dropped))) r))
-
-  pub conclude-lined : unsat ≡ false → not (ltb total bounds || (normalized || (emitted || dropped))) ≡ false
-      → conclude lined s ≡
-      Rebuilt (firstOf kept keeps) (comparisons lined (firstOf order columns) (shown t table₃ ms₃))
-  conclude-lined h r =
-      outcome-by s false true (sym unsat-is ∙ h)
-      (sym rewrites-is ∙ not-false (ltb total bounds || (normalized || (emitted || dropped))) r)
-      ∙ ap (λ l. Rebuilt l (comparisons lined (s .order) (resolved lined s))) (sym kept-are)
-      ∙ ap (Rebuilt (firstOf kept keeps)) (sym written-comparisons)
-
-  pub conclude-rebuilt : unsat ≡ false → not (ltb total bounds || (normalized || (emitted || dropped))) ≡ false
-      → withoutLines (conclude lined s) ≡
-      Rebuilt (firstOf kept keeps) (bitsOf (comparisons lined (firstOf order columns) (shown t table₃ ms₃)))
-  conclude-rebuilt h r = ap withoutLines (conclude-lined h r)
+  pub concluded : (o : Outcome Lined) → o ≡ conclude lined s →
+      Concluded o (shown t table₃ ms₃) order kept unsat (not (ltb total bounds || (normalized || (emitted || dropped))))
+      columns keeps total
+  concluded o e =
+      record {
+        stops = λ h. e ∙ outcome-by s true (rewrites lined s) (sym unsat-is ∙ h) refl;
+        stays = λ h r. e ∙ outcome-by s false false (sym unsat-is ∙ h)
+            (sym rewrites-is ∙ not-true (ltb total bounds || (normalized || (emitted || dropped))) r);
+        rebuilds = λ h r. e ∙ outcome-by s false true (sym unsat-is ∙ h)
+            (sym rewrites-is ∙ not-false (ltb total bounds || (normalized || (emitted || dropped))) r)
+            ∙ ap (λ l. Rebuilt l (comparisons lined (s .order) (resolved lined s))) (sym kept-are)
+            ∙ ap (Rebuilt (firstOf kept keeps)) (sym written-comparisons);
+        counted = λ h. resolved-count ∙ ap length (sym written-comparisons);
+      }
 
 -- A rebuilt chain has a comparison.
 pub compared-some : (R : ℕ → AExpr ℕ) (nodes : List ℕ) (n : ℕ) (ns : List ℕ) (cs : List (ℕ × ColumnComparison Lined))
-    (total : ℕ) → conclude lined (collectTo R nodes n) ≡ Rebuilt ns cs → total ≡ length cs → 0 < total
+    (total : ℕ) → linedTo R nodes n ≡ Rebuilt ns cs → total ≡ length cs → 0 < total
 compared-some R nodes n ns cs total e et =
     go (bitsOf cs) (rebuilt-compares payload R (firstOf nodes n) ns (bitsOf cs)
-    (outcome-is R nodes n ∙ ap withoutLines e)) (et ∙ sym (bits-length cs))
+    (without-lines R nodes n (Rebuilt ns cs) e)) (et ∙ sym (bits-length cs))
   where
     go : (l : List (ℕ × ColumnComparison ℕ)) → isEmpty l ≡ false → total ≡ length l → 0 < total
     go [] f q = absurd (true≢false f)

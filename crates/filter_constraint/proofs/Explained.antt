@@ -1,18 +1,19 @@
 -- What becomes of an answer where the text of its reasons has to fit.
-use mathlib.Core.Path.{_≡_, refl, sym, _∙_, ap}
+use mathlib.Core.Path.{_≡_, refl, sym, _∙_, ap, fun-ext}
 use mathlib.Core.Bool.{Bool, true, false, cond, true≢false}
-use mathlib.Core.List.{List, map}
-use Prim.Native.Nat.{ℕ, suc, _<_, _≤_}
-use lib.ListN.{length}
-use lib.Dec.{leb}
+use mathlib.Core.List.{List, [], _∷_, map}
+use Prim.Native.Nat.{ℕ, zero, suc, _<_, _≤_}
+use lib.ListN.{length, getD}
+use lib.Dec.{leb, eqb}
 use borrow.Author.Tests.{le-leb, lt-leb}
+use Rattle.symbols.specs.Symbol.{bytesFrom, symbol}
 use Rattle.truth.specs.AExpr.{AExpr}
 use Rattle.truth.specs.FromBytes.{aexprOf}
 use Rattle.constraints.specs.Comparisons.{ColumnComparison}
 use Rattle.constraints.specs.Lined.{Lined, lined}
 use Rattle.column_reasons.specs.ColumnText.{tableText}
 use Rattle.merge.specs.Emit.{Outcome, NothingPasses, Rebuilt, comparisons, conclude}
-use Rattle.merge.specs.Reasons.{reasonsOf}
+use Rattle.merge.specs.Reasons.{Bytes, asNumber, shownIn, reasonsOf}
 use Rattle.merge.specs.Rewrite.{writtenIf}
 use Rattle.merge.specs.Write.{outcomeBytes, splice}
 use Rattle.merge.specs.declared.answer.RewriteAnswer.{RewriteAnswer}
@@ -98,12 +99,23 @@ explained-kept t rs trees used o a k n z r out buffer text ea ek el ez h p w =
       ),
     )
 
+-- A pool of one zero byte shows what none does: bytes past a pool count as zero.
+one-zero : (start n : ℕ) → bytesFrom [] start n ≡ bytesFrom (0 ∷ []) start n
+unfolding bytesFrom
+one-zero start zero = refl
+one-zero zero (suc n) = ap (λ l. 0 ∷ l) (one-zero 1 n)
+one-zero (suc start) (suc n) = ap (λ l. 0 ∷ l) (one-zero (suc (suc start)) n)
+
+nothing-lent : (t : List ℕ) → shownIn t [] ≡ shownIn t (0 ∷ [])
+unfolding shownIn symbol
+nothing-lent t = fun-ext (λ c. fun-ext (λ v. ap (λ l. cond (eqb (getD t c 0) 4) (Bytes l) (asNumber c v)) (one-zero _ _)))
+
 -- The text of a rebuilt chain is that of its comparisons.
-pub rebuilt-text : (rs p nodes : List ℕ) (n : ℕ) (ns order : List ℕ) (T : ColumnTable)
+pub rebuilt-text : (t rs p nodes : List ℕ) (n : ℕ) (ns order : List ℕ) (T : ColumnTable)
     → conclude lined (collectTo (aexprOf rs p) nodes n) ≡ Rebuilt ns (comparisons lined order T)
-    → nodesText rs p nodes n ≡ tableText order T
+    → nodesText t rs p nodes n ≡ tableText (shownIn t (0 ∷ [])) order T
 unfolding nodesText tableText collectTo
-rebuilt-text rs p nodes n ns order T e = ap (λ o. reasonsText (reasonsOf o)) e
+rebuilt-text t rs p nodes n ns order T e = λ i. reasonsText (reasonsOf (nothing-lent t i) (e i))
 
 -- ---- The same of a rebuilt chain, by what `rebuild` gives.
 pub explained-rebuilt : (t rs trees : List ℕ) (used : ℕ) (o : Outcome ℕ) (a : RewriteAnswer) (k n z : ℕ) (r : Rewriting) (out : List ℕ)

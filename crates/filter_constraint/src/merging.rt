@@ -1,5 +1,4 @@
-// `merge_filter_constraints`: the stages of the merging, in their order. Each has a function of its own; the table of
-// columns is lent to all of them.
+// `merge_filter_constraints`: what the merging concludes, and what is written of it.
 ghost use mathlib.Core.Path.{_≡_};
 ghost use mathlib.Core.List.{map};
 ghost use Prim.Native.Nat.{ℕ, _<_, _≤_, _*_};
@@ -21,16 +20,14 @@ ghost use Rattle.reckoning.specs.Reckon.{reckonedAnswer};
 ghost use Rattle.stages.specs.Rows.{stride};
 ghost use Rattle.filter_constraint.specs.Explained.{nodesText};
 ghost use Rattle.filter_constraint.specs.Room.{Room};
+use crate::merged::merge_columns;
 use crate::rebuild::rebuild;
-use collect_constraints::collect::collect;
 use merge::answer::RewriteAnswer;
 use merge::answer::Rewriting;
-use propagate_equalities::propagate::propagate_equalities;
 use reckoning::reckon::nothing_passes;
-use resolve_columns::conclude::keep_equalities;
-use resolve_columns::conclude::resolve_all;
 
-fn with_passes(answer: RewriteAnswer, passes: usize, length: usize) -> Rewriting
+/// An answer with the passes made and the bytes of its text.
+pub fn with_passes(answer: RewriteAnswer, passes: usize, length: usize) -> Rewriting
     ensures { λ r. ⌜ r .answer ≡ answer ⌝ }
     ensures { λ r. ⌜ r .passes ≡ passes ⌝ }
     ensures { λ r. ⌜ r .length ≡ length ⌝ }
@@ -73,7 +70,7 @@ pub fn merge_filter_constraints(
     requires { ⌜ ((i : ℕ) → i < n → ToldConjunct (conjuncts (now kinds) (now values) (now starts) (now counts) (now p)) i
         (classify (aexprOf (now rs) (now p)) (getD (now nodes) i 0))) ⌝ }
     requires { ⌜ ((i : ℕ) → i < n → ColumnsBelow 64 (classify (aexprOf (now rs) (now p)) (getD (now nodes) i 0))) ⌝ }
-    ensures { λ r. ⌜ r .answer ≡ refuseLong (length (nodesText (now (rs .entry)) (now (p .entry)) (now (nodes .entry)) n))
+    ensures { λ r. ⌜ r .answer ≡ refuseLong (length (nodesText (now (t .entry)) (now (rs .entry)) (now (p .entry)) (now (nodes .entry)) n))
         (length (now (reasons .entry))) (reckonedAnswer (length (now (rs .entry))) (now (trees .entry)) used
         (mergeFilterConstraints payload (map (classify (aexprOf (now (rs .entry)) (now (p .entry))))
         (firstOf (now (nodes .entry)) n)))) ⌝ }
@@ -83,11 +80,12 @@ pub fn merge_filter_constraints(
     ensures { λ r. ⌜ r .passes ≡ mergePasses payload (map (classify (aexprOf (now (rs .entry)) (now (p .entry))))
         (firstOf (now (nodes .entry)) n)) ⌝ }
     ensures { λ r. ⌜ now (reasons .exit) ≡ textIf (r .answer) (now (reasons .entry))
-        (nodesText (now (rs .entry)) (now (p .entry)) (now (nodes .entry)) n) ⌝ }
-    ensures { λ r. ⌜ r .length ≡ lengthIf (r .answer) (nodesText (now (rs .entry)) (now (p .entry)) (now (nodes .entry)) n) ⌝ }
+        (nodesText (now (t .entry)) (now (rs .entry)) (now (p .entry)) (now (nodes .entry)) n) ⌝ }
+    ensures { λ r. ⌜ r .length ≡ lengthIf (r .answer)
+        (nodesText (now (t .entry)) (now (rs .entry)) (now (p .entry)) (now (nodes .entry)) n) ⌝ }
 {
     let mut cells = [0u64; 448];
-    let s = collect(
+    let m = merge_columns(
         rs,
         p,
         nodes,
@@ -96,6 +94,7 @@ pub fn merge_filter_constraints(
         values,
         starts,
         counts,
+        index,
         &mut cells,
         marks,
         order,
@@ -104,42 +103,13 @@ pub fn merge_filter_constraints(
         rights,
         equals,
     );
-    if s.unsat {
-        return with_passes(nothing_passes(rs, used), 0, 0);
-    }
-    let m = propagate_equalities(
-        index,
-        kinds,
-        values,
-        starts,
-        counts,
-        p,
-        &mut cells,
-        marks,
-        lefts,
-        rights,
-        s.edges,
-        s.columns,
-    );
-    let k = keep_equalities(&cells, lefts, equals, s.edges, kept, s.keeps);
-    let r = resolve_all(
-        index,
-        kinds,
-        values,
-        starts,
-        counts,
-        p,
-        &mut cells,
-        marks,
-        order,
-        s.columns,
-    );
-    if r.unsat {
+    if m.unsat {
         return with_passes(nothing_passes(rs, used), m.passes, 0);
     }
-    if !((r.total < s.bounds) | (s.normalized | (m.emitted | k.dropped))) {
+    if m.unchanged {
         return with_passes(RewriteAnswer::Unchanged, m.passes, 0);
     }
+    let none = [0u8; 1];
     let b = rebuild(
         t,
         rs,
@@ -150,10 +120,11 @@ pub fn merge_filter_constraints(
         &cells,
         marks,
         order,
-        s.columns,
+        m.columns,
         kept,
-        k.keeps,
-        r.total,
+        m.keeps,
+        m.total,
+        &none,
         reasons,
     );
     let answer = b.answer;

@@ -6,6 +6,7 @@ ghost use Rattle.constraints.specs.Lined.{lined};
 ghost use Rattle.column_constraints.specs.Abstraction.{Conjuncts};
 ghost use Rattle.column_reasons.specs.ColumnText.{tableText};
 ghost use Rattle.merge.specs.Emit.{Rebuilt, comparisons};
+ghost use Rattle.merge.specs.Reasons.{shownIn};
 ghost use Rattle.merge.specs.Rewrite.{writtenIf};
 ghost use Rattle.merge.specs.Write.{outcomeBytes};
 ghost use Rattle.read_operands.specs.Walk.{firstOf};
@@ -27,7 +28,8 @@ pub struct Rebuilding {
     pub length: usize,
 }
 
-/// The first `keeps` of `kept` are the kept nodes; the columns of `order` are written out as `total` comparisons.
+/// The first `keeps` of `kept` are the kept nodes; the columns of `order` are written out as `total` comparisons. `text` is the
+/// text pool, of which the reasons of Text columns show bytes.
 pub fn rebuild(
     t: &[u8],
     rs: &mut [u8],
@@ -42,6 +44,7 @@ pub fn rebuild(
     kept: &[u32],
     keeps: usize,
     total: usize,
+    text: &[u8],
     reasons: &mut [u8],
 ) -> Rebuilding
     requires { ⌜ Fits (now cells) (now marks) × (columns ≤ length (now order)) × (columns ≤ 256) × (keeps ≤ length (now kept))
@@ -50,7 +53,7 @@ pub fn rebuild(
     requires { ⌜ ((s : Conjuncts) → s .kinds ≡ now kinds → s .values ≡ now values →
         total ≡ length (comparisons lined (firstOf (now order) columns) (shown s (columnsOf (now cells)) (now marks)))) ⌝ }
     ensures { λ r. ⌜ ((s : Conjuncts) → s .kinds ≡ now (kinds .entry) → s .values ≡ now (values .entry) →
-        r .answer ≡ refuseLong (length (tableText (firstOf (now (order .entry)) columns)
+        r .answer ≡ refuseLong (length (tableText (shownIn (now (t .entry)) (now (text .entry))) (firstOf (now (order .entry)) columns)
         (shown s (columnsOf (now (cells .entry))) (now (marks .entry))))) (length (now (reasons .entry)))
         (reckoned (length (now (rs .entry))) (now (trees .entry)) used (firstOf (now (kept .entry)) keeps) total)) ⌝ }
     ensures { λ r. ⌜ ((s : Conjuncts) → s .kinds ≡ now (kinds .entry) → s .values ≡ now (values .entry) →
@@ -58,10 +61,12 @@ pub fn rebuild(
         (Rebuilt (firstOf (now (kept .entry)) keeps) (bitsOf (comparisons lined (firstOf (now (order .entry)) columns)
         (shown s (columnsOf (now (cells .entry))) (now (marks .entry)))))))) ⌝ }
     ensures { λ r. ⌜ ((s : Conjuncts) → s .kinds ≡ now (kinds .entry) → s .values ≡ now (values .entry) →
-        now (reasons .exit) ≡ textIf (r .answer) (now (reasons .entry)) (tableText (firstOf (now (order .entry)) columns)
+        now (reasons .exit) ≡ textIf (r .answer) (now (reasons .entry))
+        (tableText (shownIn (now (t .entry)) (now (text .entry))) (firstOf (now (order .entry)) columns)
         (shown s (columnsOf (now (cells .entry))) (now (marks .entry))))) ⌝ }
     ensures { λ r. ⌜ ((s : Conjuncts) → s .kinds ≡ now (kinds .entry) → s .values ≡ now (values .entry) →
-        r .length ≡ lengthIf (r .answer) (tableText (firstOf (now (order .entry)) columns)
+        r .length ≡ lengthIf (r .answer) (tableText (shownIn (now (t .entry)) (now (text .entry)))
+        (firstOf (now (order .entry)) columns)
         (shown s (columnsOf (now (cells .entry))) (now (marks .entry))))) ⌝ }
 {
     let answer = rebuilt_answer(rs.len(), trees, kept, keeps, used, total);
@@ -71,7 +76,7 @@ pub fn rebuild(
             length: 0,
         };
     }
-    let length = reasons_length(kinds, values, cells, marks, order, columns);
+    let length = reasons_length(t, kinds, values, cells, marks, order, columns);
     if reasons.len() < length {
         return Rebuilding {
             answer: RewriteAnswer::Refused(16),
@@ -80,7 +85,17 @@ pub fn rebuild(
     }
     let u = write_comparisons(t, rs, used, kinds, values, cells, marks, order, columns);
     write_ands(rs, kept, keeps, used, keeps + total, u);
-    write_reasons(reasons, kinds, values, cells, marks, order, columns);
+    write_reasons(
+        reasons,
+        t,
+        text,
+        kinds,
+        values,
+        cells,
+        marks,
+        order,
+        columns,
+    );
     Rebuilding {
         answer: answer,
         length: length,

@@ -28,8 +28,8 @@ pub enum HedgeAnswer {
     Listed(u64, u64, u64),
 }
 
-// The rows are judged. 21, or the list is written.
-fn list_rows(classes: &[u8], rows: usize, list: &mut [u8], tally: Tally) -> HedgeAnswer
+/// The rows are judged. 21, or the list is written.
+pub fn list_rows(classes: &[u8], rows: usize, list: &mut [u8], tally: Tally) -> HedgeAnswer
     requires { ⌜ rows ≤ length (now classes) ⌝ }
     requires { ⌜ rows ≤ 1024 ⌝ }
     requires { ⌜ 2 * rows ≤ length (now list) ⌝ }

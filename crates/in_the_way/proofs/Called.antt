@@ -45,7 +45,7 @@ way-listed t rs p used root = go (checkAnswer t rs p used root) refl
         (length (minterms (aexprAt rs p used) root))
 
     go : (a : CheckAnswer) → checkAnswer t rs p used root ≡ a → Ok (wayIf a (wayChecked t rs p used root))
-    go (check.Refused k) e = refusal-listed t rs p used root (8 ∷ 9 ∷ 17 ∷ 256 ∷ 257 ∷ 258 ∷ []) k e
+    go (check.Refused k) e = refusal-listed 0 t rs p used root (8 ∷ 9 ∷ 17 ∷ 256 ∷ 257 ∷ 258 ∷ []) k e
     go check.Accepted e =
         refused (ltb 4096 (treeCount rs root)) (ltb 128 (length (minterms (aexprAt rs p used) root)))
         (plainScreen t (aexprAt rs p used) root)

@@ -6,8 +6,8 @@ use Prim.Native.Nat.{ℕ, _<_}
 use lib.Dec.{ltb}
 use borrow.Author.Tests.{ltb-true}
 use Rattle.records.specs.Record.{node, recordAt}
-use Rattle.record_check.specs.Fit.{reachOk, reachOkIn}
-use Rattle.checking.specs.Checked.{Checked}
+use Rattle.record_check.specs.Fit.{reachOkIn}
+use Rattle.checking.specs.Checked.{Checked, CheckedIn}
 use Rattle.records.specs.declared.operator.Operator.{Operator}
 use Rattle.records.specs.declared.operator.Operator.the-variants as operator
 use Rattle.records.specs.declared.record.Record.{Record}
@@ -63,24 +63,29 @@ three n x y z h =
     let s = two n y z (q .1) in
     (ltb-true x n (q .0), s .0, s .1)
 
-inputs-below : (t p : List ℕ) (n : ℕ) (r : Record) → reachOk t p r (node n) ≡ true → Inputs n (toAExpr p r)
+inputs-below : (text : ℕ) (t p : List ℕ) (n : ℕ) (r : Record) → reachOkIn text t p r (node n) ≡ true →
+    Inputs n (toAExpr p r)
 unfolding reachOkIn
-inputs-below t p n kind.Invalid h = tt
-inputs-below t p n (kind.Column c) h = tt
-inputs-below t p n (kind.Literal ty v) h = tt
-inputs-below t p n (kind.Null ty) h = tt
-inputs-below t p n (kind.Binary o x y) h = binary-inputs n o (x .0) (y .0) (two n (x .0) (y .0) h)
-inputs-below t p n (kind.Not x) h = one n (x .0) h
-inputs-below t p n (kind.IsNull x) h = one n (x .0) h
-inputs-below t p n (kind.IsNotNull x) h = one n (x .0) h
-inputs-below t p n (kind.IsBetween k x low high) h = three n (x .0) (low .0) (high .0) h
-inputs-below t p n (kind.List ty marked start count) h = tt
-inputs-below t p n (kind.IsIn equal x list) h = two n (x .0) (list .0) h
+inputs-below text t p n kind.Invalid h = tt
+inputs-below text t p n (kind.Column c) h = tt
+inputs-below text t p n (kind.Literal ty v) h = tt
+inputs-below text t p n (kind.Null ty) h = tt
+inputs-below text t p n (kind.Binary o x y) h = binary-inputs n o (x .0) (y .0) (two n (x .0) (y .0) h)
+inputs-below text t p n (kind.Not x) h = one n (x .0) h
+inputs-below text t p n (kind.IsNull x) h = one n (x .0) h
+inputs-below text t p n (kind.IsNotNull x) h = one n (x .0) h
+inputs-below text t p n (kind.IsBetween k x low high) h = three n (x .0) (low .0) (high .0) h
+inputs-below text t p n (kind.List ty marked start count) h = tt
+inputs-below text t p n (kind.IsIn equal x list) h = two n (x .0) (list .0) h
 
-pub inputs-fall : (t rs p : List ℕ) (used root : ℕ) → Checked t rs p used root → WF (aexprAt rs p used)
+pub inputs-fall-in : (text : ℕ) (t rs p : List ℕ) (used root : ℕ) → CheckedIn text t rs p used root →
+    WF (aexprAt rs p used)
 unfolding aexprAt aexprOf
-inputs-fall t rs p used root ok n = go (ltb n used) refl
+inputs-fall-in text t rs p used root ok n = go (ltb n used) refl
   where
     go : (b : Bool) → ltb n used ≡ b → Inputs n (cond b (toAExpr p (recordAt rs (node n))) Missing)
-    go true e = inputs-below t p n (recordAt rs (node n)) (ok .records n (ltb-true n used e) .reach)
+    go true e = inputs-below text t p n (recordAt rs (node n)) (ok .records n (ltb-true n used e) .reach)
     go false e = tt
+
+pub inputs-fall : (t rs p : List ℕ) (used root : ℕ) → Checked t rs p used root → WF (aexprAt rs p used)
+inputs-fall t rs p used root ok = inputs-fall-in 0 t rs p used root ok

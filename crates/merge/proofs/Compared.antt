@@ -524,7 +524,7 @@ fold-root-last : (u n : ℕ) (l : List ℕ) → isEmpty l ≡ false → andRoot 
 fold-root-last u n [] f = absurd (true≢false f)
 fold-root-last u n (m ∷ l) f = and-root-last (suc u) u l (omega arith)
 
-chain-root-last : (used : ℕ) (ns : List ℕ) (cs : List (ℕ × ColumnComparison ℕ)) → isEmpty cs ≡ false →
+pub chain-root-last : (used : ℕ) (ns : List ℕ) (cs : List (ℕ × ColumnComparison ℕ)) → isEmpty cs ≡ false →
     chainRoot used ns cs < chainUsed used ns cs
 chain-root-last used ns [] h = absurd (true≢false h)
 chain-root-last used [] (x ∷ cs) h =
@@ -537,11 +537,30 @@ chain-root-last used (n ∷ ns) (x ∷ cs) h =
     (full-right ns (comparisonNodes used (x ∷ cs)) refl)
 
 -- What an answer says of its root.
-abbrev NewRoot : ℕ → ℕ → RewriteAnswer → Type 0
+abbrev pub NewRoot : ℕ → ℕ → RewriteAnswer → Type 0
 NewRoot used root (answer.Refused k) = Unit {0}
 NewRoot used root answer.Unchanged = Unit {0}
 NewRoot used root (answer.NothingPasses newRoot newUsed) = Unit {0}
 NewRoot used root (answer.Rewritten newRoot newUsed) = (root < used) × (used ≤ newRoot) × (newRoot < newUsed)
+
+-- of an outcome whose chain has a comparison
+pub outcome-new-root : (t rs : List ℕ) (used root : ℕ) → root < used → (o : Outcome ℕ) →
+    ((ns : List ℕ) (cs : List (ℕ × ColumnComparison ℕ)) → o ≡ Rebuilt ns cs → isEmpty cs ≡ false) →
+    NewRoot used root (outcomeAnswer t rs used o)
+outcome-new-root t rs used root l Unchanged full = tt
+outcome-new-root t rs used root l NothingPasses full = cut (hasRoom rs (suc used))
+  where
+    cut : (b : Bool) →
+        NewRoot used root (cond b (answer.NothingPasses used (suc used)) (answer.Refused 11))
+    cut true = tt
+    cut false = tt
+outcome-new-root t rs used root l (Rebuilt ns cs) full = cut (chainFits t rs used ns cs)
+  where
+    cut : (c : Bool) →
+        NewRoot used root
+        (cond c (answer.Rewritten (chainRoot used ns cs) (chainUsed used ns cs)) (answer.Refused 11))
+    cut true = (l, chain-root-new used ns cs (full ns cs refl), chain-root-last used ns cs (full ns cs refl))
+    cut false = tt
 
 new-root : (t rs p : List ℕ) (used root : ℕ) → NewRoot used root (rewriteAnswer t rs p used root)
 unfolding rewriteAnswer
@@ -549,25 +568,6 @@ new-root t rs p used root =
     go (checkAnswer t rs p used root) refl (ltb 4096 (treeCount rs root))
     (ltb 128 (length (minterms (aexprAt rs p used) root)))
   where
-    of : root < used → (o : Outcome ℕ) → outcomeOf rs p used root ≡ o → NewRoot used root (outcomeAnswer t rs used o)
-    of l Unchanged e = tt
-    of l NothingPasses e = cut (hasRoom rs (suc used))
-      where
-        cut : (b : Bool) →
-            NewRoot used root (cond b (answer.NothingPasses used (suc used)) (answer.Refused 11))
-        cut true = tt
-        cut false = tt
-    of l (Rebuilt ns cs) e = cut (chainFits t rs used ns cs)
-      where
-        full : isEmpty cs ≡ false
-        full = rebuilt-compares payload (aexprAt rs p used) (minterms (aexprAt rs p used) root) ns cs e
-
-        cut : (c : Bool) →
-            NewRoot used root
-            (cond c (answer.Rewritten (chainRoot used ns cs) (chainUsed used ns cs)) (answer.Refused 11))
-        cut true = (l, chain-root-new used ns cs full, chain-root-last used ns cs full)
-        cut false = tt
-
     go : (c : CheckAnswer) → checkAnswer t rs p used root ≡ c → (b d : Bool) →
         NewRoot used root (rewriteIf c (cond b (answer.Refused 8) (cond d (answer.Refused 9)
         (outcomeAnswer t rs used (outcomeOf rs p used root)))))
@@ -575,7 +575,8 @@ new-root t rs p used root =
     go check.Accepted e true d = tt
     go check.Accepted e false true = tt
     go check.Accepted e false false =
-        of (checked t rs p used root e .root-used) (outcomeOf rs p used root) refl
+        outcome-new-root t rs used root (checked t rs p used root e .root-used) (outcomeOf rs p used root)
+        (rebuilt-compares payload (aexprAt rs p used) (minterms (aexprAt rs p used) root))
 
 -- a rewritten screen never has the old root
 pub rewritten-root-is-new : RewrittenRootIsNew

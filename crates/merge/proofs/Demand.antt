@@ -47,10 +47,10 @@ use Rattle.constraints.specs.Comparisons.{ColumnComparison}
 use Rattle.merge.specs.Emit.{mergeFilterConstraints, Outcome, Unchanged, NothingPasses, Rebuilt}
 use Rattle.merge.specs.Plain.{readsColumn, isNumberColumn, readsOnlyNumbers, plainConjuncts, plainScreen}
 use Rattle.merge.specs.Plain.{reachesDivision}
-use Rattle.merge.specs.Rebuild.{comparisonNodes, comparisonsEnd, foldUsed}
-use Rattle.merge.specs.Write.{writeComparisons, outcomeBytes}
+use Rattle.merge.specs.Rebuild.{comparisonNodes}
+use Rattle.merge.specs.Write.{outcomeBytes}
 use Rattle.merge.specs.Rewrite.{outcomeOf, chainNodes, chainRoot, chainUsed, hasRoom, chainFits, outcomeAnswer}
-use Rattle.merge.specs.Rewrite.{rewriteChecked, rewriteIf, rewriteAnswer, writtenIf, rewriteBytes}
+use Rattle.merge.specs.Rewrite.{rewriteIf, rewriteAnswer, writtenIf, rewriteBytes}
 use Rattle.merge.specs.Demand as demand
 use Rattle.merge.proofs.Passes.{eqb-path, eqb-self}
 use Rattle.merge.proofs.Chains.{Below}
@@ -62,11 +62,10 @@ use Rattle.merge.proofs.Whole.{is-true, outcome, Keeps, outcome-keeps}
 use Rattle.merge.proofs.Rebuilding.{Built, nodes-below}
 use Rattle.merge.proofs.Returned.{returned, NotEmpty, AnswerLt, answer-lt, same-passes}
 use Rattle.merge.proofs.Typed.{Row, Numeric, OneOfTwo, nothing-found-typed}
-use Rattle.merge.proofs.Literals.{OutcomeP, WrittenP}
-use Rattle.merge.proofs.Fitting.{AExprP, Both, both-opens, outcome-p}
+use Rattle.merge.proofs.Literals.{ConjunctsP, OutcomeP, WrittenP}
+use Rattle.merge.proofs.Fitting.{AExprP, Both, both-opens, apart-p, outcome-p}
 use Rattle.merge.proofs.Written.{Word, Holds, holds-put}
-use Rattle.merge.proofs.RebuiltBytes.{Long, Fit, literalRecord, literal-back, literal-words, comparisons-hold}
-use Rattle.merge.proofs.RebuiltBytes.{fold-holds, fold-end}
+use Rattle.merge.proofs.RebuiltBytes.{Long, Fit, literalRecord, literal-words, bits-read, same-read, chain-holds}
 use Rattle.merge.proofs.Compared.{full-right, nodes-full, rebuilt-compares}
 use Rattle.merge.proofs.Accepted.{binary-ind, inputs-fall}
 
@@ -126,7 +125,7 @@ word-small : (rs : List ℕ) (j : ℕ) → demand.AreBytes rs → word rs j < 42
 unfolding word
 word-small rs j h = omega (arith, h j, h (j + 1), h (j + 2), h (j + 3))
 
-abbrev opens : (w e : ℕ) → Long w → Long e → Long (payload .opened w e)
+abbrev pub opens : (w e : ℕ) → Long w → Long e → Long (payload .opened w e)
 opens w e h k = k
 
 abbrev Fits : AExpr ℕ → Type 0
@@ -168,9 +167,77 @@ record-fits rs p used h n = go (ltb n used)
         (word-small rs (16 * n + 12) h)
     go false = tt
 
-fit-of : (cs : List (ℕ × ColumnComparison ℕ)) → WrittenP payload (Both payload Long opens Word) (both-opens payload Long opens Word) cs → Fit cs
+-- so do the columns and values of the conjuncts
+pub conjuncts-fit : (rs p : List ℕ) (used root : ℕ) → demand.AreBytes rs →
+    ConjunctsP payload (Both payload Long opens Word) (both-opens payload Long opens Word)
+    (readConjuncts (aexprAt rs p used) root)
+conjuncts-fit rs p used root h = apart-p payload Long opens Word (aexprAt rs p used) (record-fits rs p used h) root
+
+pub fit-of : (cs : List (ℕ × ColumnComparison ℕ)) → WrittenP payload (Both payload Long opens Word) (both-opens payload Long opens Word) cs → Fit cs
 fit-of [] h = tt
 fit-of (x ∷ l) h = (h .0, fit-of l (h .1))
+
+-- ---- What an answer says of an outcome, where nothing is refused.
+module _ (t rs : List ℕ) (used root : ℕ) where
+  -- Refusal 11 was not given; nothing is written for an unchanged screen.
+  abbrev pub Roomy : Outcome ℕ → Type 0
+  Roomy Unchanged = Unit {0}
+  Roomy NothingPasses = (suc used ≤ 4096) × (16 * suc used ≤ length rs)
+  Roomy (Rebuilt ns cs) = (chainUsed used ns cs ≤ 4096) × (16 * chainUsed used ns cs ≤ length rs)
+
+  abbrev pub outcomeRoot : Outcome ℕ → ℕ
+  outcomeRoot Unchanged = root
+  outcomeRoot NothingPasses = used
+  outcomeRoot (Rebuilt ns cs) = chainRoot used ns cs
+
+  abbrev pub outcomeUsed : Outcome ℕ → ℕ
+  outcomeUsed Unchanged = used
+  outcomeUsed NothingPasses = suc used
+  outcomeUsed (Rebuilt ns cs) = chainUsed used ns cs
+
+  pub record Exit (o : Outcome ℕ) (a : RewriteAnswer) : Type 0 where
+    pub written : writtenIf a rs (outcomeBytes t rs used o) ≡ outcomeBytes t rs used o
+    pub newRoot : rootAfter a root ≡ outcomeRoot o
+    pub newUsed : usedAfter a used ≡ outcomeUsed o
+    pub roomy : Roomy o
+    pub nothing : demand.isNothing a ≡ isNothingPasses payload halves o
+
+  pub room-of : (u : ℕ) → hasRoom rs u ≡ true → (u ≤ 4096) × (16 * u ≤ length rs)
+  room-of u h =
+      let b = and-yes (leb u 4096) (leb u (length rs / 16)) h in
+      let l : u ≤ 4096 = leb-true u 4096 (b .0) in
+      let m : u ≤ length rs / 16 = leb-true u (length rs / 16) (b .1) in
+      (l, omega arith)
+
+  pub exit-of : (o : Outcome ℕ) → demand.isRefused (outcomeAnswer t rs used o) ≡ false →
+      Exit o (outcomeAnswer t rs used o)
+  exit-of Unchanged h = record { written = refl; newRoot = refl; newUsed = refl; roomy = tt; nothing = refl }
+  exit-of NothingPasses h = go (hasRoom rs (suc used)) refl h
+    where
+      go :
+          (b : Bool) → hasRoom rs (suc used) ≡ b →
+          demand.isRefused (cond b (answer.NothingPasses used (suc used)) (answer.Refused 11)) ≡ false →
+          Exit NothingPasses (cond b (answer.NothingPasses used (suc used)) (answer.Refused 11))
+      go true e h =
+          record { written = refl; newRoot = refl; newUsed = refl; roomy = room-of (suc used) e; nothing = refl }
+      go false e h = absurd (true≢false h)
+  exit-of (Rebuilt ns cs) h = go (chainFits t rs used ns cs) refl h
+    where
+      a : Bool → RewriteAnswer
+      a c = cond c (answer.Rewritten (chainRoot used ns cs) (chainUsed used ns cs)) (answer.Refused 11)
+
+      go :
+          (c : Bool) → chainFits t rs used ns cs ≡ c →
+          demand.isRefused (a c) ≡ false → Exit (Rebuilt ns cs) (a c)
+      go true f h =
+          record {
+            written = refl;
+            newRoot = refl;
+            newUsed = refl;
+            roomy = room-of (chainUsed used ns cs) (and-yes (hasRoom rs (chainUsed used ns cs)) _ f .0);
+            nothing = refl;
+          }
+      go false f h = absurd (true≢false h)
 
 -- ---- An accepted screen.
 module _ (t rs p : List ℕ) (used root : ℕ) (bytes : demand.AreBytes rs) (ok : Checked t rs p used root) where
@@ -183,12 +250,6 @@ module _ (t rs p : List ℕ) (used root : ℕ) (bytes : demand.AreBytes rs) (ok 
   abbrev pub back : Outcome ℕ → Built ℕ
   back o = returned payload halves truthKeys 0 refl R good used root o
 
-  -- Refusal 11 was not given; nothing is written for an unchanged screen.
-  abbrev pub Roomy : Outcome ℕ → Type 0
-  Roomy Unchanged = Unit {0}
-  Roomy NothingPasses = (suc used ≤ 4096) × (16 * suc used ≤ length rs)
-  Roomy (Rebuilt ns cs) = (chainUsed used ns cs ≤ 4096) × (16 * chainUsed used ns cs ≤ length rs)
-
   abbrev Fitting : Outcome ℕ → Type 0
   Fitting Unchanged = Unit {0}
   Fitting NothingPasses = Unit {0}
@@ -199,75 +260,46 @@ module _ (t rs p : List ℕ) (used root : ℕ) (bytes : demand.AreBytes rs) (ok 
     pub written : writtenIf a rs (outcomeBytes t rs used o) ≡ outcomeBytes t rs used o
     pub newRoot : rootAfter a root ≡ back o .root
     pub newUsed : usedAfter a used ≡ back o .used
-    pub roomy : Roomy o
+    pub roomy : Roomy t rs used root o
     pub full : NotEmpty payload halves truthKeys 0 refl R good used o
     pub nothing : demand.isNothing a ≡ isNothingPasses payload halves o
 
-  pub room-of : (u : ℕ) → hasRoom rs u ≡ true → (u ≤ 4096) × (16 * u ≤ length rs)
-  room-of u h =
-      let b = and-yes (leb u 4096) (leb u (length rs / 16)) h in
-      let l : u ≤ 4096 = leb-true u 4096 (b .0) in
-      let m : u ≤ length rs / 16 = leb-true u (length rs / 16) (b .1) in
-      (l, omega arith)
+  root-back : (o : Outcome ℕ) → outcomeRoot t rs used root o ≡ back o .root
+  root-back Unchanged = refl
+  root-back NothingPasses = refl
+  root-back (Rebuilt ns cs) = refl
+
+  used-back : (o : Outcome ℕ) → outcomeUsed t rs used root o ≡ back o .used
+  used-back Unchanged = refl
+  used-back NothingPasses = refl
+  used-back (Rebuilt ns cs) = refl
 
   told : (o : Outcome ℕ) → NotEmpty payload halves truthKeys 0 refl R good used o
       → demand.isRefused (outcomeAnswer t rs used o) ≡ false → Told o (outcomeAnswer t rs used o)
-  told Unchanged e h = record { written = refl; newRoot = refl; newUsed = refl; roomy = tt; full = tt; nothing = refl }
-  told NothingPasses e h = go (hasRoom rs (suc used)) refl h
-    where
-      go :
-          (b : Bool) → hasRoom rs (suc used) ≡ b →
-          demand.isRefused (cond b (answer.NothingPasses used (suc used)) (answer.Refused 11)) ≡ false →
-          Told NothingPasses (cond b (answer.NothingPasses used (suc used)) (answer.Refused 11))
-      go true e h =
-          record {
-            written = refl;
-            newRoot = refl;
-            newUsed = refl;
-            roomy = room-of (suc used) e;
-            full = tt;
-            nothing =
-                refl;
-          }
-      go false e h = absurd (true≢false h)
-  told (Rebuilt ns cs) e h = go (chainFits t rs used ns cs) refl h
-    where
-      a : Bool → RewriteAnswer
-      a c = cond c (answer.Rewritten (chainRoot used ns cs) (chainUsed used ns cs)) (answer.Refused 11)
-
-      go :
-          (c : Bool) → chainFits t rs used ns cs ≡ c →
-          demand.isRefused (a c) ≡ false → Told (Rebuilt ns cs) (a c)
-      go true f h =
-          record {
-            written = refl;
-            newRoot = refl;
-            newUsed = refl;
-            roomy = room-of (chainUsed used ns cs) (and-yes (hasRoom rs (chainUsed used ns cs)) _ f .0);
-            full = e;
-            nothing = refl;
-          }
-      go false f h = absurd (true≢false h)
+  told o e h =
+      let x = exit-of t rs used root o h in
+      record {
+        written = x .written;
+        newRoot = x .newRoot ∙ root-back o;
+        newUsed = x .newUsed ∙ used-back o;
+        roomy = x .roomy;
+        full = e;
+        nothing = x .nothing;
+      }
 
   -- The bytes at exit hold the records of the screen returned.
   out-holds :
-      (o : Outcome ℕ) → AnswerLt payload used o → Roomy o → Fitting o →
+      (o : Outcome ℕ) → AnswerLt payload used o → Roomy t rs used root o → Fitting o →
       Holds (outcomeBytes t rs used o) p (back o .used) (back o .records)
+  unfolding aexprAt aexprOf
   out-holds Unchanged b room f n = refl
   out-holds NothingPasses b room f n =
       let k : 16 * suc used ≤ length rs = room .1 in
-      holds-put rs p used (literalRecord 3 0) R (Literal 0) (omega arith) (literal-words 3 0 (omega arith))
-      (literal-back p 3 0) (λ n. refl) n
+      holds-put (toAExpr p) rs used (literalRecord 3 0) R (Literal 0) (omega arith) (literal-words 3 0 (omega arith)) refl
+      (λ n. refl) n
   out-holds (Rebuilt ns cs) b room f n =
-      let few : chainUsed used ns cs ≤ 4096 = room .0 in
-      let big : 16 * chainUsed used ns cs ≤ length rs = room .1 in
-      let e : comparisonsEnd used cs ≤ chainUsed used ns cs =
-      fold-end (chainNodes used ns cs) (comparisonsEnd used cs)
-      in
-      let c = comparisons-hold t p cs rs used R (omega arith) (omega arith) f (λ n. refl) in
-      fold-holds p (chainNodes used ns cs) (writeComparisons t used cs rs) (comparisonsEnd used cs) _ (rw (c .0) big)
-      few
-      (nodes-below payload truthKeys (λ c. none) used ns cs b) (c .1) .1 n
+      chain-holds (toAExpr p) (bits-read p) t rs used ns cs cs (same-read p t cs) R (room .1) (room .0) f
+      (nodes-below payload truthKeys (λ c. none) used ns cs b) (λ n. refl) n
 
   fitting : (o : Outcome ℕ) → OutcomeP payload (Both payload Long opens Word) (both-opens payload Long opens Word) o →
       Fitting o
@@ -401,32 +433,26 @@ module _ (t rs p : List ℕ) (used root : ℕ) (bytes : demand.AreBytes rs) (ok 
         )
 
 -- ---- From the answer to the screen.
+-- What is not refused was accepted by checking, with a tree within 4,096 records and conjuncts within 128.
+pub settled-by :
+    (c : CheckAnswer) (b d : Bool) (x : RewriteAnswer) →
+    demand.isRefused (rewriteIf c (cond b (answer.Refused 8) (cond d (answer.Refused 9) x))) ≡ false →
+    (c ≡ check.Accepted) × (b ≡ false)
+    × (rewriteIf c (cond b (answer.Refused 8) (cond d (answer.Refused 9) x)) ≡ x)
+settled-by (check.Refused k) b d x h = absurd (true≢false h)
+settled-by check.Accepted true d x h = absurd (true≢false h)
+settled-by check.Accepted false true x h = absurd (true≢false h)
+settled-by check.Accepted false false x h = (refl, refl, refl)
+
 pub settled :
     (t rs p : List ℕ) (used root : ℕ) → demand.AcceptedScreen t rs p used root →
     (checkAnswer t rs p used root ≡ check.Accepted)
     × (rewriteAnswer t rs p used root ≡ outcomeAnswer t rs used (merged rs p used root))
 unfolding rewriteAnswer
 settled t rs p used root h =
-    let r = go (checkAnswer t rs p used root) h in
-    (r .0, r .1 ∙ ap (outcomeAnswer t rs used) (merged-is rs p used root))
-  where
-    x : RewriteAnswer
-    x = outcomeAnswer t rs used (outcomeOf rs p used root)
-
-    many : Bool → Bool → RewriteAnswer
-    many b c = cond b (answer.Refused 8) (cond c (answer.Refused 9) x)
-
-    inner : (b c : Bool) → demand.isRefused (many b c) ≡ false → many b c ≡ x
-    inner true c h = absurd (true≢false h)
-    inner false true h = absurd (true≢false h)
-    inner false false h = refl
-
-    go :
-        (c : CheckAnswer) → demand.isRefused (rewriteIf c (rewriteChecked t rs p used root)) ≡ false →
-        (c ≡ check.Accepted) × (rewriteIf c (rewriteChecked t rs p used root) ≡ x)
-    go (check.Refused k) h = absurd (true≢false h)
-    go check.Accepted h =
-        (refl, inner (ltb 4096 (treeCount rs root)) (ltb 128 (length (minterms (aexprAt rs p used) root))) h)
+    let r = settled-by (checkAnswer t rs p used root) (ltb 4096 (treeCount rs root))
+    (ltb 128 (length (minterms (aexprAt rs p used) root))) (outcomeAnswer t rs used (outcomeOf rs p used root)) h in
+    (r .0, r .2 ∙ ap (outcomeAnswer t rs used) (merged-is rs p used root))
 
 -- Demand 3 (01, 'Statements and samples').
 pub demand-3 : demand.Demand3Holds

@@ -1,25 +1,25 @@
--- Records that have no fault, written behind used records that have none.
+-- Records that have no fault, written behind used records that have none; text is what is lent beside the pool.
 use mathlib.Core.Path.{_≡_, refl, sym, _∙_, ap, subst}
-use mathlib.Core.Bool.{true, false, not, true≢false}
+use mathlib.Core.Bool.{Bool, true, false, cond, not, true≢false}
 use mathlib.Core.List.{List, [], _∷_}
 use Prim.Native.Nat.{ℕ, suc, _+_, _*_, _/_, _%_, _≤_, _<_}
 use native.Mathlib.Omega.{arith}
-use lib.Dec.{ltb, leb}
+use lib.Dec.{eqb, ltb, leb}
 use lib.ListN.{length, getD}
 use borrow.Author.Tests.{lt-ltb, eq-eqb, ltb-true, ltb-false, leb-true}
 use Rattle.records.specs.Bytes.{all}
 use Rattle.records.specs.Record.{node, fieldsAt, decode, recordAt, encode}
-use Rattle.records.specs.Shape.{knownType, knownTypeIn, inType, inTypeIn, maxCode, uses, knownOkIn, zeroOr, unusedOk}
-use Rattle.records.specs.Shape.{literalOkIn, shapeOk, shapeOkIn}
+use Rattle.records.specs.Shape.{knownTypeIn, inTypeIn, maxCode, uses, knownOkIn, zeroOr, unusedOk}
+use Rattle.records.specs.Shape.{literalOkIn, shapeOkIn}
 use Rattle.records.specs.declared.record.Node.{Node}
 use Rattle.records.specs.declared.record.Record.{Record}
 use Rattle.records.specs.declared.record.Record.the-variants as kind
 use Rattle.records.proofs.Laws.{and-left, and-right, by-test}
 use Rattle.records.proofs.Loops.{all-holds}
 use Rattle.records.proofs.RoundTrips.{decode-encode}
-use Rattle.record_check.specs.Fit.{reachOk, reachOkIn, servedOk, typeOf, typeAt, sameType, binaryFits, typesOk}
-use Rattle.checking.specs.Check.{typesKnown, typesKnownIn, tableOk, tableOkIn}
-use Rattle.checking.specs.Checked.{CheckedRecord}
+use Rattle.record_check.specs.Fit.{reachOkIn, servedOk, typeOf, typeAt, sameType, binaryFits, typesOk}
+use Rattle.checking.specs.Check.{typesKnownIn, tableOkIn}
+use Rattle.checking.specs.Checked.{CheckedRecordIn}
 use Rattle.truth.specs.Comparison.{Comparison, Eq, NotEq, Lt, LtEq, Gt, GtEq}
 use Rattle.constraints.specs.Comparisons.{ColumnComparison}
 use Rattle.constraints.specs.Payload.{payload}
@@ -38,20 +38,20 @@ use Rattle.merge.proofs.Types.{InColumn, opens}
 use Rattle.merge.proofs.Written.{Words, length-write, fields-new, fields-old}
 
 -- The records below u have no fault.
-abbrev pub AllChecked : List ℕ → List ℕ → List ℕ → ℕ → Type 0
-AllChecked t rs p u = (n : ℕ) → n < u → CheckedRecord t rs p n
+abbrev pub AllChecked : ℕ → List ℕ → List ℕ → List ℕ → ℕ → Type 0
+AllChecked text t rs p u = (n : ℕ) → n < u → CheckedRecordIn text t rs p n
 
 -- The records below u are the same.
 abbrev pub SameBelow : List ℕ → List ℕ → ℕ → Type 0
 SameBelow rs out u = (n : ℕ) → n < u → recordAt out (node n) ≡ recordAt rs (node n)
 
 -- ---- A record asks only of the records below it.
-module _ (t rs out p : List ℕ) (n : ℕ) (same : SameBelow rs out n) where
+module _ (text : ℕ) (t rs out p : List ℕ) (n : ℕ) (same : SameBelow rs out n) where
   type-same : (x : Node) → x .0 < n → typeAt t out x ≡ typeAt t rs x
   unfolding typeAt
   type-same x h = ap (typeOf t) (same (x .0) h)
 
-  types-same : (r : Record) → reachOk t p r (node n) ≡ true → typesOk t out r ≡ typesOk t rs r
+  types-same : (r : Record) → reachOkIn text t p r (node n) ≡ true → typesOk t out r ≡ typesOk t rs r
   unfolding reachOkIn typesOk
   types-same kind.Invalid h = refl
   types-same (kind.Column c) h = refl
@@ -71,30 +71,30 @@ module _ (t rs out p : List ℕ) (n : ℕ) (same : SameBelow rs out n) where
 
 -- Record u has no fault if the record r that it decodes to has none over the records below u.
 checked-as :
-    (t rs out p : List ℕ) (n : ℕ) (r : Record) → SameBelow rs out n → recordAt out (node n) ≡ r →
-    shapeOk (fieldsAt out (node n)) ≡ true → reachOk t p r (node n) ≡ true → servedOk r ≡ true →
-    typesOk t rs r ≡ true → CheckedRecord t out p n
-checked-as t rs out p n r same e shape reach served types =
+    (text : ℕ) (t rs out p : List ℕ) (n : ℕ) (r : Record) → SameBelow rs out n → recordAt out (node n) ≡ r →
+    shapeOkIn text (fieldsAt out (node n)) ≡ true → reachOkIn text t p r (node n) ≡ true → servedOk r ≡ true →
+    typesOk t rs r ≡ true → CheckedRecordIn text t out p n
+checked-as text t rs out p n r same e shape reach served types =
     record {
       shape = shape;
-      reach = ap (λ q. reachOk t p q (node n)) e ∙ reach;
+      reach = ap (λ q. reachOkIn text t p q (node n)) e ∙ reach;
       served = ap servedOk e ∙ served;
-      types = ap (typesOk t out) e ∙ types-same t rs out p n same r reach ∙ types;
+      types = ap (typesOk t out) e ∙ types-same text t rs out p n same r reach ∙ types;
     }
 
 -- ---- From rs to out, faultless records were written from u on and below end.
-pub record Extends (t rs out p : List ℕ) (u end : ℕ) : Type 0 where
+pub record Extends (text : ℕ) (t rs out p : List ℕ) (u end : ℕ) : Type 0 where
   pub lent : length out ≡ length rs
   pub same : SameBelow rs out u
-  pub all : AllChecked t out p end
+  pub all : AllChecked text t out p end
 
-extends-none : (t rs p : List ℕ) (u : ℕ) → AllChecked t rs p u → Extends t rs rs p u u
-extends-none t rs p u h = record { lent = refl; same = λ n k. refl; all = h }
+extends-none : (text : ℕ) (t rs p : List ℕ) (u : ℕ) → AllChecked text t rs p u → Extends text t rs rs p u u
+extends-none text t rs p u h = record { lent = refl; same = λ n k. refl; all = h }
 
 pub extends-then :
-    (t rs mid out p : List ℕ) (u m end : ℕ) → u ≤ m → Extends t rs mid p u m → Extends t mid out p m end →
-    Extends t rs out p u end
-extends-then t rs mid out p u m end l a b =
+    (text : ℕ) (t rs mid out p : List ℕ) (u m end : ℕ) → u ≤ m → Extends text t rs mid p u m → Extends text t mid out p m end →
+    Extends text t rs out p u end
+extends-then text t rs mid out p u m end l a b =
     record {
       lent = b .lent ∙ a .lent;
       same = λ n h. b .same n (omega arith) ∙ a .same n h;
@@ -102,10 +102,10 @@ extends-then t rs mid out p u m end l a b =
     }
 
 -- What is asked of a record r that is to be written at u.
-pub record New (t rs p : List ℕ) (u : ℕ) (r : Record) : Type 0 where
+pub record New (text : ℕ) (t rs p : List ℕ) (u : ℕ) (r : Record) : Type 0 where
   pub words : Words (encode r)
-  pub shape : shapeOk (encode r) ≡ true
-  pub reach : reachOk t p r (node u) ≡ true
+  pub shape : shapeOkIn text (encode r) ≡ true
+  pub reach : reachOkIn text t p r (node u) ≡ true
   pub served : servedOk r ≡ true
   pub types : typesOk t rs r ≡ true
 
@@ -127,9 +127,9 @@ module _ (t rs p : List ℕ) (u : ℕ) (r : Record) (room : 16 * u + 16 ≤ leng
   put-type = ap (typeOf t) put-is
 
 pub put-extends :
-    (t rs p : List ℕ) (u : ℕ) (r : Record) → 16 * u + 16 ≤ length rs → AllChecked t rs p u → New t rs p u r →
-    Extends t rs (writeRecord rs u r) p u (suc u)
-put-extends t rs p u r room h new =
+    (text : ℕ) (t rs p : List ℕ) (u : ℕ) (r : Record) → 16 * u + 16 ≤ length rs → AllChecked text t rs p u → New text t rs p u r →
+    Extends text t rs (writeRecord rs u r) p u (suc u)
+put-extends text t rs p u r room h new =
     record {
       lent = length-write rs u r room;
       same = put-same t rs p u r room (new .words);
@@ -142,25 +142,25 @@ put-extends t rs p u r room h new =
     same : SameBelow rs o u
     same = put-same t rs p u r room (new .words)
 
-    old : (n : ℕ) → n < u → CheckedRecord t o p n
+    old : (n : ℕ) → n < u → CheckedRecordIn text t o p n
     old n l =
         let k = h n l in
-        checked-as t rs o p n (recordAt rs (node n)) (λ m i. same m (omega arith)) (same n l)
-        (ap shapeOk (fields-old rs u (encode r) room n l) ∙ k .shape) (k .reach) (k .served) (k .types)
+        checked-as text t rs o p n (recordAt rs (node n)) (λ m i. same m (omega arith)) (same n l)
+        (ap (shapeOkIn text) (fields-old rs u (encode r) room n l) ∙ k .shape) (k .reach) (k .served) (k .types)
 
-    here : CheckedRecord t o p u
+    here : CheckedRecordIn text t o p u
     here =
-        checked-as t rs o p u r same (put-is t rs p u r room (new .words))
-        (ap shapeOk (fields-new rs u (encode r) room (new .words)) ∙ new .shape) (new .reach) (new .served)
+        checked-as text t rs o p u r same (put-is t rs p u r room (new .words))
+        (ap (shapeOkIn text) (fields-new rs u (encode r) room (new .words)) ∙ new .shape) (new .reach) (new .served)
         (new .types)
 
-    last : (n : ℕ) → n < suc u → u ≤ n → CheckedRecord t o p n
-    last n k l = let e : u ≡ n = omega arith in subst (λ m. CheckedRecord t o p m) e here
+    last : (n : ℕ) → n < suc u → u ≤ n → CheckedRecordIn text t o p n
+    last n k l = let e : u ≡ n = omega arith in subst (λ m. CheckedRecordIn text t o p m) e here
 
 -- ---- The four records that a rebuilt chain writes.
-column-new : (t rs p : List ℕ) (u c : ℕ) → c < length t → c < 4294967296 → New t rs p u (columnRecord c)
+column-new : (text : ℕ) (t rs p : List ℕ) (u c : ℕ) → c < length t → c < 4294967296 → New text t rs p u (columnRecord c)
 unfolding encode shapeOkIn knownOkIn unusedOk literalOkIn maxCode zeroOr uses reachOkIn servedOk typesOk
-column-new t rs p u c h w =
+column-new text t rs p u c h w =
     record {
       words = column-words c w;
       shape = refl;
@@ -170,10 +170,10 @@ column-new t rs p u c h w =
     }
 
 literal-new :
-    (t rs p : List ℕ) (u ty v : ℕ) → knownType ty ≡ true → inType ty v ≡ true → v < 18446744073709551616 →
-    New t rs p u (literalRecord ty v)
+    (text : ℕ) (t rs p : List ℕ) (u ty v : ℕ) → knownTypeIn text ty ≡ true → inTypeIn text ty v ≡ true → v < 18446744073709551616 →
+    New text t rs p u (literalRecord ty v)
 unfolding encode shapeOkIn knownOkIn unusedOk literalOkIn maxCode zeroOr uses reachOkIn servedOk typesOk
-literal-new t rs p u ty v known h w =
+literal-new text t rs p u ty v known h w =
     let e : v % 4294967296 + 4294967296 * (v / 4294967296) ≡ v = omega arith in
     record {
       words = literal-words ty v w;
@@ -184,17 +184,17 @@ literal-new t rs p u ty v known h w =
     }
 
 -- a type that is known is over 0
-over-zero : (ty : ℕ) → knownType ty ≡ true → ltb 0 ty ≡ true
+over-zero : (text ty : ℕ) → knownTypeIn text ty ≡ true → ltb 0 ty ≡ true
 unfolding knownTypeIn
-over-zero ty h = let l : 1 ≤ ty = leb-true 1 ty (and-left _ _ h) in lt-ltb 0 ty (omega arith)
+over-zero text ty h = let l : 1 ≤ ty = leb-true 1 ty (and-left _ _ h) in lt-ltb 0 ty (omega arith)
 
 comparison-new :
-    (t rs p : List ℕ) (u : ℕ) (o : Comparison) (x y ty : ℕ) → x < u → y < u → u < 4294967296 →
-    knownType ty ≡ true → typeAt t rs (node x) ≡ ty → typeAt t rs (node y) ≡ ty →
-    New t rs p u (comparisonRecord o x y)
+    (text : ℕ) (t rs p : List ℕ) (u : ℕ) (o : Comparison) (x y ty : ℕ) → x < u → y < u → u < 4294967296 →
+    knownTypeIn text ty ≡ true → typeAt t rs (node x) ≡ ty → typeAt t rs (node y) ≡ ty →
+    New text t rs p u (comparisonRecord o x y)
 unfolding encode shapeOkIn knownOkIn unusedOk literalOkIn maxCode zeroOr uses reachOkIn servedOk typesOk
     binaryFits sameType
-comparison-new t rs p u o x y ty i j small known a b =
+comparison-new text t rs p u o x y ty i j small known a b =
     record {
       words = comparison-words o x y (omega arith) (omega arith);
       shape = shape-of o;
@@ -203,7 +203,7 @@ comparison-new t rs p u o x y ty i j small known a b =
       types = types-of o;
     }
   where
-    shape-of : (o : Comparison) → shapeOk (encode (comparisonRecord o x y)) ≡ true
+    shape-of : (o : Comparison) → shapeOkIn text (encode (comparisonRecord o x y)) ≡ true
     shape-of Eq = refl
     shape-of NotEq = refl
     shape-of Lt = refl
@@ -211,7 +211,7 @@ comparison-new t rs p u o x y ty i j small known a b =
     shape-of Gt = refl
     shape-of GtEq = refl
 
-    reach-of : reachOk t p (comparisonRecord o x y) (node u) ≡ true
+    reach-of : reachOkIn text t p (comparisonRecord o x y) (node u) ≡ true
     reach-of = rw (lt-ltb x u i, lt-ltb y u j)
 
     served-of : (o : Comparison) → servedOk (comparisonRecord o x y) ≡ true
@@ -223,7 +223,7 @@ comparison-new t rs p u o x y ty i j small known a b =
     served-of GtEq = refl
 
     one-type : sameType (typeAt t rs (node x)) (typeAt t rs (node y)) ≡ true
-    one-type = rw (a, b, over-zero ty known, eq-eqb ty ty refl)
+    one-type = rw (a, b, over-zero text ty known, eq-eqb ty ty refl)
 
     types-of : (o : Comparison) → typesOk t rs (comparisonRecord o x y) ≡ true
     types-of Eq = one-type
@@ -234,11 +234,11 @@ comparison-new t rs p u o x y ty i j small known a b =
     types-of GtEq = one-type
 
 and-new :
-    (t rs p : List ℕ) (u x y : ℕ) → x < u → y < u → u < 4294967296 → typeAt t rs (node x) ≡ 3 →
-    typeAt t rs (node y) ≡ 3 → New t rs p u (andRecord x y)
+    (text : ℕ) (t rs p : List ℕ) (u x y : ℕ) → x < u → y < u → u < 4294967296 → typeAt t rs (node x) ≡ 3 →
+    typeAt t rs (node y) ≡ 3 → New text t rs p u (andRecord x y)
 unfolding encode shapeOkIn knownOkIn unusedOk literalOkIn maxCode zeroOr uses reachOkIn servedOk typesOk
     binaryFits
-and-new t rs p u x y i j small a b =
+and-new text t rs p u x y i j small a b =
     record {
       words = and-words x y (omega arith) (omega arith);
       shape = refl;
@@ -252,10 +252,10 @@ abbrev pub TruthBelow : List ℕ → List ℕ → ℕ → ℕ → Type 0
 TruthBelow t rs u n = (n < u) × (typeAt t rs (node n) ≡ 3)
 
 pub truth-kept :
-    (t rs out p : List ℕ) (u end : ℕ) → u ≤ end → Extends t rs out p u end → (n : ℕ) → TruthBelow t rs u n →
+    (text : ℕ) (t rs out p : List ℕ) (u end : ℕ) → u ≤ end → Extends text t rs out p u end → (n : ℕ) → TruthBelow t rs u n →
     TruthBelow t out end n
-truth-kept t rs out p u end l x n h =
-    let k : n < u = h .0 in (omega arith, type-same t rs out p u (x .same) (node n) k ∙ h .1)
+truth-kept text t rs out p u end l x n h =
+    let k : n < u = h .0 in (omega arith, type-same text t rs out p u (x .same) (node n) k ∙ h .1)
 
 -- ---- A comparison: column, literal, binary record.
 -- The literal is of its column's type.
@@ -271,22 +271,22 @@ comparison-truth t LtEq x y = refl
 comparison-truth t Gt x y = refl
 comparison-truth t GtEq x y = refl
 
-module _ (t p : List ℕ) (table : tableOk t ≡ true) where
-  known : (c : ℕ) → c < length t → knownType (getD t c 0) ≡ true
+module _ (text : ℕ) (t p : List ℕ) (table : tableOkIn text t ≡ true) where
+  known : (c : ℕ) → c < length t → knownTypeIn text (getD t c 0) ≡ true
   unfolding tableOkIn typesKnownIn
   known c h =
-      all-holds (λ (k : ℕ). knownType (getD t k 0)) c (length t) h (and-right (leb (length t) 64) _ table)
+      all-holds (λ (k : ℕ). knownTypeIn text (getD t k 0)) c (length t) h (and-right (leb (length t) 64) _ table)
 
   comparison-extends :
       (rs : List ℕ) (u : ℕ) (x : ℕ × ColumnComparison ℕ) → 16 * u + 48 ≤ length rs → suc (suc u) < 4294967296 →
-      x .0 < 4294967296 → valueOf (x .1) < 18446744073709551616 → InColumn t (x .0) (valueOf (x .1)) →
-      AllChecked t rs p u →
-      Extends t rs (writeComparison t u x rs) p u (suc (suc (suc u)))
+      x .0 < 4294967296 → valueOf (x .1) < 18446744073709551616 → InColumn text t (x .0) (valueOf (x .1)) →
+      AllChecked text t rs p u →
+      Extends text t rs (writeComparison t u x rs) p u (suc (suc (suc u)))
       × TruthBelow t (writeComparison t u x rs) (suc (suc (suc u))) (suc (suc u))
   unfolding typeOf
   comparison-extends rs u x room small wc wv typed h = (
-    extends-then t rs rs2 (writeComparison t u x rs) p u (suc (suc u)) (suc (suc (suc u))) (omega arith)
-        (extends-then t rs rs1 rs2 p u (suc u) (suc (suc u)) (omega arith) x1 x2) x3,
+    extends-then text t rs rs2 (writeComparison t u x rs) p u (suc (suc u)) (suc (suc (suc u))) (omega arith)
+        (extends-then text t rs rs1 rs2 p u (suc u) (suc (suc u)) (omega arith) x1 x2) x3,
     (omega arith, three-truth),
   )
     where
@@ -314,44 +314,44 @@ module _ (t p : List ℕ) (table : tableOk t ≡ true) where
       rs2 : List ℕ
       rs2 = writeRecord rs1 (suc u) (literalRecord lt v)
 
-      new1 : New t rs p u (columnRecord c)
-      new1 = column-new t rs p u c (typed .0) wc
+      new1 : New text t rs p u (columnRecord c)
+      new1 = column-new text t rs p u c (typed .0) wc
 
       room1 : 16 * u + 16 ≤ length rs
       room1 = omega arith
 
-      x1 : Extends t rs rs1 p u (suc u)
-      x1 = put-extends t rs p u (columnRecord c) room1 h new1
+      x1 : Extends text t rs rs1 p u (suc u)
+      x1 = put-extends text t rs p u (columnRecord c) room1 h new1
 
-      new2 : New t rs1 p (suc u) (literalRecord lt v)
+      new2 : New text t rs1 p (suc u) (literalRecord lt v)
       new2 =
-          literal-new t rs1 p (suc u) lt v (subst (λ s. knownType s ≡ true) is (known c (typed .0)))
-          (subst (λ s. inType s v ≡ true) is (typed .1)) wv
+          literal-new text t rs1 p (suc u) lt v (subst (λ s. knownTypeIn text s ≡ true) is (known c (typed .0)))
+          (subst (λ s. inTypeIn text s v ≡ true) is (typed .1)) wv
 
       room2 : 16 * suc u + 16 ≤ length rs1
       room2 = rw (x1 .lent) (omega arith)
 
-      x2 : Extends t rs1 rs2 p (suc u) (suc (suc u))
-      x2 = put-extends t rs1 p (suc u) (literalRecord lt v) room2 (x1 .all) new2
+      x2 : Extends text t rs1 rs2 p (suc u) (suc (suc u))
+      x2 = put-extends text t rs1 p (suc u) (literalRecord lt v) room2 (x1 .all) new2
 
       column-type : typeAt t rs2 (node u) ≡ ty
       column-type =
-          type-same t rs1 rs2 p (suc u) (x2 .same) (node u) (omega arith)
+          type-same text t rs1 rs2 p (suc u) (x2 .same) (node u) (omega arith)
           ∙ put-type t rs p u (columnRecord c) room1 (new1 .words)
 
       literal-type : typeAt t rs2 (node (suc u)) ≡ ty
       literal-type = put-type t rs1 p (suc u) (literalRecord lt v) room2 (new2 .words) ∙ sym is
 
-      new3 : New t rs2 p (suc (suc u)) (comparisonRecord o u (suc u))
+      new3 : New text t rs2 p (suc (suc u)) (comparisonRecord o u (suc u))
       new3 =
-          comparison-new t rs2 p (suc (suc u)) o u (suc u) ty (omega arith) (omega arith) small (known c (typed .0))
+          comparison-new text t rs2 p (suc (suc u)) o u (suc u) ty (omega arith) (omega arith) small (known c (typed .0))
           column-type literal-type
 
       room3 : 16 * suc (suc u) + 16 ≤ length rs2
       room3 = rw (x2 .lent, x1 .lent) (omega arith)
 
-      x3 : Extends t rs2 (writeComparison t u x rs) p (suc (suc u)) (suc (suc (suc u)))
-      x3 = put-extends t rs2 p (suc (suc u)) (comparisonRecord o u (suc u)) room3 (x2 .all) new3
+      x3 : Extends text t rs2 (writeComparison t u x rs) p (suc (suc u)) (suc (suc (suc u)))
+      x3 = put-extends text t rs2 p (suc (suc u)) (comparisonRecord o u (suc u)) room3 (x2 .all) new3
 
       three-truth : typeAt t (writeComparison t u x rs) (node (suc (suc u))) ≡ 3
       three-truth =
@@ -361,43 +361,43 @@ module _ (t p : List ℕ) (table : tableOk t ≡ true) where
   -- all of them, and their nodes are Truths
   pub comparisons-extend :
       (l : List (ℕ × ColumnComparison ℕ)) (rs : List ℕ) (u : ℕ) → 16 * comparisonsEnd u l ≤ length rs →
-      comparisonsEnd u l ≤ 4096 → Fit l → WrittenP payload (InColumn t) (opens t) l → AllChecked t rs p u →
-      Extends t rs (writeComparisons t u l rs) p u (comparisonsEnd u l)
+      comparisonsEnd u l ≤ 4096 → Fit l → WrittenP payload (InColumn text t) (opens text t) l → AllChecked text t rs p u →
+      Extends text t rs (writeComparisons t u l rs) p u (comparisonsEnd u l)
       × Every (TruthBelow t (writeComparisons t u l rs) (comparisonsEnd u l)) (comparisonNodes u l)
-  comparisons-extend [] rs u room few f w h = (extends-none t rs p u h, tt)
+  comparisons-extend [] rs u room few f w h = (extends-none text t rs p u h, tt)
   comparisons-extend (x ∷ l) rs u room few f w h =
       let k : suc (suc (suc u)) ≤ comparisonsEnd (suc (suc (suc u))) l = comparisons-end l (suc (suc (suc u))) in
       let a = comparison-extends rs u x (omega arith) (omega arith) (f .0 .0) (f .0 .1) (w .0) h in
       let b = comparisons-extend l (writeComparison t u x rs) (suc (suc (suc u))) (rw (a .0 .lent) room) few (f .1)
       (w .1) (a .0 .all) in (
-        extends-then t rs (writeComparison t u x rs) (writeComparisons t u (x ∷ l) rs) p u (suc (suc (suc u)))
+        extends-then text t rs (writeComparison t u x rs) (writeComparisons t u (x ∷ l) rs) p u (suc (suc (suc u)))
             (comparisonsEnd u (x ∷ l)) (omega arith) (a .0) (b .0),
         (
-          truth-kept t (writeComparison t u x rs) (writeComparisons t u (x ∷ l) rs) p (suc (suc (suc u)))
+          truth-kept text t (writeComparison t u x rs) (writeComparisons t u (x ∷ l) rs) p (suc (suc (suc u)))
               (comparisonsEnd u (x ∷ l)) k (b .0) (suc (suc u)) (a .1),
           b .1,
         ),
       )
 
 -- ---- The Ands: their root is a Truth, and used.
-module _ (t p : List ℕ) where
+module _ (text : ℕ) (t p : List ℕ) where
   ands-extend :
       (l : List ℕ) (rs : List ℕ) (u acc : ℕ) → 16 * andsEnd u l ≤ length rs → andsEnd u l ≤ 4096 →
-      TruthBelow t rs u acc → Every (TruthBelow t rs u) l → AllChecked t rs p u →
-      Extends t rs (writeAnds u acc l rs) p u (andsEnd u l)
+      TruthBelow t rs u acc → Every (TruthBelow t rs u) l → AllChecked text t rs p u →
+      Extends text t rs (writeAnds u acc l rs) p u (andsEnd u l)
       × TruthBelow t (writeAnds u acc l rs) (andsEnd u l) (andRoot u acc l)
   unfolding typeOf
-  ands-extend [] rs u acc room few a b h = (extends-none t rs p u h, a)
+  ands-extend [] rs u acc room few a b h = (extends-none text t rs p u h, a)
   ands-extend (n ∷ l) rs u acc room few a b h =
       let k : suc u ≤ andsEnd (suc u) l = ands-end l (suc u) in
       let r : 16 * u + 16 ≤ length rs = omega arith in
-      let new = and-new t rs p u acc n (a .0) (b .0 .0) (omega arith) (a .1) (b .0 .1) in
-      let x = put-extends t rs p u (andRecord acc n) r h new in
+      let new = and-new text t rs p u acc n (a .0) (b .0 .0) (omega arith) (a .1) (b .0 .1) in
+      let x = put-extends text t rs p u (andRecord acc n) r h new in
       let y = ands-extend l (writeRecord rs u (andRecord acc n)) (suc u) u (rw (x .lent) room) few
       (omega arith, and-truth rs u acc n r (new .words))
       (every-map (TruthBelow t rs u) (TruthBelow t (writeRecord rs u (andRecord acc n)) (suc u))
-      (truth-kept t rs (writeRecord rs u (andRecord acc n)) p u (suc u) (omega arith) x) l (b .1)) (x .all) in (
-        extends-then t rs (writeRecord rs u (andRecord acc n)) (writeAnds u acc (n ∷ l) rs) p u (suc u)
+      (truth-kept text t rs (writeRecord rs u (andRecord acc n)) p u (suc u) (omega arith) x) l (b .1)) (x .all) in (
+        extends-then text t rs (writeRecord rs u (andRecord acc n)) (writeAnds u acc (n ∷ l) rs) p u (suc u)
             (andsEnd u (n ∷ l)) (omega arith) x (y .0),
         y .1,
       )
@@ -409,13 +409,21 @@ module _ (t p : List ℕ) where
 
   pub fold-extends :
       (l : List ℕ) (rs : List ℕ) (u : ℕ) → isEmpty l ≡ false → 16 * foldUsed u l ≤ length rs →
-      foldUsed u l ≤ 4096 → Every (TruthBelow t rs u) l → AllChecked t rs p u →
-      Extends t rs (foldBytes u rs l) p u (foldUsed u l)
+      foldUsed u l ≤ 4096 → Every (TruthBelow t rs u) l → AllChecked text t rs p u →
+      Extends text t rs (foldBytes u rs l) p u (foldUsed u l)
       × TruthBelow t (foldBytes u rs l) (foldUsed u l) (foldRoot u l)
   fold-extends [] rs u full room few b h = absurd (true≢false full)
   fold-extends (n ∷ l) rs u full room few b h = ands-extend l rs u n room few (b .0) (b .1) h
 
 -- The false literal of "nothing passes".
-pub false-new : (t rs p : List ℕ) (u : ℕ) → New t rs p u (literalRecord 3 0)
+pub false-new : (text : ℕ) (t rs p : List ℕ) (u : ℕ) → New text t rs p u (literalRecord 3 0)
 unfolding knownTypeIn inTypeIn
-false-new t rs p u = literal-new t rs p u 3 0 refl refl (omega arith)
+false-new text t rs p u = literal-new text t rs p u 3 0 (known (eqb text 0)) (typed (eqb text 0)) (omega arith)
+  where
+    known : (b : Bool) → leb 3 (cond b 3 4) ≡ true
+    known true = refl
+    known false = refl
+
+    typed : (b : Bool) → cond b true true ≡ true
+    typed true = refl
+    typed false = refl

@@ -133,8 +133,11 @@ module _ {K Val : Type 0} (S : Scalars K Val) (P : ℕ → Val → Type 0)
         lines-p l,
       )
 
+      pub conjuncts-p : (root : ℕ) → ConjunctsP S P opens (readConjuncts R root)
+      conjuncts-p root = lines-p (minterms R root)
+
       pub records-p : (root : ℕ) → OutcomeP S P opens (mergeFilterConstraints S (readConjuncts R root))
-      records-p root = merge-p S P opens (readConjuncts R root) (lines-p (minterms R root))
+      records-p root = merge-p S P opens (readConjuncts R root) (conjuncts-p root)
 
 -- ---- What is asked of columns and of literals apart.
 module _ {K Val : Type 0} (S : Scalars K Val) (P : Val → Type 0) (opens : (w e : Val) → P w → P e → P (S .opened w e))
@@ -213,5 +216,8 @@ module _ {K Val : Type 0} (S : Scalars K Val) (P : Val → Type 0) (opens : (w e
     both-record (IsIn e x y) = tt
     both-record Missing = tt
 
+    pub apart-p : (root : ℕ) → ConjunctsP S Both both-opens (readConjuncts R root)
+    apart-p root = conjuncts-p S Both both-opens R (λ n. both-record (R n)) root
+
     pub outcome-p : (root : ℕ) → OutcomeP S Both both-opens (mergeFilterConstraints S (readConjuncts R root))
-    outcome-p root = records-p S Both both-opens R (λ n. both-record (R n)) root
+    outcome-p root = merge-p S Both both-opens (readConjuncts R root) (apart-p root)

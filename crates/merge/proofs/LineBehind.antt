@@ -25,7 +25,7 @@ use Rattle.constraints.specs.Comparisons.{collectColumnComparisons}
 use Rattle.constraints.specs.Payload.{payload}
 use Rattle.constraints.specs.Lined.{Lined, onLine, lined}
 use Rattle.constraints.specs.Mapped.{mapConstraint}
-use Rattle.constraints.specs.LineKept.{Limit, LowerBound, UpperBound, ExcludedValue, OneOf, boundValue, heldAs, givenAs}
+use Rattle.constraints.specs.LineKept.{Limit, LowerBound, UpperBound, ExcludedValue, isBound, OneOf, boundValue, heldAs, givenAs}
 use Rattle.constraints.proofs.LineKept.{Each, each-append, each-one, each-map, Held, empty-held, Gives, add-held}
 use Rattle.constraints.proofs.LineKept.{addAll-held, merge-held, resolve-held, equality-is-lower}
 use Rattle.merge.specs.Classify.{Conjunct, Bounds, Normalized, Equality, Recorded, NonNullPair, Opaque, classify}
@@ -38,7 +38,7 @@ use Rattle.merge.specs.Emit.{resolved, rewrites, rebuilt, mergeFilterCon
 use Rattle.merge.specs.Rebuild.{comparisonOf, valueOf}
 use Rattle.merge.specs.Lines.{mapConjunct, linesFrom}
 use Rattle.merge.specs.Passes.{equalities}
-use Rattle.merge.specs.Reasons.{Reason, reasonOf, reasonsOf, EqualityNamesLower}
+use Rattle.merge.specs.Reasons.{Whole, Reason, asNumber, reasonOf, reasonsOf, EqualityNamesLower}
 use Rattle.merge.specs.LineBehind.{Joined, itself, equal, back, on, boundsOf, GivenBy, limitOf, ReasonsGiven}
 use Rattle.merge.proofs.Passes.{edge-ind}
 use Rattle.merge.proofs.Sound.{upd-ind}
@@ -171,14 +171,14 @@ module _ {K Val : Type 0} (S : Scalars K Val) (P : ℕ → Limit → Val → Typ
   comparisons-held (c ∷ cs) t h = each-append Written (ofColumn c (collectColumnComparisons S (t c)))
       (comparisons S cs t) (column-held c (t c) (h c)) (comparisons-held cs t h)
 
-  -- and of an outcome, where it stays true of a bound that is opened at its own key
+  -- and of an outcome, where it stays true of a bound that an excluded value opens at its own key
   abbrev pub writtenOf : Outcome Val → List (ℕ × ColumnComparison Val)
   writtenOf Unchanged = []
   writtenOf NothingPasses = []
   writtenOf (Rebuilt ns cs) = cs
 
-  pub merge-tells : ((c : ℕ) (k : Limit) (w v : Val) → S .key v ≡ S .key w → P c k w → P c k (S .opened w v)) →
-      (l : List (Conjunct Val)) → Each Tells l → Each Written (writtenOf (mergeFilterConstraints S l))
+  pub merge-tells : ((c : ℕ) (k : Limit) (w v : Val) → isBound k ≡ true → S .key v ≡ S .key w → P c k w →
+      P c ExcludedValue v → P c k (S .opened w v)) → (l : List (Conjunct Val)) → Each Tells l → Each Written (writtenOf (mergeFilterConstraints S l))
   merge-tells opens l g = go (s .unsat || anyUnsat (s .order) (resolved S s)) (rewrites S s)
     where
       s : Collected Val
@@ -199,7 +199,8 @@ module _ {K Val : Type 0} (S : Scalars K Val) (P : ℕ → Limit → Val → Typ
 -- ---- of lines
 -- an equality names the lower bound
 pub equality-names-lower : EqualityNamesLower
-equality-names-lower c q = each-map Q reasonOf (ofColumn c (collectColumnComparisons lined q)) (λ x i e. line (q .lower) (valueOf (x .1))
+equality-names-lower shows c q = each-map Q (reasonOf shows) (ofColumn c (collectColumnComparisons lined q))
+    (λ x i e. line (q .lower) (valueOf (x .1))
     (subst (λ o. OneOf (valueOf (x .1)) (heldAs q (limitOf o))) e (column-held lined P c q held x i)))
   where
     P : ℕ → Limit → Lined → Type 0
@@ -249,13 +250,13 @@ in-equalities (x ∷ l) (suc i) a b n e = later x (in-equalities l i a b n e)
 
 module _ (l : List (Conjunct ℕ)) where
   abbrev Given : ℕ → Limit → Lined → Type 0
-  Given c k v = GivenBy l c k (toZ w64 (v .bits)) (v .line)
+  Given c k v = GivenBy l c k (Whole (toZ w64 (v .bits))) (v .line)
 
-  opened-given : (c : ℕ) (k : Limit) (w v : Lined) → lined .key v ≡ lined .key w → Given c k w →
-      Given c k (lined .opened w v)
+  opened-given : (c : ℕ) (k : Limit) (w v : Lined) → isBound k ≡ true → lined .key v ≡ lined .key w → Given c k w →
+      Given c ExcludedValue v → Given c k (lined .opened w v)
   unfolding lined
-  opened-given c k w v e p =
-      subst (λ z. GivenBy l c k z (w .line)) (sym (twice-same (toZ w64 (v .bits)) (toZ w64 (w .bits)) e)) p
+  opened-given c k w v b e p x =
+      subst (λ z. GivenBy l c k (Whole z) (w .line)) (sym (twice-same (toZ w64 (v .bits)) (toZ w64 (w .bits)) e)) p
 
   join : (a b : ℕ) (k : Limit) (v : Lined) → Joined (equalities l) a b → Given a k v → Given b k v
   join a b k v j p =
@@ -344,13 +345,13 @@ module _ (l : List (Conjunct ℕ)) where
   abbrev GivenReason : Reason → Type 0
   GivenReason r = GivenBy l (r .column) (limitOf (r .operator)) (r .value) (r .line)
 
-  reasons : (o : Outcome Lined) → Each (Written lined Given) (writtenOf lined Given o) → Each GivenReason (reasonsOf o)
+  reasons : (o : Outcome Lined) → Each (Written lined Given) (writtenOf lined Given o) → Each GivenReason (reasonsOf asNumber o)
   reasons Unchanged h = λ x i. absurd i
   reasons NothingPasses h = λ x i. absurd i
-  reasons (Rebuilt ns cs) h = each-map GivenReason reasonOf cs h
+  reasons (Rebuilt ns cs) h = each-map GivenReason (reasonOf asNumber) cs h
 
   pub lines-given : ((i : ℕ) (x : Conjunct ℕ) → getElem? l i ≡ some x → AsRead payload x) →
-      Each GivenReason (reasonsOf (mergeFilterConstraints lined (linesFrom 0 l)))
+      Each GivenReason (reasonsOf asNumber (mergeFilterConstraints lined (linesFrom 0 l)))
   lines-given r = reasons (mergeFilterConstraints lined (linesFrom 0 l))
       (merge-tells lined Given opened-given (linesFrom 0 l) (each-line 0 l (λ j x e.
       let h : j ≡ 0 + j = omega arith in

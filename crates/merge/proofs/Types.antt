@@ -1,5 +1,5 @@
 -- Types in an accepted screen: its conjuncts are Truths, and every value that the outcome writes is a value of the type
--- of the column beside it.
+-- of the column beside it. text is what is lent beside the pool.
 use mathlib.Core.Path.{_≡_, refl, sym, _∙_, subst}
 use mathlib.Core.Bool.{Bool, true, false, cond, not, _&&_, and-eq-true-iff}
 use mathlib.Core.List.{List}
@@ -10,25 +10,25 @@ use lib.ListN.{length, getD}
 use borrow.Author.Tests.{ltb-true, lt-ltb, eqb-true}
 use Rattle.records.specs.Operator.{isComparison, isDivision}
 use Rattle.records.specs.Record.{node, fieldsAt, decode, recordAt}
-use Rattle.records.specs.Shape.{inType, knownOkIn, unusedOk, literalOkIn, shapeOk, shapeOkIn}
+use Rattle.records.specs.Shape.{inTypeIn, knownOkIn, unusedOk, literalOkIn, shapeOkIn}
 use Rattle.records.specs.declared.operator.Operator.{Operator}
 use Rattle.records.specs.declared.record.Fields.{Fields}
 use Rattle.records.specs.declared.record.Record.{Record}
 use Rattle.records.specs.declared.record.Record.the-variants as kind
-use Rattle.record_check.specs.Fit.{reachOk, reachOkIn, typeOf, typeAt, sameType, binaryFits, betweenFits, typesOk}
-use Rattle.checking.specs.Checked.{Checked}
+use Rattle.record_check.specs.Fit.{reachOkIn, typeOf, typeAt, sameType, binaryFits, betweenFits, typesOk}
+use Rattle.checking.specs.Checked.{Checked, CheckedIn}
 use Rattle.truth.specs.AExpr.{AExpr, Missing}
 use Rattle.truth.specs.FromBytes.{toAExpr, valuesFrom, aexprOf, aexprAt, truthKeys}
 use Rattle.constraints.specs.Comparisons.{ColumnComparison}
 use Rattle.constraints.specs.Payload.{payload}
 use Rattle.merge.specs.Minterms.{andSides, minterms}
-use Rattle.merge.specs.Classify.{Operand, AColumn, ALiteral, AList, Other, operand}
+use Rattle.merge.specs.Classify.{Operand, AColumn, ALiteral, AList, Other, operand, readConjuncts}
 use Rattle.merge.specs.Emit.{Rebuilt}
 use Rattle.merge.specs.Rewrite.{outcomeOf}
-use Rattle.merge.proofs.Accepted.{binary-ind, inputs-fall, two, three}
+use Rattle.merge.proofs.Accepted.{binary-ind, inputs-fall, inputs-fall-in, two, three}
 use Rattle.merge.proofs.Chains.{Every, Sides, sides-binary, minterms-have}
-use Rattle.merge.proofs.Fitting.{Together, At, RecordP, records-p, record-binary}
-use Rattle.merge.proofs.Literals.{WrittenP, OutcomeP}
+use Rattle.merge.proofs.Fitting.{Together, At, RecordP, conjuncts-p, record-binary}
+use Rattle.merge.proofs.Literals.{ConjunctsP, WrittenP, OutcomeP, merge-p}
 use Rattle.merge.proofs.Returned.{KeptHave, kept-have}
 use Rattle.merge.proofs.Demand as demand
 
@@ -36,43 +36,43 @@ both : (a b : Bool) → (a && b) ≡ true → (a ≡ true) × (b ≡ true)
 both a b h = and-eq-true-iff a b .0 h
 
 -- ---- A literal without the fault 4 is a value of its type.
-abbrev LiteralT : Record → Type 0
-LiteralT kind.Invalid = Unit {0}
-LiteralT (kind.Column c) = Unit {0}
-LiteralT (kind.Literal ty v) = inType ty v ≡ true
-LiteralT (kind.Null ty) = Unit {0}
-LiteralT (kind.Binary o x y) = Unit {0}
-LiteralT (kind.Not x) = Unit {0}
-LiteralT (kind.IsNull x) = Unit {0}
-LiteralT (kind.IsNotNull x) = Unit {0}
-LiteralT (kind.IsBetween k x low high) = Unit {0}
-LiteralT (kind.List ty marked start count) = Unit {0}
-LiteralT (kind.IsIn equal x list) = Unit {0}
+abbrev LiteralT : ℕ → Record → Type 0
+LiteralT text kind.Invalid = Unit {0}
+LiteralT text (kind.Column c) = Unit {0}
+LiteralT text (kind.Literal ty v) = inTypeIn text ty v ≡ true
+LiteralT text (kind.Null ty) = Unit {0}
+LiteralT text (kind.Binary o x y) = Unit {0}
+LiteralT text (kind.Not x) = Unit {0}
+LiteralT text (kind.IsNull x) = Unit {0}
+LiteralT text (kind.IsNotNull x) = Unit {0}
+LiteralT text (kind.IsBetween k x low high) = Unit {0}
+LiteralT text (kind.List ty marked start count) = Unit {0}
+LiteralT text (kind.IsIn equal x list) = Unit {0}
 
-pick : (b : Bool) (x y : Record) → (b ≡ true → LiteralT x) → LiteralT y → LiteralT (cond b x y)
-pick true x y h k = h refl
-pick false x y h k = k
+pick : (text : ℕ) (b : Bool) (x y : Record) → (b ≡ true → LiteralT text x) → LiteralT text y → LiteralT text (cond b x y)
+pick text true x y h k = h refl
+pick text false x y h k = k
 
-literal-typed : (f : Fields) → shapeOk f ≡ true → LiteralT (decode f)
+literal-typed : (text : ℕ) (f : Fields) → shapeOkIn text f ≡ true → LiteralT text (decode f)
 unfolding shapeOkIn literalOkIn decode
-literal-typed f h =
-    let l = both (unusedOk f) (literalOkIn 0 f) (both (knownOkIn 0 f) (unusedOk f && literalOkIn 0 f) h .1) .1 in
-    pick (eqb (f .kind) 1) _ _ (λ e. tt)
-    (pick (eqb (f .kind) 2) _ _ (λ e. rw e at l)
-    (pick (eqb (f .kind) 3) _ _ (λ e. tt)
-    (pick (eqb (f .kind) 4) _ _ (λ e. tt)
-    (pick (eqb (f .kind) 5) _ _ (λ e. tt)
-    (pick (eqb (f .kind) 6) _ _ (λ e. tt)
-    (pick (eqb (f .kind) 7) _ _ (λ e. tt)
-    (pick (eqb (f .kind) 8) _ _ (λ e. tt)
-    (pick (eqb (f .kind) 9) _ _ (λ e. tt)
-    (pick (eqb (f .kind) 10) _ _ (λ e. tt) tt)))))))))
+literal-typed text f h =
+    let l = both (unusedOk f) (literalOkIn text f) (both (knownOkIn text f) (unusedOk f && literalOkIn text f) h .1) .1 in
+    pick text (eqb (f .kind) 1) _ _ (λ e. tt)
+    (pick text (eqb (f .kind) 2) _ _ (λ e. rw e at l)
+    (pick text (eqb (f .kind) 3) _ _ (λ e. tt)
+    (pick text (eqb (f .kind) 4) _ _ (λ e. tt)
+    (pick text (eqb (f .kind) 5) _ _ (λ e. tt)
+    (pick text (eqb (f .kind) 6) _ _ (λ e. tt)
+    (pick text (eqb (f .kind) 7) _ _ (λ e. tt)
+    (pick text (eqb (f .kind) 8) _ _ (λ e. tt)
+    (pick text (eqb (f .kind) 9) _ _ (λ e. tt)
+    (pick text (eqb (f .kind) 10) _ _ (λ e. tt) tt)))))))))
 
 -- ---- Operands of a type.
-module _ (t : List ℕ) where
+module _ (text : ℕ) (t : List ℕ) where
   -- a column of the table, a value of its type: what checking asks of the two records written for a comparison
   abbrev pub InColumn : ℕ → ℕ → Type 0
-  InColumn c v = (c < length t) × (inType (getD t c 0) v ≡ true)
+  InColumn c v = (c < length t) × (inTypeIn text (getD t c 0) v ≡ true)
 
   pub opens : (c : ℕ) (w e : ℕ) → InColumn c w → InColumn c e → InColumn c (payload .opened w e)
   unfolding payload
@@ -81,12 +81,12 @@ module _ (t : List ℕ) where
   -- the operand is of the type ty
   abbrev OperandT : ℕ → Operand ℕ → Type 0
   OperandT ty (AColumn c) = (c < length t) × (getD t c 0 ≡ ty)
-  OperandT ty (ALiteral v) = inType ty v ≡ true
+  OperandT ty (ALiteral v) = inTypeIn text ty v ≡ true
   OperandT ty (AList l) = Unit {0}
   OperandT ty Other = Unit {0}
 
   across : (a b v : ℕ) → b < length t → getD t a 0 ≡ getD t b 0 → InColumn a v → InColumn b v
-  across a b v l e h = (l, subst (λ ty. inType ty v ≡ true) e (h .1))
+  across a b v l e h = (l, subst (λ ty. inTypeIn text ty v ≡ true) e (h .1))
 
   -- two operands of one type
   together : (ty : ℕ) (x y : Operand ℕ) → OperandT ty x → OperandT ty y → Together payload InColumn opens x y
@@ -94,10 +94,10 @@ module _ (t : List ℕ) where
     (λ v. across a b v (k .0) (h .1 ∙ sym (k .1))),
     λ v. across b a v (h .0) (k .1 ∙ sym (h .1)),
   )
-  together ty (AColumn c) (ALiteral v) h k = (h .0, subst (λ s. inType s v ≡ true) (sym (h .1)) k)
+  together ty (AColumn c) (ALiteral v) h k = (h .0, subst (λ s. inTypeIn text s v ≡ true) (sym (h .1)) k)
   together ty (AColumn c) (AList l) h k = tt
   together ty (AColumn c) Other h k = tt
-  together ty (ALiteral v) (AColumn c) h k = (k .0, subst (λ s. inType s v ≡ true) (sym (k .1)) h)
+  together ty (ALiteral v) (AColumn c) h k = (k .0, subst (λ s. inTypeIn text s v ≡ true) (sym (k .1)) h)
   together ty (ALiteral v) (ALiteral w) h k = tt
   together ty (ALiteral v) (AList l) h k = tt
   together ty (ALiteral v) Other h k = tt
@@ -105,7 +105,7 @@ module _ (t : List ℕ) where
   together ty Other y h k = tt
 
   operand-typed :
-      (p : List ℕ) (n : ℕ) (r : Record) → reachOk t p r (node n) ≡ true → LiteralT r →
+      (p : List ℕ) (n : ℕ) (r : Record) → reachOkIn text t p r (node n) ≡ true → LiteralT text r →
       OperandT (typeOf t r) (operand (toAExpr p r))
   unfolding reachOkIn typeOf
   operand-typed p n kind.Invalid h l = tt
@@ -154,7 +154,7 @@ binary-same o x y h = go (isComparison o) (isDivision o) h
     go false false h = each 3 h
 
 -- ---- An accepted screen.
-module _ (t rs p : List ℕ) (used root : ℕ) (ok : Checked t rs p used root) where
+module _ (text : ℕ) (t rs p : List ℕ) (used root : ℕ) (ok : CheckedIn text t rs p used root) where
   abbrev R : ℕ → AExpr ℕ
   R n = aexprAt rs p used n
 
@@ -176,23 +176,23 @@ module _ (t rs p : List ℕ) (used root : ℕ) (ok : Checked t rs p used root) w
       go true e = h (ltb-true n used e)
       go false e = m
 
-  typed-at : (x : ℕ) → x < used → OperandT t (typeAt t rs (node x)) (operand (R x))
+  typed-at : (x : ℕ) → x < used → OperandT text t (typeAt t rs (node x)) (operand (R x))
   unfolding recordAt typeAt
   typed-at x h =
-      subst (λ r. OperandT t (typeOf t (decode (fieldsAt rs (node x)))) (operand r)) (sym (record-at x h))
-      (operand-typed t p x (decode (fieldsAt rs (node x))) (ok .records x h .reach)
-      (literal-typed (fieldsAt rs (node x)) (ok .records x h .shape)))
+      subst (λ r. OperandT text t (typeOf t (decode (fieldsAt rs (node x)))) (operand r)) (sym (record-at x h))
+      (operand-typed text t p x (decode (fieldsAt rs (node x))) (ok .records x h .reach)
+      (literal-typed text (fieldsAt rs (node x)) (ok .records x h .shape)))
 
   at-same :
       (x y : ℕ) → x < used → y < used → typeAt t rs (node x) ≡ typeAt t rs (node y) →
-      At payload (InColumn t) (opens t) R x y
+      At payload (InColumn text t) (opens text t) R x y
   at-same x y h k e =
-      together t (typeAt t rs (node x)) (operand (R x)) (operand (R y)) (typed-at x h)
-      (subst (λ ty. OperandT t ty (operand (R y))) (sym e) (typed-at y k))
+      together text t (typeAt t rs (node x)) (operand (R x)) (operand (R y)) (typed-at x h)
+      (subst (λ ty. OperandT text t ty (operand (R y))) (sym e) (typed-at y k))
 
   record-typed :
-      (n : ℕ) → n < used → (r : Record) → reachOk t p r (node n) ≡ true → typesOk t rs r ≡ true →
-      RecordP payload (InColumn t) (opens t) R (toAExpr p r)
+      (n : ℕ) → n < used → (r : Record) → reachOkIn text t p r (node n) ≡ true → typesOk t rs r ≡ true →
+      RecordP payload (InColumn text t) (opens text t) R (toAExpr p r)
   unfolding reachOkIn typesOk betweenFits
   record-typed n l kind.Invalid h k = tt
   record-typed n l (kind.Column c) h k = tt
@@ -203,9 +203,9 @@ module _ (t rs p : List ℕ) (used root : ℕ) (ok : Checked t rs p used root) w
       let i : x .0 < n = b .0 in
       let j : y .0 < n = b .1 in
       let q = at-same (x .0) (y .0) (omega arith) (omega arith) (binary-same o _ _ k) in
-      binary-ind (λ r. RecordP payload (InColumn t) (opens t) R r) (x .0) (y .0) tt (tt, tt) o (λ e c. q)
+      binary-ind (λ r. RecordP payload (InColumn text t) (opens text t) R r) (x .0) (y .0) tt (tt, tt) o (λ e c. q)
       (λ e. (tt, tt))
-      (λ e d b. record-binary payload (InColumn t) (opens t) R b (x .0) (y .0) q)
+      (λ e d b. record-binary payload (InColumn text t) (opens text t) R b (x .0) (y .0) q)
   record-typed n l (kind.Not x) h k = tt
   record-typed n l (kind.IsNull x) h k = tt
   record-typed n l (kind.IsNotNull x) h k = tt
@@ -221,19 +221,16 @@ module _ (t rs p : List ℕ) (used root : ℕ) (ok : Checked t rs p used root) w
   record-typed n l (kind.List ty marked start count) h k = tt
   record-typed n l (kind.IsIn equal x list) h k = tt
 
-  -- what is written of the outcome is of its column's type
-  pub written-typed :
-      (ns : List ℕ) (cs : List (ℕ × ColumnComparison ℕ)) → outcomeOf rs p used root ≡ Rebuilt ns cs →
-      WrittenP payload (InColumn t) (opens t) cs
-  written-typed ns cs e =
-      subst (OutcomeP payload (InColumn t) (opens t)) e
-      (records-p payload (InColumn t) (opens t) R
-      (λ n. by-used (λ r. RecordP payload (InColumn t) (opens t) R r) n
-      (λ l. record-typed n l (recordAt rs (node n)) (ok .records n l .reach) (ok .records n l .types)) tt) root)
+  -- what is read of the screen is of its columns' types
+  pub conjuncts-typed : ConjunctsP payload (InColumn text t) (opens text t) (readConjuncts R root)
+  conjuncts-typed =
+      conjuncts-p payload (InColumn text t) (opens text t) R
+      (λ n. by-used (λ r. RecordP payload (InColumn text t) (opens text t) R r) n
+      (λ l. record-typed n l (recordAt rs (node n)) (ok .records n l .reach) (ok .records n l .types)) tt) root
 
   -- ---- An And of Truths.
   sides-truths :
-      (n : ℕ) → n < used → (r : Record) → reachOk t p r (node n) ≡ true → typesOk t rs r ≡ true →
+      (n : ℕ) → n < used → (r : Record) → reachOkIn text t p r (node n) ≡ true → typesOk t rs r ≡ true →
       Sides IsTruth (andSides (toAExpr p r))
   unfolding reachOkIn typesOk
   sides-truths n l kind.Invalid h k = tt
@@ -254,18 +251,29 @@ module _ (t rs p : List ℕ) (used root : ℕ) (ok : Checked t rs p used root) w
   sides-truths n l (kind.List ty marked start count) h k = tt
   sides-truths n l (kind.IsIn equal x list) h k = tt
 
-  conjuncts-truths : Every IsTruth (minterms R root)
+  pub conjuncts-truths : Every IsTruth (minterms R root)
   conjuncts-truths =
-      minterms-have R (inputs-fall t rs p used root ok) IsTruth
+      minterms-have R (inputs-fall-in text t rs p used root ok) IsTruth
       (λ n h. by-used (λ r. Sides IsTruth (andSides r)) n
       (λ l. sides-truths n l (recordAt rs (node n)) (ok .records n l .reach) (ok .records n l .types)) tt) root
       (ok .root-used, ok .root-truth)
 
+-- ---- Where no text pool is lent.
+module _ (t rs p : List ℕ) (used root : ℕ) (ok : Checked t rs p used root) where
+  -- what is written of the outcome is of its column's type
+  pub written-typed :
+      (ns : List ℕ) (cs : List (ℕ × ColumnComparison ℕ)) → outcomeOf rs p used root ≡ Rebuilt ns cs →
+      WrittenP payload (InColumn 0 t) (opens 0 t) cs
+  written-typed ns cs e =
+      subst (OutcomeP payload (InColumn 0 t) (opens 0 t)) e
+      (merge-p payload (InColumn 0 t) (opens 0 t) (readConjuncts (aexprAt rs p used) root)
+      (conjuncts-typed 0 t rs p used root ok))
+
   -- the kept conjuncts are Truths
   pub kept-truths :
       (ns : List ℕ) (cs : List (ℕ × ColumnComparison ℕ)) → outcomeOf rs p used root ≡ Rebuilt ns cs →
-      Every IsTruth ns
+      Every (IsTruth 0 t rs p used root ok) ns
   kept-truths ns cs e =
-      subst (KeptHave demand.payload IsTruth) (sym (demand.merged-is rs p used root) ∙ e)
-      (kept-have demand.payload IsTruth demand.halves truthKeys R (inputs-fall t rs p used root ok) root
-      conjuncts-truths)
+      subst (KeptHave demand.payload (IsTruth 0 t rs p used root ok)) (sym (demand.merged-is rs p used root) ∙ e)
+      (kept-have demand.payload (IsTruth 0 t rs p used root ok) demand.halves truthKeys (aexprAt rs p used)
+      (inputs-fall t rs p used root ok) root (conjuncts-truths 0 t rs p used root ok))

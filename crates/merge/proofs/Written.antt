@@ -12,8 +12,9 @@ use Rattle.records.specs.Bytes.{word}
 use Rattle.records.specs.Record.{node, fieldsAt, decode, recordAt, encode}
 use Rattle.records.specs.declared.record.Fields.{Fields}
 use Rattle.records.specs.declared.record.Record.{Record}
+use Rattle.records.proofs.RoundTrips.{decode-encode}
 use Rattle.truth.specs.AExpr.{AExpr, Missing}
-use Rattle.truth.specs.FromBytes.{toAExpr, aexprOf, aexprAt}
+use Rattle.truth.specs.FromBytes.{aexprAt}
 use Rattle.merge.specs.Write.{splice, fieldBytes, writeRecord}
 use Rattle.merge.proofs.Passes.{eqb-path, eqb-self}
 use Rattle.merge.proofs.Rebuilding.{putRecord}
@@ -114,22 +115,23 @@ module _ (rs : List ℕ) (u : ℕ) (f : Fields) (room : 16 * u + 16 ≤ length r
         word-old (16 * n + 12) (omega arith),
       )
 
-  -- The used records and the one written are the records with it put behind them.
-  pub aexpr-put :
-      (p : List ℕ) → Words f → (n : ℕ) →
-      aexprAt out p (suc u) n ≡ putRecord (aexprAt rs p u) u (toAExpr p (decode f)) n
-  unfolding aexprAt aexprOf recordAt
-  aexpr-put p h n = go (eqb n u) refl
+  -- The used records and the one written, each as D reads it, are the records with it put behind them.
+  pub read-put :
+      {Val : Type 0} (D : Record → AExpr Val) → Words f → (n : ℕ) →
+      cond (ltb n (suc u)) (D (recordAt out (node n))) Missing
+      ≡ putRecord (λ m. cond (ltb m u) (D (recordAt rs (node m))) Missing) u (D (decode f)) n
+  unfolding recordAt
+  read-put {Val} D h n = go (eqb n u) refl
     where
-      new : AExpr ℕ
-      new = cond (ltb n (suc u)) (toAExpr p (decode (fieldsAt out (node n)))) Missing
+      new : AExpr Val
+      new = cond (ltb n (suc u)) (D (decode (fieldsAt out (node n)))) Missing
 
-      old : AExpr ℕ
-      old = cond (ltb n u) (toAExpr p (decode (fieldsAt rs (node n)))) Missing
+      old : AExpr Val
+      old = cond (ltb n u) (D (decode (fieldsAt rs (node n)))) Missing
 
       below : n < u → new ≡ old
       below k =
-          rw (lt-ltb n (suc u) (omega arith), lt-ltb n u k) (ap (λ x. toAExpr p (decode x)) (fields-old n k))
+          rw (lt-ltb n (suc u) (omega arith), lt-ltb n u k) (ap (λ x. D (decode x)) (fields-old n k))
 
       beyond : u < n → new ≡ old
       beyond k = rw (le-ltb n (suc u) (omega arith), le-ltb n u (omega arith))
@@ -138,14 +140,18 @@ module _ (rs : List ℕ) (u : ℕ) (f : Fields) (room : 16 * u + 16 ≤ length r
       part true e d = below (ltb-true n u e)
       part false e d = let k : u ≤ n = ltb-false n u e in beyond (omega (arith, d))
 
-      go : (b : Bool) → eqb n u ≡ b → new ≡ cond b (toAExpr p (decode f)) old
+      go : (b : Bool) → eqb n u ≡ b → new ≡ cond b (D (decode f)) old
       go true e =
           let q : n ≡ u = eqb-path n u e in
           rw (lt-ltb n (suc u) (omega arith))
-          (ap (λ m. toAExpr p (decode (fieldsAt out (node m)))) q ∙ ap (λ x. toAExpr p (decode x)) (fields-new h))
+          (ap (λ m. D (decode (fieldsAt out (node m)))) q ∙ ap (λ x. D (decode x)) (fields-new h))
       go false e = part (ltb n u) refl (λ q. true≢false (sym (subst (λ m. eqb n m ≡ true) q (eqb-self n)) ∙ e))
 
--- ---- The bytes hold the expressions R, u of them.
+-- ---- The bytes hold the expressions R, u of them, where D is what a record says.
+abbrev pub HoldsBy : {Val : Type 0} → (Record → AExpr Val) → List ℕ → ℕ → (ℕ → AExpr Val) → Type 0
+HoldsBy D rs u R = (n : ℕ) → cond (ltb n u) (D (recordAt rs (node n))) Missing ≡ R n
+
+-- The same where a record says its 64 bits.
 abbrev pub Holds : List ℕ → List ℕ → ℕ → (ℕ → AExpr ℕ) → Type 0
 Holds rs p u R = (n : ℕ) → aexprAt rs p u n ≡ R n
 
@@ -154,9 +160,12 @@ pub length-write : (rs : List ℕ) (u : ℕ) (r : Record) → 16 * u + 16 ≤ le
 length-write rs u r h = length-splice rs (16 * u) (fieldBytes (encode r)) h
 
 pub holds-put :
-    (rs p : List ℕ) (u : ℕ) (r : Record) (R : ℕ → AExpr ℕ) (x : AExpr ℕ) → 16 * u + 16 ≤ length rs →
-    Words (encode r) →
-    toAExpr p (decode (encode r)) ≡ x → Holds rs p u R → Holds (writeRecord rs u r) p (suc u) (putRecord R u x)
-holds-put rs p u r R x room w e h n =
-    aexpr-put rs u (encode r) room p w n ∙ ap (λ q. cond (eqb n u) q (aexprAt rs p u n)) e ∙
+    {Val : Type 0} (D : Record → AExpr Val) (rs : List ℕ) (u : ℕ) (r : Record) (R : ℕ → AExpr Val) (x : AExpr Val) →
+    16 * u + 16 ≤ length rs → Words (encode r) → D r ≡ x → HoldsBy D rs u R →
+    HoldsBy D (writeRecord rs u r) (suc u) (putRecord R u x)
+holds-put {Val} D rs u r R x room w e h n =
+    read-put rs u (encode r) room D w n ∙ ap (λ q. cond (eqb n u) q old) (ap D (decode-encode r) ∙ e) ∙
     ap (λ q. cond (eqb n u) x q) (h n)
+  where
+    old : AExpr Val
+    old = cond (ltb n u) (D (recordAt rs (node n))) Missing

@@ -7,7 +7,6 @@ use mathlib.Core.List.{List, [], _∷_, _++_}
 use mathlib.Core.Option.{Option, none, some}
 use Prim.Native.Nat.{ℕ}
 use lib.Dec.{eqb}
-use lib.IntN.{ℤ}
 use lib.ListN.{getElem?}
 use mir.Syntax.{w64}
 use mir.Val.{toZ}
@@ -24,7 +23,7 @@ use Rattle.merge.specs.Collect.{begin, collect}
 use Rattle.merge.specs.Emit.{mergeFilterConstraints}
 use Rattle.merge.specs.Lines.{linesFrom}
 use Rattle.merge.specs.Passes.{equalities}
-use Rattle.merge.specs.Reasons.{Reason, reasonsOf}
+use Rattle.merge.specs.Reasons.{ReasonValue, Whole, Reason, asNumber, reasonsOf}
 
 -- Two columns that equalities join: the least equivalence that holds between the columns of each of them.
 pub data Joined (es : List (ℕ × ℕ × ℕ)) : ℕ → ℕ → Type 0 where
@@ -42,8 +41,8 @@ boundsOf (Recorded stops n c l) = none
 boundsOf (NonNullPair n a b) = none
 boundsOf (Opaque n) = none
 
--- Conjunct number `line` of l gives a column joined to c the number z as this limit.
-pub record GivenBy (l : List (Conjunct ℕ)) (c : ℕ) (limit : Limit) (z : ℤ) (line : ℕ) : Type 0 where
+-- Conjunct number `line` of l gives a column joined to c the number that is shown as this limit.
+pub record GivenBy (l : List (Conjunct ℕ)) (c : ℕ) (limit : Limit) (shown : ReasonValue) (line : ℕ) : Type 0 where
   pub conjunct : Conjunct ℕ
   pub numbered : getElem? l line ≡ some conjunct
   pub column : ℕ
@@ -54,7 +53,7 @@ pub record GivenBy (l : List (Conjunct ℕ)) (c : ℕ) (limit : Limit) (z : ℤ)
   pub among : OneOf constraint constraints
   pub value : ℕ
   pub gives : OneOf value (givenAs constraint limit)
-  pub number : toZ w64 value ≡ z
+  pub number : Whole (toZ w64 value) ≡ shown
 
 -- An equality is of two bounds and names the lower one.
 abbrev pub limitOf : Comparison → Limit
@@ -65,12 +64,12 @@ limitOf LtEq = UpperBound
 limitOf Gt = LowerBound
 limitOf GtEq = LowerBound
 
--- Each reason of a screen, whatever its records.
+-- Each reason of a screen without symbols, whatever its records.
 abbrev pub ReasonsGiven : Type 0
 ReasonsGiven =
     (R : ℕ → AExpr ℕ) (root : ℕ) (r : Reason) →
     let l = readConjuncts R root in
-    OneOf r (reasonsOf (mergeFilterConstraints lined (linesFrom 0 l))) →
+    OneOf r (reasonsOf asNumber (mergeFilterConstraints lined (linesFrom 0 l))) →
     GivenBy l (r .column) (limitOf (r .operator)) (r .value) (r .line)
 
 -- ---- The values that conjuncts give column c as a limit, in their order.

@@ -4,7 +4,7 @@ use mathlib.Core.Path.{_≡_}
 use mathlib.Core.List.{List}
 use mathlib.Core.Logic.{_↔_}
 use Prim.Native.Nat.{ℕ, _≤_}
-use Rattle.checking.specs.Check.{checkAnswer}
+use Rattle.checking.specs.Check.{checkAnswerIn}
 use Rattle.checking.specs.Tree.{treeCount}
 use Rattle.checking.specs.declared.check.CheckAnswer.the-variants as check
 use Rattle.three_valued.specs.declared.logic.Truth.the-variants.{True}
@@ -14,10 +14,14 @@ use Rattle.row_test.specs.RowTest.{testRowAnswer}
 use Rattle.merge.specs.Rewrite.{rewriteAnswer, rewriteBytes}
 use Rattle.merge.specs.Demand.{rootAfter, usedAfter, AreBytes, AcceptedScreen}
 
--- No number from 1 to 8 of 01 is given for it: not by checking, and not for its tree.
-pub record Usable (t rs p : List ℕ) (used root : ℕ) : Type 0 where
-  pub accepted : checkAnswer t rs p used root ≡ check.Accepted
+-- No number from 1 to 8 of 01 is given for it: not by checking, and not for its tree. text is what is lent beside the pool.
+pub record UsableIn (text : ℕ) (t rs p : List ℕ) (used root : ℕ) : Type 0 where
+  pub accepted : checkAnswerIn text t rs p used root ≡ check.Accepted
   pub tree : treeCount rs root ≤ 4096
+
+-- the same where no text pool is lent
+abbrev pub Usable : List ℕ → List ℕ → List ℕ → ℕ → ℕ → Type 0
+Usable t rs p used root = UsableIn 0 t rs p used root
 
 -- Two answers of the row test for one row: both refuse it, with one number, or neither does; and the row passes by
 -- both or by neither.

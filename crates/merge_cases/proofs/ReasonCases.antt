@@ -8,7 +8,7 @@ use Rattle.constraints.specs.Lined.{lined}
 use Rattle.merge.specs.Classify.{Conjunct, Bounds, Equality, comparisonConstraints}
 use Rattle.merge.specs.Emit.{mergeFilterConstraints}
 use Rattle.merge.specs.Lines.{linesFrom}
-use Rattle.merge.specs.Reasons.{Reason, reasonsOf}
+use Rattle.merge.specs.Reasons.{Whole, Reason, asNumber, reasonsOf}
 
 abbrev on : ℕ → Comparison → ℕ → Conjunct ℕ
 on c o v = Bounds c (comparisonConstraints o v)
@@ -18,7 +18,7 @@ abbrev equal : Conjunct ℕ
 equal = Equality 0 1 9
 
 abbrev reason : ℕ → Comparison → ℤ → ℕ → Reason
-reason c o v line = record { column = c; operator = o; value = v; line = line }
+reason c o v line = record { column = c; operator = o; value = Whole v; line = line }
 
 abbrev table : List (List (Conjunct ℕ) × List Reason)
 table =
@@ -43,7 +43,7 @@ table =
     ∷ []
 
 abbrev yielded : (List (Conjunct ℕ) × List Reason) → List Reason
-yielded c = reasonsOf (mergeFilterConstraints lined (linesFrom 0 (c .0)))
+yielded c = reasonsOf asNumber (mergeFilterConstraints lined (linesFrom 0 (c .0)))
 
 pub reason-cases : map yielded table ≡ map (λ c. c .1) table
 unfolding lined linesFrom

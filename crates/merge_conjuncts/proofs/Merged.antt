@@ -1,11 +1,16 @@
 -- What the merging answers of the conjuncts in an array is the answer of rewriting.
-use mathlib.Core.Path.{_≡_, sym, _∙_, ap}
+use mathlib.Core.Path.{_≡_, sym, _∙_, ap, fun-ext}
 use mathlib.Core.Bool.{true, false, true≢false}
-use mathlib.Core.List.{List, map}
+use mathlib.Core.List.{List, [], map}
 use Prim.Native.Nat.{ℕ, _≤_, min}
 use native.Mathlib.Omega.{arith}
-use lib.ListN.{length, getD}
-use Rattle.checking.specs.Check.{checkAnswer}
+use lib.Dec.{eqb, leb, ltb}
+use lib.ListN.{length, getD, List·getD-eq-default}
+use borrow.Author.Tests.{leb-true, ltb-true, ltb-false, ne-eqb}
+use Rattle.records.specs.Shape.{knownTypeIn}
+use Rattle.records.proofs.Laws.{by-test, and-right}
+use Rattle.records.proofs.Loops.{all-holds}
+use Rattle.checking.specs.Check.{checkAnswer, tableOkIn, typesKnownIn}
 use Rattle.checking.specs.Tree.{treeCount}
 use Rattle.checking.specs.declared.check.CheckAnswer.the-variants as check
 use Rattle.checking.proofs.Accepted.{checked}
@@ -21,7 +26,7 @@ use Rattle.merge.specs.Emit.{Outcome, mergeFilterConstraints}
 use Rattle.merge.specs.Passes.{mergePasses, rewritePasses}
 use Rattle.merge.specs.Write.{outcomeBytes}
 use Rattle.merge.specs.Lines.{linesFrom}
-use Rattle.merge.specs.Reasons.{reasonsOf}
+use Rattle.merge.specs.Reasons.{asNumber, shownIn, reasonsOf}
 use Rattle.merge.specs.Rewrite.{outcomeOf, rewriteAnswer, writtenIf}
 use Rattle.constraints.specs.Lined.{lined}
 use Rattle.reasons.specs.Text.{reasonsText}
@@ -31,6 +36,21 @@ use Rattle.read_operands.specs.Walk.{walked, firstOf}
 use Rattle.reckoning.specs.Reckon.{reckonedAnswer}
 use Rattle.stages.proofs.Answers.{walkedOutcome, rewrite-on}
 use Rattle.stages.proofs.Screens.{nodes-count, conjuncts-used}
+
+-- The table of an accepted screen has no Text column where no text pool is lent, so every value is shown as a number.
+no-symbols : (t : List ℕ) → tableOkIn 0 t ≡ true → shownIn t [] ≡ asNumber
+unfolding shownIn tableOkIn typesKnownIn knownTypeIn
+no-symbols t table = fun-ext (λ c. fun-ext (λ v. rw (number c)))
+  where
+    number : (c : ℕ) → eqb (getD t c 0) 4 ≡ false
+    number c =
+        by-test (ltb c (length t))
+        (λ h.
+        let known = all-holds (λ (k : ℕ). knownTypeIn 0 (getD t k 0)) c (length t) (ltb-true c (length t) h)
+        (and-right (leb (length t) 64) _ table) in
+        let low : getD t c 0 ≤ 3 = leb-true (getD t c 0) 3 (and-right (leb 1 (getD t c 0)) _ known) in
+        ne-eqb (getD t c 0) 4 (λ e. omega (arith, low, e)))
+        (λ h. ap (λ (x : ℕ). eqb x 4) (List·getD-eq-default t 0 {n = c} (ltb-false c (length t) h)))
 
 -- The merging of the first n nodes.
 abbrev mergedNodes : List ℕ → List ℕ → List ℕ → ℕ → Outcome ℕ
@@ -48,11 +68,11 @@ pub rewrite-merged : (t rs p : List ℕ) (used root : ℕ) → checkAnswer t rs 
     → (trees : List ℕ) → ((a : ℕ) → a ≤ root → getD trees a 0 ≡ min (treeCount rs a) 4097) → treeCount rs root ≤ 4096
     → (nodes : List ℕ) (n : ℕ) → firstOf nodes n ≡ minterms (walked rs) root → n ≤ 128
     → (r : Rewriting) (out buffer after : List ℕ)
-    → r .answer ≡ refuseLong (length (nodesText rs p nodes n)) (length buffer)
+    → r .answer ≡ refuseLong (length (nodesText t rs p nodes n)) (length buffer)
     (reckonedAnswer (length rs) trees used (mergedNodes rs p nodes n))
     → out ≡ writtenIf (r .answer) rs (outcomeBytes t rs used (mergedNodes rs p nodes n))
     → r .passes ≡ passesNodes rs p nodes n
-    → after ≡ textIf (r .answer) buffer (nodesText rs p nodes n) → r .length ≡ lengthIf (r .answer) (nodesText rs p nodes n)
+    → after ≡ textIf (r .answer) buffer (nodesText t rs p nodes n) → r .length ≡ lengthIf (r .answer) (nodesText t rs p nodes n)
     → (r .answer ≡ explainedAnswer t rs p used root (length buffer))
     × ((out ≡ explainedBytes t rs p used root (length buffer))
     × ((isRefused (r .answer) ≡ false → r .passes ≡ rewritePasses rs p used root)
@@ -67,8 +87,8 @@ rewrite-merged t rs p used root ok trees counted small nodes n are few r out buf
     ap (λ l. mergeFilterConstraints payload (map (classify (aexprOf rs p)) l)) are in
     let read : map (classify (aexprOf rs p)) (firstOf nodes n) ≡ readConjuncts (aexprAt rs p used) root =
     ap (map (classify (aexprOf rs p))) are ∙ sym (conjuncts-used t rs p used root good) in
-    let text : nodesText rs p nodes n ≡ explainedText rs p used root =
-    ap (λ c. reasonsText (reasonsOf (mergeFilterConstraints lined (linesFrom 0 c)))) read in
+    let text : nodesText t rs p nodes n ≡ explainedText rs p used root =
+    (λ i. reasonsText (reasonsOf (no-symbols t (good .table) i) (mergeFilterConstraints lined (linesFrom 0 (read i))))) in
     let a : r .answer ≡ explainedAnswer t rs p used root (length buffer) =
     e
     ∙ ap (λ c. refuseLong (length c) (length buffer) (reckonedAnswer (length rs) trees used (mergedNodes rs p nodes n))) text

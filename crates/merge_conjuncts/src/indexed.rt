@@ -51,7 +51,7 @@ pub fn merge_indexed(
     requires { ⌜ ((i : ℕ) → i < n → ToldConjunct (conjuncts (now kinds) (now values) (now starts) (now counts) (now p)) i
         (classify (aexprOf (now rs) (now p)) (getD (now nodes) i 0))) ⌝ }
     requires { ⌜ ((i : ℕ) → i < n → ColumnsBelow 64 (classify (aexprOf (now rs) (now p)) (getD (now nodes) i 0))) ⌝ }
-    ensures { λ r. ⌜ r .answer ≡ refuseLong (length (nodesText (now (rs .entry)) (now (p .entry)) (now (nodes .entry)) n))
+    ensures { λ r. ⌜ r .answer ≡ refuseLong (length (nodesText (now (t .entry)) (now (rs .entry)) (now (p .entry)) (now (nodes .entry)) n))
         (length (now (reasons .entry))) (reckonedAnswer (length (now (rs .entry))) (now (trees .entry)) used
         (mergeFilterConstraints payload (map (classify (aexprOf (now (rs .entry)) (now (p .entry))))
         (firstOf (now (nodes .entry)) n)))) ⌝ }
@@ -61,8 +61,9 @@ pub fn merge_indexed(
     ensures { λ r. ⌜ r .passes ≡ mergePasses payload (map (classify (aexprOf (now (rs .entry)) (now (p .entry))))
         (firstOf (now (nodes .entry)) n)) ⌝ }
     ensures { λ r. ⌜ now (reasons .exit) ≡ textIf (r .answer) (now (reasons .entry))
-        (nodesText (now (rs .entry)) (now (p .entry)) (now (nodes .entry)) n) ⌝ }
-    ensures { λ r. ⌜ r .length ≡ lengthIf (r .answer) (nodesText (now (rs .entry)) (now (p .entry)) (now (nodes .entry)) n) ⌝ }
+        (nodesText (now (t .entry)) (now (rs .entry)) (now (p .entry)) (now (nodes .entry)) n) ⌝ }
+    ensures { λ r. ⌜ r .length ≡ lengthIf (r .answer)
+        (nodesText (now (t .entry)) (now (rs .entry)) (now (p .entry)) (now (nodes .entry)) n) ⌝ }
 {
     let mut index = [0u64; 24576];
     make_index(starts, counts, p, &mut index);

@@ -1,4 +1,5 @@
 pub mod Reading
 pub mod Writing
 pub mod Sizes
+pub mod Values
 pub mod Cases

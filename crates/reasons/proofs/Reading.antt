@@ -11,9 +11,11 @@ use lib.ListN.{length, getD, drop, length-append}
 use lib.Seq.{drop-at}
 use borrow.Author.Tests.{le-leb}
 use Rattle.truth.specs.Comparison.{Comparison, Eq, NotEq, Lt, LtEq, Gt, GtEq}
-use Rattle.merge.specs.Reasons.{Reason}
+use Rattle.merge.specs.Reasons.{ReasonValue, Whole, Bytes, Reason}
 use Rattle.decimals.specs.Decimal.{lastDigit, decimal, signed}
-use Rattle.reasons.specs.Text.{operatorName, reasonText, reasonsText}
+use Rattle.symbol_text.specs.Hex.{symbolText}
+use Rattle.symbol_text.proofs.Hex.{symbol-words}
+use Rattle.reasons.specs.Text.{operatorName, valueText, reasonText, reasonsText}
 use Rattle.reasons.specs.Injective.{DifferentTexts}
 use Rattle.decimals.proofs.Decimals.{one-digit, more-digits, by-digits, length-some}
 
@@ -77,6 +79,29 @@ integers c h (negsuc m) (negsuc n) x y e =
     let q : m ≡ n = omega (arith, p .0) in
     (ap negsuc q, p .1)
 
+-- ---- a value: what begins with a t is a symbol
+
+below-letters : (n : ℕ) (l : List ℕ) → getD (decimal n ++ l) 0 0 < 116
+below-letters =
+    by-digits (λ n. (l : List ℕ) → getD (decimal n ++ l) 0 0 < 116)
+    (λ n h l. rw (one-digit n h) (omega arith))
+    (λ n h ih l. rw (more-digits n h, append-assoc) (ih (lastDigit n ∷ l)))
+
+no-letter : (z : ℤ) (x m y : List ℕ) → signed z ++ x ≡ symbolText m ++ y → ⊥
+unfolding signed symbolText
+no-letter (pos n) x m y e =
+    let h : getD (decimal n ++ x) 0 0 < 116 = below-letters n x in
+    let g : getD (decimal n ++ x) 0 0 ≡ 116 = ap (λ l. getD l 0 0) e in
+    omega arith
+no-letter (negsuc n) x m y e = let g : _≡_ {A = ℕ} 45 116 = ap (λ l. getD l 0 0) e in omega (arith, g)
+
+values : (v w : ReasonValue) (x y : List ℕ) → valueText v ++ (32 ∷ x) ≡ valueText w ++ (32 ∷ y) → (v ≡ w) × (x ≡ y)
+unfolding valueText
+values (Whole a) (Whole b) x y e = let p = integers 32 refl a b x y e in (ap Whole (p .0), p .1)
+values (Whole a) (Bytes m) x y e = absurd (no-letter a _ m _ e)
+values (Bytes l) (Whole b) x y e = absurd (no-letter b _ l _ (sym e))
+values (Bytes l) (Bytes m) x y e = let p = symbol-words l m x y e in (ap Bytes (p .0), p .1)
+
 -- ---- an operator: its first byte, and which byte follows
 
 abbrev readOperator : List ℕ → Comparison
@@ -115,7 +140,7 @@ unfolding reasonText
 reason-first r s x y e =
     let p = numbers 32 refl (r .column) (s .column) _ _ (simp append-assoc at e) in
     let q = operators (r .operator) (s .operator) _ _ (p .1) in
-    let v = integers 32 refl (r .value) (s .value) _ _ (q .1) in
+    let v = values (r .value) (s .value) _ _ (q .1) in
     let l = numbers 10 refl (r .line) (s .line) x y (v .1) in
     (same-reason r s (p .0) (q .0) (v .0) (l .0), l .1)
 

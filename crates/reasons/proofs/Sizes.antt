@@ -13,10 +13,12 @@ use Rattle.records.proofs.Laws.{by-test}
 use Rattle.truth.specs.Comparison.{Comparison, Eq, NotEq, Lt, LtEq, Gt, GtEq}
 use Rattle.merge.specs.Write.{splice}
 use Rattle.merge.proofs.Splices.{splice-then}
-use Rattle.merge.specs.Reasons.{Reason}
+use Rattle.merge.specs.Reasons.{ReasonValue, Whole, Bytes, Reason}
 use Rattle.decimals.specs.Decimal.{decimal, signed}
-use Rattle.reasons.specs.Text.{operatorName, reasonText, reasonsText}
-use Rattle.reasons.specs.Sizes.{In64, OfScreen, AtMost34}
+use Rattle.symbol_text.specs.Hex.{symbolText}
+use Rattle.symbol_text.proofs.Hex.{hex-length}
+use Rattle.reasons.specs.Text.{operatorName, valueText, reasonText, reasonsText}
+use Rattle.reasons.specs.Sizes.{In64, ValueFits, IsWhole, OfScreen, WholeOnly, AtMost34, AtMost47}
 use Rattle.decimals.proofs.Decimals.{length-below, length-63}
 use Rattle.reasons.proofs.Writing.{line-length}
 
@@ -34,26 +36,48 @@ unfolding signed
 signed-at-most (pos n) h = omega (arith, length-63 n (omega arith))
 signed-at-most (negsuc n) h = omega (arith, length-63 (suc n) (omega arith))
 
-pub line-at-most : (r : Reason) → r .column < 64 → In64 (r .value) → r .line < 128 → length (reasonText r) ≤ 34
-line-at-most r h v l =
+whole-at-most : (v : ReasonValue) → ValueFits v → IsWhole v → length (valueText v) ≤ 20
+unfolding valueText
+whole-at-most (Whole z) h w = signed-at-most z h
+whole-at-most (Bytes l) h w = absurd w
+
+value-at-most : (v : ReasonValue) → ValueFits v → length (valueText v) ≤ 33
+unfolding valueText symbolText
+value-at-most (Whole z) h = omega (arith, signed-at-most z h)
+value-at-most (Bytes l) h = omega (arith, hex-length l, h)
+
+line-at-most : (r : Reason) (size : ℕ) → r .column < 64 → length (valueText (r .value)) ≤ size → r .line < 128
+    → length (reasonText r) ≤ 14 + size
+line-at-most r size h v l =
     omega (
       arith,
       line-length r,
       length-below 1 (r .column) (omega arith),
       operator-at-most (r .operator),
-      signed-at-most (r .value) v,
+      v,
       length-below 2 (r .line) (omega arith),
     )
 
 pub at-most-34 : AtMost34
 unfolding reasonsText
-at-most-34 [] h = omega arith
-at-most-34 (r ∷ l) h =
+at-most-34 [] h w = omega arith
+at-most-34 (r ∷ l) h w =
     omega (
       arith,
       length-append (reasonText r) (reasonsText l),
-      line-at-most r (h .0) (h .1) (h .2),
-      at-most-34 l (h .3),
+      line-at-most r 20 (h .0) (whole-at-most (r .value) (h .1) (w .0)) (h .2),
+      at-most-34 l (h .3) (w .1),
+    )
+
+pub at-most-47 : AtMost47
+unfolding reasonsText
+at-most-47 [] h = omega arith
+at-most-47 (r ∷ l) h =
+    omega (
+      arith,
+      length-append (reasonText r) (reasonsText l),
+      line-at-most r 33 (h .0) (value-at-most (r .value) (h .1)) (h .2),
+      at-most-47 l (h .3),
     )
 
 -- the bits of a value are such a number

@@ -15,7 +15,7 @@ use Rattle.merge.specs.Write.{splice}
 use Rattle.merge.proofs.Splices.{splice-one, set-splice, splice-then}
 use Rattle.merge.specs.Reasons.{Reason}
 use Rattle.decimals.specs.Decimal.{lastDigit, decimal, signed}
-use Rattle.reasons.specs.Text.{operatorName, reasonText}
+use Rattle.reasons.specs.Text.{operatorName, valueText, reasonText}
 
 -- ---- bytes side by side
 
@@ -43,12 +43,12 @@ four-words l at b c d u v w x e1 f1 e2 f2 e3 f3 e4 h =
 
 pub line-words : (r : Reason)
     → (decimal (r .column) ++ (32 ∷ [])) ++ ((operatorName (r .operator) ++ (32 ∷ []))
-    ++ ((signed (r .value) ++ (32 ∷ [])) ++ (decimal (r .line) ++ (10 ∷ [])))) ≡ reasonText r
+    ++ ((valueText (r .value) ++ (32 ∷ [])) ++ (decimal (r .line) ++ (10 ∷ [])))) ≡ reasonText r
 unfolding reasonText
 line-words r = simp append-assoc
 
 pub line-length : (r : Reason)
     → length (reasonText r) ≡ length (decimal (r .column)) + 1 + (length (operatorName (r .operator)) + 1)
-    + (length (signed (r .value)) + 1) + (length (decimal (r .line)) + 1)
+    + (length (valueText (r .value)) + 1) + (length (decimal (r .line)) + 1)
 unfolding reasonText
 line-length r = simp length-append (omega arith)

@@ -1,10 +1,11 @@
 -- The text of reasons, as bytes: 02, 2.6. Column, operator, value and line number in words separated by single blanks,
--- one comparison a line, byte 10 closes each line: `0 GtEq 5 2`.
+-- one comparison a line, byte 10 closes each line: `0 GtEq 5 2`. A symbol is t and its bytes in hexadecimal, `0 Eq t535058 2`.
 use mathlib.Core.List.{List, [], _∷_, _++_}
 use Prim.Native.Nat.{ℕ}
 use Rattle.truth.specs.Comparison.{Comparison, Eq, NotEq, Lt, LtEq, Gt, GtEq}
-use Rattle.merge.specs.Reasons.{Reason}
+use Rattle.merge.specs.Reasons.{ReasonValue, Whole, Bytes, Reason}
 use Rattle.decimals.specs.Decimal.{decimal, signed}
+use Rattle.symbol_text.specs.Hex.{symbolText}
 
 -- ---- the variant names of `Operator`, as Eq
 
@@ -16,13 +17,19 @@ operatorName LtEq = 76 ∷ 116 ∷ 69 ∷ 113 ∷ []
 operatorName Gt = 71 ∷ 116 ∷ []
 operatorName GtEq = 71 ∷ 116 ∷ 69 ∷ 113 ∷ []
 
+-- ---- values
+
+unfoldable pub valueText : ReasonValue → List ℕ
+valueText (Whole z) = signed z
+valueText (Bytes l) = symbolText l
+
 -- ---- lines
 
 unfoldable pub reasonText : Reason → List ℕ
 reasonText r =
     decimal (r .column)
     ++ (32 ∷ (operatorName (r .operator)
-    ++ (32 ∷ (signed (r .value)
+    ++ (32 ∷ (valueText (r .value)
     ++ (32 ∷ (decimal (r .line)
     ++ (10 ∷ [])))))))
 

@@ -154,11 +154,13 @@ fn open_at(w: Limit, v: Limit) -> Bound
     let limit = Limit {
         value: value,
         line: w.line,
+        opener: v.line as u32 + 1,
     };
     Bound::Open(limit)
 }
 
-// The end on which the excluded value v lies becomes exclusive. It keeps the number of the conjunct that gave it.
+// The end on which the excluded value v lies becomes exclusive. It keeps the number of the conjunct that gave it, beside
+// that of v's.
 fn opened(b: Bound, v: Limit) -> Bound
     ensures { λ r. ⌜ boundOf r ≡ z.openAt lined (boundOf b) (limitOf v) ⌝ }
 {

@@ -1,4 +1,2 @@
-pub mod Kept
-pub mod Listed
 pub mod Promised
 pub mod Slowest

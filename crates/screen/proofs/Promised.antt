@@ -1,31 +1,21 @@
 -- What the call of rewriting promises, from demand 3 of the definitions.
 use mathlib.Core.Path.{_≡_, refl, sym, _∙_, ap, subst}
-use mathlib.Core.Bool.{Bool, true, false, cond}
+use mathlib.Core.Bool.{true, false}
 use mathlib.Core.List.{List}
 use mathlib.Core.Logic.{_↔_, _⊎_, inl, inr}
-use Prim.Native.Nat.{ℕ, suc, _≤_, _<_}
+use Prim.Native.Nat.{ℕ, _≤_, _<_}
 use native.Mathlib.Omega.{arith}
-use lib.Dec.{leb, ltb}
 use lib.ListN.{length}
-use borrow.Author.Tests.{le-ltb}
-use Rattle.checking.specs.Check.{checkAnswer}
-use Rattle.checking.specs.Tree.{treeCount}
-use Rattle.checking.specs.declared.check.CheckAnswer.{CheckAnswer}
-use Rattle.checking.specs.declared.check.CheckAnswer.the-variants as check
-use Rattle.checking.proofs.Answers.{refused-numbered}
 use Rattle.truth.specs.FromBytes.{aexprAt}
 use Rattle.merge.specs.declared.answer.RewriteAnswer.{RewriteAnswer}
 use Rattle.merge.specs.declared.answer.RewriteAnswer.the-variants as answer
 use Rattle.merge.specs.Demand.{Row, IsRow, IsChain, isRefused, isNothing, AreBytes, passes, rowsPassing, Demand3}
 use Rattle.merge.specs.Demand.{rootAfter, usedAfter, AcceptedScreen}
-use Rattle.merge.specs.Emit.{Outcome, Unchanged, NothingPasses, Rebuilt}
-use Rattle.merge.specs.Minterms.{minterms}
 use Rattle.merge.specs.Passes.{edgeColumns, screenEqualities, rewritePasses}
 use Rattle.merge.specs.Usable.{Usable, SameTests}
-use Rattle.merge.specs.Rewrite.{outcomeOf, chainRoot, chainUsed, hasRoom, chainFits, outcomeAnswer}
-use Rattle.merge.specs.Rewrite.{rewriteIf, rewriteAnswer, rewriteBytes, writtenIf}
+use Rattle.merge.specs.Rewrite.{outcomeOf, rewriteAnswer, rewriteBytes, writtenIf}
 use Rattle.merge.specs.Write.{outcomeBytes}
-use Rattle.reasons.specs.Explained.{refuseLong, explainedText, explainedAnswer, explainedBytes, textIf, lengthIf}
+use Rattle.reasons.specs.Explained.{explainedText, explainedAnswer, explainedBytes, textIf, lengthIf}
 use Rattle.merge.proofs.Compared.{rewritten-root-is-new}
 use Rattle.merge.proofs.Demand.{demand-3}
 use Rattle.merge.proofs.PassesEnd.{rewrite-passes-at-most}
@@ -33,91 +23,20 @@ use Rattle.merge.proofs.TwiceBytes.{twice-unchanged}
 use Rattle.merge.proofs.Usable.{returned-usable, returned-tests-same}
 use Rattle.rewrite_number.proofs.Numbers.{SmallRefusal, accepted, nothing-number, number-nothing}
 use Rattle.rewrite_number.specs.Answers.{rewriteNumber, newRootOut, newUsedOut, passesOut, reasonsUsedOut}
-use Rattle.screen.specs.Promises.{returned, BytesKept, RewritePromise}
-use Rattle.screen.specs.Listed.{rewriteListed}
-use Rattle.screen.proofs.Kept.{kept-all, rewrite-kept}
-use Rattle.screen.proofs.Listed.{explained-listed}
-
--- ---- A refusal's number is below 256.
-cond-small : (b : Bool) (x y : RewriteAnswer) → SmallRefusal x → SmallRefusal y → SmallRefusal (cond b x y)
-cond-small true x y h k = h
-cond-small false x y h k = k
-
-outcome-small : (t rs : List ℕ) (used : ℕ) (o : Outcome ℕ) → SmallRefusal (outcomeAnswer t rs used o)
-outcome-small t rs used Unchanged = tt
-outcome-small t rs used NothingPasses =
-    cond-small (hasRoom rs (suc used)) (answer.NothingPasses used (suc used)) (answer.Refused 11) tt (omega arith)
-outcome-small t rs used (Rebuilt ns cs) =
-    cond-small (chainFits t rs used ns cs) (answer.Rewritten (chainRoot used ns cs) (chainUsed used ns cs))
-    (answer.Refused 11) tt (omega arith)
-
-small : (t rs p : List ℕ) (used root : ℕ) → SmallRefusal (rewriteAnswer t rs p used root)
-unfolding rewriteAnswer
-small t rs p used root = go (checkAnswer t rs p used root) refl
-  where
-    x : RewriteAnswer
-    x = outcomeAnswer t rs used (outcomeOf rs p used root)
-
-    many : Bool
-    many = ltb 128 (length (minterms (aexprAt rs p used) root))
-
-    go : (c : CheckAnswer) → checkAnswer t rs p used root ≡ c
-        → SmallRefusal (rewriteIf c (cond (ltb 4096 (treeCount rs root)) (answer.Refused 8)
-        (cond many (answer.Refused 9) x)))
-    go (check.Refused k) e = omega (arith, refused-numbered t rs p used root k e .1)
-    go check.Accepted e =
-        cond-small (ltb 4096 (treeCount rs root)) (answer.Refused 8) (cond many (answer.Refused 9) x) (omega arith)
-        (cond-small many (answer.Refused 9) x (omega arith) (outcome-small t rs used (outcomeOf rs p used root)))
-
--- ---- What is returned, and the passes.
-used-returned : (a : RewriteAnswer) (used old : ℕ) → SmallRefusal a
-    → usedAfter a used ≡ returned (rewriteNumber a) used (newUsedOut a old)
-used-returned (answer.Refused k) used old h = rw (le-ltb 256 k (omega arith))
-used-returned answer.Unchanged used old h = refl
-used-returned (answer.NothingPasses root′ used′) used old h = refl
-used-returned (answer.Rewritten root′ used′) used old h = refl
-
-root-returned : (a : RewriteAnswer) (root old : ℕ) → SmallRefusal a
-    → rootAfter a root ≡ returned (rewriteNumber a) root (newRootOut a old)
-root-returned (answer.Refused k) root old h = rw (le-ltb 256 k (omega arith))
-root-returned answer.Unchanged root old h = refl
-root-returned (answer.NothingPasses root′ used′) root old h = refl
-root-returned (answer.Rewritten root′ used′) root old h = refl
-
-passes-written : (a : RewriteAnswer) (made defined old : ℕ) → (isRefused a ≡ false → made ≡ defined)
-    → passesOut a made old ≡ passesOut a defined old
-passes-written (answer.Refused k) made defined old h = refl
-passes-written answer.Unchanged made defined old h = h refl
-passes-written (answer.NothingPasses root used) made defined old h = h refl
-passes-written (answer.Rewritten root used) made defined old h = h refl
-
-passes-small : (a : RewriteAnswer) (made old most : ℕ) → SmallRefusal a → made ≤ most → 256 ≤ rewriteNumber a
-    → passesOut a made old ≤ most
-passes-small (answer.Refused k) made old most h m n = absurd (omega (arith, h, n))
-passes-small answer.Unchanged made old most h m n = m
-passes-small (answer.NothingPasses root used) made old most h m n = m
-passes-small (answer.Rewritten root used) made old most h m n = m
+use Rattle.rewrite_promise.specs.Listed.{rewriteListed}
+use Rattle.rewrite_promise.specs.Promises.{returned, BytesKept}
+use Rattle.rewrite_promise.proofs.Kept.{kept-all, rewrite-kept}
+use Rattle.rewrite_promise.proofs.Listed.{explained-listed}
+use Rattle.rewrite_promise.proofs.Numbers.{small, used-returned, root-returned, passes-written, passes-small, length-written}
+use Rattle.rewrite_promise.proofs.Numbers.{by-size, unrefused-by}
+use Rattle.screen.specs.Promises.{RewritePromise}
 
 -- ---- The text of the reasons: with room for it the answer is that of rewriting; without, 16.
 module _ (t rs p : List ℕ) (used root len : ℕ) where
   pub by-room : (a : RewriteAnswer) → explainedAnswer t rs p used root len ≡ a
       → (rewriteAnswer t rs p used root ≡ a) ⊎ (a ≡ answer.Refused 16)
   unfolding explainedAnswer
-  by-room a e = go (rewriteAnswer t rs p used root) e
-    where
-      size : ℕ
-      size = length (explainedText rs p used root)
-
-      test : (b : Bool) (root′ used′ : ℕ) → cond b (answer.Rewritten root′ used′) (answer.Refused 16) ≡ a
-          → (answer.Rewritten root′ used′ ≡ a) ⊎ (a ≡ answer.Refused 16)
-      test true root′ used′ h = inl h
-      test false root′ used′ h = inr (sym h)
-
-      go : (x : RewriteAnswer) → refuseLong size len x ≡ a → (x ≡ a) ⊎ (a ≡ answer.Refused 16)
-      go (answer.Refused k) h = inl h
-      go answer.Unchanged h = inl h
-      go (answer.NothingPasses root′ used′) h = inl h
-      go (answer.Rewritten root′ used′) h = test (leb size len) root′ used′ h
+  by-room a e = by-size (length (explainedText rs p used root)) len (rewriteAnswer t rs p used root) a e
 
   -- The records at exit, where the answer is that of rewriting; and where it is 16.
   same-bytes : rewriteAnswer t rs p used root ≡ explainedAnswer t rs p used root len
@@ -131,19 +50,8 @@ module _ (t rs p : List ℕ) (used root len : ℕ) where
 
   unrefused : 256 ≤ rewriteNumber (explainedAnswer t rs p used root len)
       → explainedAnswer t rs p used root len ≡ rewriteAnswer t rs p used root
-  unrefused n = go (by-room (explainedAnswer t rs p used root len) refl)
-    where
-      go : (rewriteAnswer t rs p used root ≡ explainedAnswer t rs p used root len)
-          ⊎ (explainedAnswer t rs p used root len ≡ answer.Refused 16)
-          → explainedAnswer t rs p used root len ≡ rewriteAnswer t rs p used root
-      go (inl e) = sym e
-      go (inr e) = let k : rewriteNumber (explainedAnswer t rs p used root len) ≡ 16 = ap rewriteNumber e in absurd (omega (arith, n, k))
-
-length-written : (a : RewriteAnswer) (text : List ℕ) (old : ℕ) → passesOut a (lengthIf a text) old ≡ reasonsUsedOut a text old
-length-written (answer.Refused k) text old = refl
-length-written answer.Unchanged text old = refl
-length-written (answer.NothingPasses root used) text old = refl
-length-written (answer.Rewritten root used) text old = refl
+  unfolding explainedAnswer
+  unrefused n = unrefused-by (length (explainedText rs p used root)) len (rewriteAnswer t rs p used root) n
 
 -- ---- The promises of a call that answered a, made so many passes and left out; oldRoot, oldUsed and oldPasses stood in
 -- the out-parameters.

@@ -1,11 +1,10 @@
 -- What rewriting promises beyond being equal to its definition, in 01's own words.
-use Prim.Native.Nat.{ℕ, _*_, _≤_, _<_}
-use mathlib.Core.Bool.{true, cond}
+use Prim.Native.Nat.{ℕ, _≤_, _<_}
+use mathlib.Core.Bool.{true}
 use mathlib.Core.List.{List}
 use mathlib.Core.Logic.{_↔_}
 use mathlib.Core.Path.{_≡_}
-use lib.Dec.{ltb}
-use lib.ListN.{length, getD}
+use lib.ListN.{length}
 use Rattle.truth.specs.FromBytes.{aexprAt}
 use Rattle.merge.specs.Plain.{plainScreen}
 use Rattle.merge.specs.Demand.{Row, IsRow, IsChain, passes, rowsPassing}
@@ -13,16 +12,7 @@ use Rattle.merge.specs.Usable.{Usable, SameTests}
 use Rattle.merge.specs.Passes.{edgeColumns, screenEqualities}
 use Rattle.reasons.specs.Explained.{explainedAnswer}
 use Rattle.rewrite_number.specs.Answers.{rewriteNumber}
-
--- The root, or the used count, of the screen returned: what an answer over 256 wrote, or what was sent.
-abbrev pub returned : ℕ → ℕ → ℕ → ℕ
-returned answer sent out = cond (ltb 256 answer) out sent
-
--- From rs to out, only bytes of the records from number `first` on and below `end` have changed.
-pub record BytesKept (rs out : List ℕ) (first end : ℕ) : Type 0 where
-  pub lent : length out ≡ length rs
-  pub before : (i : ℕ) → i < 16 * first → getD out i 0 ≡ getD rs i 0
-  pub behind : (i : ℕ) → 16 * end ≤ i → getD out i 0 ≡ getD rs i 0
+use Rattle.rewrite_promise.specs.Promises.{returned}
 
 -- Demand 3 of 01, for one call of rewriting: rs, used and root were sent; out, newRoot, newUsed and made stand in the
 -- records, in new_root, in new_used and in passes after the call. If it did not refuse, each row passes under the screen returned

@@ -27,7 +27,7 @@ module _ (t rs p : List ℕ) (used root : ℕ) where
       Ok a = saveListed (saveNumber a) ≡ true
 
       go : (a : CheckAnswer) → checkAnswer t rs p used root ≡ a → Ok (saveIf a (fileLength p used) room)
-      go (check.Refused k) e = refusal-listed t rs p used root (14 ∷ 256 ∷ []) k e
+      go (check.Refused k) e = refusal-listed 0 t rs p used root (14 ∷ 256 ∷ []) k e
       go check.Accepted e =
           pick Ok (leb (fileLength p used) room) (save.Saved (fileLength p used)) (save.Refused 14) refl refl
 
@@ -43,5 +43,5 @@ load-listed f table records pool =
 
     go : (a : CheckAnswer) → heldAnswer f ≡ a → Ok (loadIf a f)
     go (check.Refused k) e =
-        refusal-listed (held 1 f) (held 2 f) (held 3 f) (total 2 f) (rootOf f) (14 ∷ 15 ∷ 256 ∷ []) k e
+        refusal-listed 0 (held 1 f) (held 2 f) (held 3 f) (total 2 f) (rootOf f) (14 ∷ 15 ∷ 256 ∷ []) k e
     go check.Accepted e = refl

@@ -25,7 +25,7 @@ module _ (t rs p : List ℕ) (used root : ℕ) where
   check-listed = go (checkAnswer t rs p used root) refl
     where
       go : (a : CheckAnswer) → checkAnswer t rs p used root ≡ a → checkListed (checkNumber a) ≡ true
-      go (check.Refused k) e = refusal-listed t rs p used root (256 ∷ []) k e
+      go (check.Refused k) e = refusal-listed 0 t rs p used root (256 ∷ []) k e
       go check.Accepted e = refl
 
   pub columns-listed : columnsListed (columnsNumber (columnsAnswer t rs p used root)) ≡ true
@@ -34,7 +34,7 @@ module _ (t rs p : List ℕ) (used root : ℕ) where
     where
       go : (a : CheckAnswer) → checkAnswer t rs p used root ≡ a
           → columnsListed (columnsNumber (columnsIf a (columnsWord rs root))) ≡ true
-      go (check.Refused k) e = refusal-listed t rs p used root (256 ∷ []) k e
+      go (check.Refused k) e = refusal-listed 0 t rs p used root (256 ∷ []) k e
       go check.Accepted e = refl
 
   truth-listed : (x : Truth) → rowListed (truthNumber x) ≡ true
@@ -60,7 +60,7 @@ module _ (t rs p : List ℕ) (used root : ℕ) where
       tested false c = refl
 
       go : (a : CheckAnswer) → checkAnswer t rs p used root ≡ a → Ok (answerIf a (checkedAnswer t rs p used root values nulls))
-      go (check.Refused k) e = refusal-listed t rs p used root (8 ∷ 12 ∷ 13 ∷ 256 ∷ 257 ∷ 258 ∷ []) k e
+      go (check.Refused k) e = refusal-listed 0 t rs p used root (8 ∷ 12 ∷ 13 ∷ 256 ∷ 257 ∷ 258 ∷ []) k e
       go check.Accepted e =
           pick Ok (ltb 4096 (treeCount rs root)) (row.Refused 8) _ refl
           (tested (eqb (length values) (8 * length t)) (marksOk (length t) nulls && columnsOk t values nulls))

@@ -36,7 +36,7 @@ show-listed t rs p used root room = go (checkAnswer t rs p used root) refl
 
     go : (a : CheckAnswer) → checkAnswer t rs p used root ≡ a
         → showListed (showNumber (showIf a (showChecked t rs p used root room))) ≡ true
-    go (check.Refused k) e = refusal-listed t rs p used root (8 ∷ 9 ∷ 14 ∷ 17 ∷ 256 ∷ 257 ∷ []) k e
+    go (check.Refused k) e = refusal-listed 0 t rs p used root (8 ∷ 9 ∷ 14 ∷ 17 ∷ 256 ∷ 257 ∷ []) k e
     go check.Accepted e =
         listed-of (ltb 4096 (treeCount rs root)) (ltb 128 (length (minterms (aexprAt rs p used) root)))
         (plainScreen t (aexprAt rs p used) root) (ltb (room / 16) (length t))

@@ -72,7 +72,8 @@ fn add_comparison(
 {
     let l = Limit {
         value: v,
-        line: j as u64,
+        line: j,
+        opener: 0,
     };
     match k {
         Comparison::Eq => add_equal(c, l),
@@ -140,11 +141,13 @@ pub fn add_says(
         Says::Between(ends, v, w) => {
             let low = Limit {
                 value: v,
-                line: j as u64,
+                line: j,
+                opener: 0,
             };
             let upp = Limit {
                 value: w,
-                line: j as u64,
+                line: j,
+                opener: 0,
             };
             add_between(c, ends, low, upp)
         }

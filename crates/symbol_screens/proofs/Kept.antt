@@ -1,6 +1,6 @@
 -- The laws of the merging at the values of a screen with symbols: whatever keys a row holds, symbols of no pool among them,
--- it passes the screen that the merging returns exactly if it passes the one sent. Screens as expressions; their bytes are
--- another matter.
+-- it passes the screen that the merging returns exactly if it passes the one sent. Screens as expressions; for their bytes see
+-- crate symbol_demand.
 use mathlib.Core.Path.{_≡_, refl, sym, _∙_, ap}
 use mathlib.Core.Bool.{Bool, true, false, cond}
 use mathlib.Core.List.{List, [], _∷_, _++_}
@@ -114,14 +114,15 @@ module _ (text₀ : ℕ) (t rs p : List ℕ) (used root : ℕ) (ok : CheckedIn t
 
   -- ---- Rows keep their fate.
   module _ (text : List ℕ) where
-    abbrev merged : Outcome Held
+    abbrev pub merged : Outcome Held
     merged = mergeFilterConstraints (values text) (readConjuncts (heldAt rs p used) root)
 
     nodes-full : (cs : List (ℕ × ColumnComparison Held)) → isEmpty cs ≡ false → isEmpty (comparisonNodes used cs) ≡ false
     nodes-full [] h = h
     nodes-full (x ∷ cs) h = refl
 
-    never-empty : (x : Outcome Held) → merged ≡ x →
+    -- a rebuilt chain has a conjunct
+    pub never-empty : (x : Outcome Held) → merged ≡ x →
         NotEmpty (values text) (halves text) truthKeys (Number 0) refl (heldAt rs p used) held-falls used x
     never-empty Unchanged e = tt
     never-empty NothingPasses e = tt

@@ -65,7 +65,7 @@ module _ {A B T : Type 0} (kind : B → T) (f : A → B) where
 
 -- ---- Places by their symbols, and by their ranks.
 module _ (text values ranks : List ℕ) (n : ℕ) where
-  abbrev symbols-carry : Carries (holding text) (heldBy values n)
+  abbrev pub symbols-carry : Carries (holding text) (heldBy values n)
   unfolding holding
   symbols-carry =
       record {
@@ -74,7 +74,7 @@ module _ (text values ranks : List ℕ) (n : ℕ) where
         opens = λ bound excluded. refl;
       }
 
-  alike : ((q : ℕ) → getD text q 0 < 256) → Pooled text values n → n ≤ 9223372036854775808 → Ranked text values n ranks →
+  pub alike : ((q : ℕ) → getD text q 0 < 256) → Pooled text values n → n ≤ 9223372036854775808 → Ranked text values n ranks →
       SameWithin (λ (v : Placed). isSymbol (heldBy values n v)) (along symbols-carry) (along (ranks-carry-all ranks n))
   unfolding holding payload
   alike bytes pooled small ranked =
@@ -102,11 +102,16 @@ module _ (text t rs p : List ℕ) (used root : ℕ) (ok : CheckedIn (lent text) 
   abbrev by : Placed → Held
   by v = heldBy values count v
 
-  reading : readConjuncts (heldAt rs p used) root ≡ map (mapConjunct by) (readConjuncts (placedAt rs p used) root)
+  pub reading : readConjuncts (heldAt rs p used) root ≡ map (mapConjunct by) (readConjuncts (placedAt rs p used) root)
   reading =
       ap (λ (R : ℕ → AExpr Held). readConjuncts R root)
       (fun-ext (held-placed (length text) t rs p used root ok values st count enough))
       ∙ read-mapped by (placedAt rs p used) root
+
+  pub places-have : ConjunctsHave (λ (v : Placed). isSymbol (by v)) (kindAt t) (readConjuncts (placedAt rs p used) root)
+  places-have =
+      conjuncts-back isSymbol by (kindAt t) (readConjuncts (placedAt rs p used) root)
+      (subst (ConjunctsHave isSymbol (kindAt t)) reading (conjuncts-have (lent text) t rs p used root ok))
 
   -- one outcome, told by places: its literals are those of the symbols' screen by what stands there, and those of the
   -- ranks' screen by the ranks
@@ -135,12 +140,7 @@ module _ (text t rs p : List ℕ) (used root : ℕ) (ok : CheckedIn (lent text) 
       numbers : readConjuncts (rankedAt rs p used ranks count) root ≡ map (mapConjunct (standingOrNot ranks count)) l
       numbers = read-mapped (standingOrNot ranks count) (placedAt rs p used) root
 
-      have : ConjunctsHave (λ (v : Placed). isSymbol (by v)) (kindAt t) l
-      have =
-          conjuncts-back isSymbol by (kindAt t) l
-          (subst (ConjunctsHave isSymbol (kindAt t)) reading (conjuncts-have (lent text) t rs p used root ok))
-
       both : Translated (holding text) payload by (standingOrNot ranks count) l
       both =
           translated-within (symbols-carry text values ranks count) (ranks-carry-all ranks count)
-          (alike text values ranks count bytes pooled small ranked) (kindAt t) l have
+          (alike text values ranks count bytes pooled small ranked) (kindAt t) l places-have

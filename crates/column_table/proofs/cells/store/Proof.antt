@@ -54,7 +54,7 @@ returns c =
     let l : length ys ≡ stride ws = search (needs, s) in
     let b = row-back ws (st .args .x) _ _ ys (st .pre .0) (ap (λ n. st .args .x * n) s) (ap (λ n. st .args .x *
     7 + n) s) l in
-    (column-stored ws _ (st .args .x) _ (st .pre .0) (b .1) (b .0 ∙ write-words .ensures), b .1 .size)
+    (column-stored ws _ (st .args .x) _ (st .pre .0) (b .1) (b .0 ∙ write-words .ensures .0) (write-words .ensures .1), b .1 .size)
 
 pub store-spec : {M : Type 1} → statement M
 store-spec =

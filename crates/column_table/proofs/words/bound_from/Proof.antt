@@ -5,6 +5,12 @@ use Rattle.column_table.proofs.words.bound_from.Lts as lts
 use Rattle.records.proofs.Laws.{flags}
 use borrow.Author.Needs.{needs}
 
+cast-t7 : tie.Need-cast-t7
+cast-t7 c = search needs
+
+cast-t9 : tie.Need-cast-t9
+cast-t9 c = search needs
+
 -- src/words.rt:50:9
 returns : tie.Need-returns
 returns c =
@@ -21,4 +27,4 @@ returns-3 c =
     search flags
 
 pub bound-from-spec : {M : Type 1} → statement M
-bound-from-spec = tie.close (tie.spec returns returns-2 returns-3)
+bound-from-spec = tie.close (tie.spec cast-t7 cast-t9 returns returns-2 returns-3)

@@ -85,16 +85,17 @@ returns c =
     let bound-value2 = c .before .before .before .bound-value2 in
     let wide = c .before .before .wide in
     let bound-line = c .before .bound-line in
-    let bound-line2 = c .bound-line2 in
-    rw (
-      ← small-word .ensures,
-      ← bound-value .ensures,
-      ← bound-value2 .ensures,
-      ← wide .ensures,
-      ← bound-line
-          .ensures,
-      ← bound-line2 .ensures,
-    ) (seven-set (st .args .words .now) _ _ _ _ _ _ _ (st .pre))
+    let bound-line2 = c .bound-line2 in (
+      rw (
+        ← small-word .ensures,
+        ← bound-value .ensures,
+        ← bound-value2 .ensures,
+        ← wide .ensures,
+        ← bound-line .ensures .0,
+        ← bound-line2 .ensures .0,
+      ) (seven-set (st .args .words .now) _ _ _ _ _ _ _ (st .pre)),
+      (bound-line .ensures .1, bound-line2 .ensures .1),
+    )
 
 pub write-words-spec : {M : Type 1} → statement M
 write-words-spec =

@@ -7,49 +7,49 @@ use Rattle.column_reasons.proofs.column_length.Reads as column-length-reads
 use native.Mathlib.Omega.{arith}
 use Rattle.stages.proofs.Lending.{row-ends, row-part, part-length, fine-lent, fine-wider}
 
--- src/explain.rt:38:14
+-- src/explain.rt:41:14
 mul-at : tie.Need-mul-at
 mul-at c =
-    let st = c .before .before .before in
+    let st = c .before .before .before .before in
     let r = row-ends (st .args .marks .now) (st .args .x) (st .pre .0) in
     search (needs, r)
 
--- src/explain.rt:39:15
+-- src/explain.rt:42:15
 add-end : tie.Need-add-end
 add-end c =
-    let st = c .before .before .before in
+    let st = c .before .before .before .before in
     let r = row-ends (st .args .marks .now) (st .args .x) (st .pre .0) in
     search (needs, r)
 
--- src/explain.rt:40:37
+-- src/explain.rt:43:40
 sub-column-length : tie.Need-sub-column-length
 sub-column-length c = search needs
 
--- src/explain.rt:40:37
+-- src/explain.rt:43:40
 part-column-length-start : tie.Need-part-column-length-start
 part-column-length-start c = search needs
 
--- src/explain.rt:40:37
+-- src/explain.rt:43:40
 part-column-length-end : tie.Need-part-column-length-end
 part-column-length-end c =
-    let st = c .before .before .before in
+    let st = c .before .before .before .before in
     let r = row-ends (st .args .marks .now) (st .args .x) (st .pre .0) in
     search (needs, r)
 
--- src/explain.rt:40:5
+-- src/explain.rt:43:5
 column-length-requires : tie.Need-column-length-requires
 column-length-requires c κs =
-    let st = c .before .before .before .before in
+    let st = c .before .before .before .before .before in
     let p = part-length (st .args .marks .now) (st .args .x) (st .pre .0) in
     fine-wider _ _ _ _ (omega (arith, p, st .pre .1)) (fine-lent (st .args .marks .now) (st .args .x) _ (st .pre
     .0) (st .pre .2))
 
--- src/explain.rt:23:1
+-- src/explain.rt:25:1
 returns : tie.Need-returns
 returns c =
-    let st = c .before .before .before .before .before in
+    let st = c .before .before .before .before .before .before in
     let column-length = c .column-length in (
-      (λ s e f. rw (row-part (st .args .marks .now) (st .args .x)) (column-length .ensures .0 s e f)),
+      (λ s e f text. rw (row-part (st .args .marks .now) (st .args .x)) (column-length .ensures .0 s e f text)),
       column-length .ensures .1,
     )
 

@@ -13,6 +13,7 @@ use lib.ListN.{length}
 use Rattle.constraints.specs.Lined.{lined}
 use Rattle.column_constraints.specs.Abstraction.{Conjuncts, conjuncts}
 use Rattle.column_reasons.specs.ColumnText.{tableText}
+use Rattle.merge.specs.Reasons.{shownIn}
 use Rattle.merge.specs.Write.{splice}
 use Rattle.read_operands.specs.Walk.{firstOf}
 use Rattle.column_table.specs.Words.{columnsOf}
@@ -21,52 +22,54 @@ use Rattle.explain_columns.proofs.Explaining.{begin-size, begin-out, ne
 use borrow.Author.Needs.{needs}
 
 abbrev Inv-loop : tie.InvT-loop
-Inv-loop out₀ kinds values cells marks order columns next₀ w₀ out next w =
+Inv-loop out₀ t text kinds values cells marks order columns next₀ w₀ out next w =
     (w ≤ columns) × (length out ≡ length out₀) × ((s : Conjuncts) → s .kinds ≡ kinds → s .values ≡ values → next
-    ≡ 0 + length (tableText (firstOf order w) (shown s (columnsOf cells) marks))) × ((s : Conjuncts) → s .kinds
-    ≡ kinds → s .values ≡ values → out ≡ splice out₀ 0 (tableText (firstOf order w) (shown s (columnsOf cells)
-    marks)))
+    ≡ 0 + length (tableText (shownIn t text) (firstOf order w) (shown s (columnsOf cells) marks))) × ((s :
+    Conjuncts) → s .kinds ≡ kinds → s .values ≡ values → out ≡ splice out₀ 0 (tableText (shownIn t text)
+    (firstOf order w) (shown s (columnsOf cells) marks)))
 
 abbrev μ-loop : tie.MeasureT-loop
-μ-loop out₀ kinds values cells marks order columns next₀ w₀ out next w =
+μ-loop out₀ t text kinds values cells marks order columns next₀ w₀ out next w =
     columns - w
 
--- src/explain.rt:118:5
+-- src/explain.rt:128:5
 loop-holds : tie.Need-loop-holds Inv-loop μ-loop
 loop-holds c =
-    let st = c .before .before .before .before .before .before in (
+    let st = c .before .before .before .before .before .before .before .before in (
       omega arith,
       refl,
-      (λ s ek ev. begin-size (st .args .order .now) s (columnsOf (st .args .cells .now)) (st
-          .args .marks .now)),
-      (λ s ek ev. begin-out (st .args .order .now) s (columnsOf (st .args .cells .now)) (st
+      (λ s ek ev. begin-size (shownIn (st .args .t .now) (st .args .text .now)) (st .args
+          .order .now) s (columnsOf (st .args .cells .now)) (st .args .marks .now)),
+      (λ s ek ev. begin-out (shownIn
+          (st .args .t .now) (st .args .text .now)) (st .args .order .now) s (columnsOf (st .args .cells .now)) (st
           .args .marks .now) _),
     )
 
--- src/explain.rt:119:24
-mul-t14 : tie.Need-mul-t14 Inv-loop μ-loop
-mul-t14 c = search needs
+-- src/explain.rt:129:24
+mul-t16 : tie.Need-mul-t16 Inv-loop μ-loop
+mul-t16 c = search needs
 
--- src/explain.rt:119:24
-shared-slice-read-t16 : tie.Need-shared-slice-read-t16 Inv-loop μ-loop
-shared-slice-read-t16 c = search needs
+-- src/explain.rt:129:24
+shared-slice-read-t18 : tie.Need-shared-slice-read-t18 Inv-loop μ-loop
+shared-slice-read-t18 c = search needs
 
--- src/explain.rt:120:13
+-- src/explain.rt:130:13
 slot-requires : tie.Need-slot-requires Inv-loop μ-loop
 slot-requires c κs = search needs
 
--- src/explain.rt:121:13
+-- src/explain.rt:131:13
 load-requires : tie.Need-load-requires Inv-loop μ-loop
 load-requires c κs =
-    let st = c .before .before .before .before .before .before .before .before .before .before in
+    let st = c .before .before .before .before .before .before .before .before .before .before .before .before
+    in
     let slot = c .slot in
     (omega (arith, slot .ensures), st .pre .0 .0 .size)
 
--- src/explain.rt:122:9
+-- src/explain.rt:132:9
 write-row-reasons-requires : tie.Need-write-row-reasons-requires Inv-loop μ-loop
 write-row-reasons-requires c κs =
     let st = c .before .before .before .before .before .before .before .before .before .before .before .before
-    in
+    .before .before in
     let loop = c .before .before .before .before .before .loop in
     let t1 = c .before .before .before .before .loop-test in
     let slot = c .before .before .slot in
@@ -77,33 +80,29 @@ write-row-reasons-requires c κs =
         rw (load .ensures) (st .pre .0 .0 .fine _ (omega
             (arith, slot .ensures))),
       ),
-      λ s ek ev. let r = text-room (st .args .order .now) _ (st .args .columns) s
-          (columnsOf (st .args .cells .now)) (st .args .marks .now) _ _ _ _ (t1 .taken) (st .pre .1 .0 _ (t1 .taken))
-          (slot .ensures) (load .ensures) (loop .inv .2 s ek ev) (st .pre .1 .1 s ek ev) in omega (
-            arith,
-            r,
-            loop .inv
-                .1,
-          ),
+      λ s ek ev. let r = text-room (shownIn (st .args .t .now) (st .args .text .now))
+          (st .args .order .now) _ (st .args .columns) s (columnsOf (st .args .cells .now)) (st .args .marks .now) _ _
+          _ _ (t1 .taken) (st .pre .1 .0 _ (t1 .taken)) (slot .ensures) (load .ensures) (loop .inv .2 s ek ev) (st
+          .pre .1 .1 s ek ev) in omega (arith, r, loop .inv .1),
     )
 
--- src/explain.rt:123:9
+-- src/explain.rt:133:9
 add-w : tie.Need-add-w Inv-loop μ-loop
 add-w c =
     let st = c .before .before .before .before .before .before .before .before .before .before .before .before
-    .before .before .before in
+    .before .before .before .before .before in
     let t1 = c .before .before .before .before .before .before .before .loop-test in
     omega (arith, t1 .taken, st .pre .0 .2)
 
--- src/explain.rt:118:5
+-- src/explain.rt:128:5
 loop-less : tie.Need-loop-less Inv-loop μ-loop
 loop-less c = search needs
 
--- src/explain.rt:118:5
+-- src/explain.rt:128:5
 loop-again : tie.Need-loop-again Inv-loop μ-loop
 loop-again c =
     let st = c .before .before .before .before .before .before .before .before .before .before .before .before
-    .before .before .before in
+    .before .before .before .before .before in
     let loop = c .before .before .before .before .before .before .before .before .loop in
     let t1 = c .before .before .before .before .before .before .before .loop-test in
     let slot = c .before .before .before .before .before .slot in
@@ -111,25 +110,26 @@ loop-again c =
     let write-row-reasons = c .before .before .write-row-reasons in (
       omega (arith, t1 .taken),
       search needs,
-      (λ s ek ev. next-loaded (st .args .order .now) _ s (columnsOf (st
-          .args .cells .now)) (st .args .marks .now) _ _ (st .pre .1 .0 _ (t1 .taken)) (slot .ensures) (load .ensures)
-          _ _ (loop .inv .2 s ek ev) (write-row-reasons .ensures .0 s ek ev)),
-      (λ s ek ev. text-loaded (st .args
+      (λ s ek ev. next-loaded (shownIn (st .args .t .now) (st .args
+          .text .now)) (st .args .order .now) _ s (columnsOf (st .args .cells .now)) (st .args .marks .now) _ _ (st
+          .pre .1 .0 _ (t1 .taken)) (slot .ensures) (load .ensures) _ _ (loop .inv .2 s ek ev) (write-row-reasons
+          .ensures .0 s ek ev)),
+      (λ s ek ev. text-loaded (shownIn (st .args .t .now) (st .args .text .now)) (st .args
           .order .now) _ s (columnsOf (st .args .cells .now)) (st .args .marks .now) _ _ (st .pre .1 .0 _ (t1 .taken))
-          (slot .ensures) (load .ensures) _ _ _ _ (loop .inv .2 s ek ev) (loop .inv .3 s ek ev) (text-room (st .args
-          .order .now) _ (st .args .columns) s (columnsOf (st .args .cells .now)) (st .args .marks .now) _ _ _ _ (t1
-          .taken) (st .pre .1 .0 _ (t1 .taken)) (slot .ensures) (load .ensures) (loop .inv .2 s ek ev) (st .pre .1 .1
-          s ek ev)) (write-row-reasons .ensures .1 s ek ev)),
+          (slot .ensures) (load .ensures) _ _ _ _ (loop .inv .2 s ek ev) (loop .inv .3 s ek ev) (text-room (shownIn
+          (st .args .t .now) (st .args .text .now)) (st .args .order .now) _ (st .args .columns) s (columnsOf (st
+          .args .cells .now)) (st .args .marks .now) _ _ _ _ (t1 .taken) (st .pre .1 .0 _ (t1 .taken)) (slot .ensures)
+          (load .ensures) (loop .inv .2 s ek ev) (st .pre .1 .1 s ek ev)) (write-row-reasons .ensures .1 s ek ev)),
     )
 
--- src/explain.rt:99:1
+-- src/explain.rt:105:1
 same-length : tie.Need-same-length Inv-loop μ-loop
 same-length c = search needs
 
--- src/explain.rt:99:1
+-- src/explain.rt:105:1
 returns : tie.Need-returns Inv-loop μ-loop
 returns c =
-    let st = c .before .before .before .before .before .before .before .before in
+    let st = c .before .before .before .before .before .before .before .before .before .before in
     let loop = c .before .loop in
     let t1 = c .loop-test in
     let h : loop .w ≡ st .args .columns = omega (arith, loop .inv .0, t1 .left) in
@@ -142,8 +142,8 @@ write-reasons-spec =
     Inv-loop
     μ-loop
     loop-holds
-    mul-t14
-    shared-slice-read-t16
+    mul-t16
+    shared-slice-read-t18
     slot-requires
     load-requires
     write-row-reasons-requires

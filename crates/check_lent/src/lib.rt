@@ -1,0 +1,55 @@
+// Checking a screen with a text pool lent beside it, of which checking asks the length alone.
+ghost use mathlib.Core.Path.{_≡_};
+ghost use mathlib.Core.Bool.{cond};
+ghost use Prim.Native.Nat.{suc, _≤_};
+ghost use lib.Dec.{ltb};
+ghost use lib.ListN.{length};
+ghost use Rattle.checking.specs.Check.{checkAnswerIn};
+ghost use Rattle.checking.specs.Tree.{Counted};
+ghost use Rattle.checking.specs.declared.check.CheckAnswer.the-variants.{Accepted};
+use checking::check::CheckAnswer;
+use checking::check::check_with_text;
+
+// Past the limit every length is refused as the first past it.
+fn lent_as(text: usize) -> u32
+    ensures { λ r. ⌜ r ≡ cond (ltb 8192 text) 8194 (suc text) ⌝ }
+{
+    if 8192 < text {
+        return 8194;
+    }
+    text as u32 + 1
+}
+
+/// Checking, and the tree counts of an accepted screen's records, each 4,097 if above 4,096. `text` is the number of bytes
+/// lent; `types` is room to work in.
+pub fn check_lent_counted(
+    t: &[u8],
+    rs: &[u8],
+    p: &[u8],
+    text: usize,
+    used: u64,
+    root: u64,
+    types: &mut [u8],
+    trees: &mut [u16],
+) -> CheckAnswer
+    requires { ⌜ (used ≤ 4096 → used ≤ length (now types)) ⌝ }
+    requires { ⌜ (used ≤ 4096 → used ≤ length (now trees)) ⌝ }
+    ensures { λ a. ⌜ a ≡ checkAnswerIn (suc text) (now (t .entry)) (now (rs .entry)) (now (p .entry)) used root ⌝ }
+    ensures { λ a. ⌜ (a ≡ Accepted → Counted (now (rs .entry)) (now (trees .exit)) used) ⌝ }
+{
+    check_with_text(t, rs, p, lent_as(text), used, root, types, trees)
+}
+
+/// The answer alone. Most screens have few records, and small tables cost less to clear.
+pub fn check_lent(t: &[u8], rs: &[u8], p: &[u8], text: usize, used: u64, root: u64) -> CheckAnswer
+    ensures { λ a. ⌜ a ≡ checkAnswerIn (suc text) (now (t .entry)) (now (rs .entry)) (now (p .entry)) used root ⌝ }
+{
+    if used <= 64 {
+        let mut few = [0u8; 64];
+        let mut small = [0u16; 64];
+        return check_lent_counted(t, rs, p, text, used, root, &mut few, &mut small);
+    }
+    let mut types = [0u8; 4096];
+    let mut trees = [0u16; 4096];
+    check_lent_counted(t, rs, p, text, used, root, &mut types, &mut trees)
+}

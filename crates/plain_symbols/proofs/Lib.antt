@@ -1,0 +1,2 @@
+pub mod ColumnsRead
+pub mod Refusals

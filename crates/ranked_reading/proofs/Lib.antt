@@ -1,0 +1,3 @@
+pub mod Walking
+pub mod Conjuncts
+pub mod Merged

@@ -1,0 +1,4 @@
+pub mod Placing
+pub mod Records
+pub mod Pools
+pub mod Reading

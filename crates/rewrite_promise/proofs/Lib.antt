@@ -1,0 +1,5 @@
+pub mod Kept
+pub mod Listed
+pub mod Numbers
+pub mod Tests
+pub mod Promised

@@ -1,0 +1,13 @@
+-- A chain of rows under a screen with symbols (02, 2.10 and 2.14): as without (chain_rows, Chain), by the row test with the
+-- text pool. t is the column table, rs the records, p the pool, text the bytes of the text pool.
+use mathlib.Core.List.{List}
+use Prim.Native.Nat.{ℕ}
+use lib.ListN.{getD}
+use Rattle.row_test.specs.declared.test.RowAnswer.{RowAnswer}
+use Rattle.chain_rows.specs.Chain.{rowAt}
+use Rattle.symbol_rows.specs.RowTestWith.{testRowAnswerWith}
+
+-- What testing row r answers.
+unfoldable pub answerAtWith : List ℕ → List ℕ → List ℕ → List ℕ → ℕ → ℕ → List ℕ → List ℕ → ℕ → RowAnswer
+answerAtWith text t rs p used root values nulls r =
+    testRowAnswerWith text t rs p used root (rowAt t values r) (getD nulls r 0)

@@ -1,0 +1,4 @@
+pub mod GivenLiterals
+pub mod Converting
+pub mod Compared
+pub mod Written

@@ -1,0 +1,2 @@
+pub mod SameHedge
+pub mod HedgeAnswers

@@ -1,0 +1,3 @@
+pub mod Outcomes
+pub mod Slices
+pub mod Ending

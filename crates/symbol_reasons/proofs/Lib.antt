@@ -1,0 +1,5 @@
+pub mod Carried
+pub mod Numbers
+pub mod Shown
+pub mod LineBehind
+pub mod Cases

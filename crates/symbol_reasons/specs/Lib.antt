@@ -1,0 +1,3 @@
+pub mod Lined
+pub mod Explained
+pub mod LineBehind

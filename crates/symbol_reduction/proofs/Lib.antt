@@ -1,0 +1,5 @@
+pub mod TextInputs
+pub mod TextLeaves
+pub mod ReducedTruth
+pub mod Constants
+pub mod ReducedFit

@@ -1,0 +1,2 @@
+pub mod AnswersWith
+pub mod SameAnswers

@@ -1,0 +1,2 @@
+pub mod RowTestWith
+pub mod ColumnsWith

@@ -1,0 +1,1 @@
+//! Rows of a screen with symbols (02, 2.10).
