@@ -1,15 +1,16 @@
 // Stage 1 of the merging: what the conjuncts say, into the columns' cells.
 ghost use mathlib.Core.Path.{_≡_};
-ghost use mathlib.Core.Bool.{Bool, cond};
+ghost use mathlib.Core.Bool.{Bool, false, cond};
 ghost use mathlib.Core.List.{List, map};
 ghost use Prim.Native.Nat.{ℕ, _+_, _<_, _≤_};
 ghost use lib.ListN.{length, getD, replicate};
 ghost use Rattle.truth.specs.FromBytes.{aexprOf};
-ghost use Rattle.constraints.specs.Lined.{onLine, lined};
+ghost use Rattle.constraints.specs.Lined.{Lined, onLine, lined};
 ghost use Rattle.constraints.specs.Mapped.{mapConstraint};
 ghost use Rattle.column_constraints.specs.Abstraction.{Conjuncts, conjuncts, numbered, columnOf};
 ghost use Rattle.merge.specs.Classify as m;
 ghost use Rattle.merge.specs.Collect as d;
+ghost use Rattle.merge.specs.Lines.{mapConjunct};
 ghost use Rattle.read_operands.specs.Read.{saysIn};
 ghost use Rattle.rewrite.specs.Told.{Told, ToldConjunct};
 ghost use Rattle.stages.specs.Columns.{ColumnsBelow};
@@ -127,6 +128,99 @@ fn add_to_column(
     r.unsat
 }
 
+/// What conjunct j, the record `node`, adds to what was collected before it.
+fn collect_conjunct(
+    rs: &[u8],
+    pool: &[u8],
+    node: u32,
+    kinds: &[u8],
+    values: &[u64],
+    starts: &[u32],
+    counts: &[u32],
+    cells: &mut [u64],
+    marks: &mut [u8],
+    seen: &mut [bool],
+    order: &mut [u32],
+    kept: &mut [u32],
+    lefts: &mut [u32],
+    rights: &mut [u32],
+    equals: &mut [u32],
+    j: u8,
+    mut held: Collection,
+) -> Collection
+    requires { ⌜ Fits (now cells) (now marks) × (j < stride (now marks)) × (length (now seen) ≡ 64)
+        × (held .columns + 2 ≤ length (now order)) × (held .columns + 2 ≤ 256) × (held .keeps < length (now kept))
+        × (held .edges < length (now lefts)) × (held .edges < length (now rights)) × (held .edges < length (now equals))
+        × (held .keeps < 128) × (held .edges < 128) × (held .bounds < 128) ⌝ }
+    requires { ⌜ ToldConjunct (conjuncts (now kinds) (now values) (now starts) (now counts) (now pool)) j
+        (m.classify (aexprOf (now rs) (now pool)) node) ⌝ }
+    requires { ⌜ ColumnsBelow 64 (m.classify (aexprOf (now rs) (now pool)) node) ⌝ }
+    ensures { λ r. ⌜ (let t = conjuncts (now (kinds .entry)) (now (values .entry)) (now (starts .entry))
+        (now (counts .entry)) (now (pool .entry)) in (s : d.Collected Lined) → Collects t (columnsOf (now (cells .entry)))
+        (now (marks .entry)) (now (seen .entry)) (now (order .entry)) (held .columns) (now (kept .entry)) (held .keeps)
+        (now (lefts .entry)) (now (rights .entry)) (now (equals .entry)) (held .edges) (held .bounds) (held .normalized)
+        (held .unsat) s → held .unsat ≡ false → Collects t (columnsOf (now (cells .exit))) (now (marks .exit))
+        (now (seen .exit)) (now (order .exit)) (r .columns) (now (kept .exit)) (r .keeps) (now (lefts .exit))
+        (now (rights .exit)) (now (equals .exit)) (r .edges) (r .bounds) (r .normalized) (r .unsat)
+        (d.collectOne lined (mapConjunct (onLine j) (m.classify (aexprOf (now (rs .entry)) (now (pool .entry))) node)) s)) ⌝ }
+    ensures { λ r. ⌜ (r .columns ≤ held .columns + 2) × (r .keeps + r .edges ≤ held .keeps + held .edges + 1)
+        × (r .bounds ≤ held .bounds + 1) × (length (now (cells .exit)) ≡ length (now (cells .entry)))
+        × (length (now (marks .exit)) ≡ length (now (marks .entry)))
+        × NullKept (columnsOf (now (cells .entry))) (columnsOf (now (cells .exit))) j ⌝ }
+{
+    let keeps = held.keeps;
+    let edges = held.edges;
+    let k = classify(rs, Node(node));
+    match k {
+        Conjunct::Bounds(a, s) => {
+            held.columns = enter(seen, order, held.columns, a);
+            held.unsat = add_to_column(kinds, values, starts, counts, pool, cells, marks, a, j, s);
+            held.bounds += 1;
+            held
+        }
+        Conjunct::Normalized(a, s) => {
+            held.columns = enter(seen, order, held.columns, a);
+            held.unsat = add_to_column(kinds, values, starts, counts, pool, cells, marks, a, j, s);
+            held.bounds += 1;
+            held.normalized = true;
+            held
+        }
+        Conjunct::Equality(a, b) => {
+            held.columns = enter(seen, order, held.columns, a);
+            require_non_null(cells, a, j);
+            held.columns = enter(seen, order, held.columns, b);
+            require_non_null(cells, b, j);
+            lefts[edges] = a.0;
+            rights[edges] = b.0;
+            equals[edges] = node;
+            held.edges = edges + 1;
+            held
+        }
+        Conjunct::Recorded(stops, a, s) => {
+            held.columns = enter(seen, order, held.columns, a);
+            held.unsat = stops
+                & add_to_column(kinds, values, starts, counts, pool, cells, marks, a, j, s);
+            kept[keeps] = node;
+            held.keeps = keeps + 1;
+            held
+        }
+        Conjunct::NonNullPair(a, b) => {
+            held.columns = enter(seen, order, held.columns, a);
+            require_non_null(cells, a, j);
+            held.columns = enter(seen, order, held.columns, b);
+            require_non_null(cells, b, j);
+            kept[keeps] = node;
+            held.keeps = keeps + 1;
+            held
+        }
+        Conjunct::Opaque => {
+            kept[keeps] = node;
+            held.keeps = keeps + 1;
+            held
+        }
+    }
+}
+
 /// The first n of `nodes` are the screen's conjuncts. `cells` holds empty columns.
 pub fn collect(
     rs: &[u8],
@@ -162,73 +256,36 @@ pub fn collect(
         × NullLines (aexprOf (now (rs .entry)) (now (pool .entry))) (now (nodes .entry)) n (columnsOf (now (cells .exit))) ⌝ }
 {
     let mut seen = [false; 64];
-    let mut columns: usize = 0;
-    let mut keeps: usize = 0;
-    let mut edges: usize = 0;
-    let mut bounds: usize = 0;
-    let mut normalized = false;
-    let mut unsat = false;
+    let mut held = Collection {
+        columns: 0,
+        keeps: 0,
+        edges: 0,
+        bounds: 0,
+        normalized: false,
+        unsat: false,
+    };
     let mut i: usize = 0;
-    while (i < n) & !unsat {
-        let node = nodes[i];
-        let j = i as u8;
-        let k = classify(rs, Node(node));
+    while (i < n) & !held.unsat {
+        held = collect_conjunct(
+            rs,
+            pool,
+            nodes[i],
+            kinds,
+            values,
+            starts,
+            counts,
+            cells,
+            marks,
+            &mut seen,
+            order,
+            kept,
+            lefts,
+            rights,
+            equals,
+            i as u8,
+            held,
+        );
         i += 1;
-        match k {
-            Conjunct::Bounds(a, s) => {
-                columns = enter(&mut seen, order, columns, a);
-                unsat = add_to_column(kinds, values, starts, counts, pool, cells, marks, a, j, s);
-                bounds += 1;
-                continue;
-            }
-            Conjunct::Normalized(a, s) => {
-                columns = enter(&mut seen, order, columns, a);
-                unsat = add_to_column(kinds, values, starts, counts, pool, cells, marks, a, j, s);
-                bounds += 1;
-                normalized = true;
-                continue;
-            }
-            Conjunct::Equality(a, b) => {
-                columns = enter(&mut seen, order, columns, a);
-                require_non_null(cells, a, j);
-                columns = enter(&mut seen, order, columns, b);
-                require_non_null(cells, b, j);
-                lefts[edges] = a.0;
-                rights[edges] = b.0;
-                equals[edges] = node;
-                edges += 1;
-                continue;
-            }
-            Conjunct::Recorded(stops, a, s) => {
-                columns = enter(&mut seen, order, columns, a);
-                unsat = stops
-                    & add_to_column(kinds, values, starts, counts, pool, cells, marks, a, j, s);
-                kept[keeps] = node;
-                keeps += 1;
-                continue;
-            }
-            Conjunct::NonNullPair(a, b) => {
-                columns = enter(&mut seen, order, columns, a);
-                require_non_null(cells, a, j);
-                columns = enter(&mut seen, order, columns, b);
-                require_non_null(cells, b, j);
-                kept[keeps] = node;
-                keeps += 1;
-                continue;
-            }
-            Conjunct::Opaque => {
-                kept[keeps] = node;
-                keeps += 1;
-                continue;
-            }
-        }
     }
-    Collection {
-        columns: columns,
-        keeps: keeps,
-        edges: edges,
-        bounds: bounds,
-        normalized: normalized,
-        unsat: unsat,
-    }
+    held
 }

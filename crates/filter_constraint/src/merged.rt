@@ -1,6 +1,7 @@
 // The stages of the merging up to what it concludes: nothing is written. Each has a function of its own; the table of columns
 // is lent to all of them.
 ghost use mathlib.Core.Path.{_≡_};
+ghost use mathlib.Core.Bool.{true, false};
 ghost use mathlib.Core.List.{map};
 ghost use Prim.Native.Nat.{ℕ, _+_, _*_, _<_, _≤_};
 ghost use lib.ListN.{length, getD, replicate};
@@ -32,6 +33,20 @@ pub struct MergedColumns {
     pub columns: usize,
     pub keeps: usize,
     pub total: usize,
+}
+
+// What is concluded where a conjunct made its column impossible: no row can pass.
+fn stopped(columns: usize, keeps: usize) -> MergedColumns
+    ensures { λ r. ⌜ r ≡ record { unsat = true; unchanged = false; passes = 0; columns = columns; keeps = keeps; total = 0 } ⌝ }
+{
+    MergedColumns {
+        unsat: true,
+        unchanged: false,
+        passes: 0,
+        columns: columns,
+        keeps: keeps,
+        total: 0,
+    }
 }
 
 /// The first n of `nodes` are the screen's conjuncts; kinds, values, starts and counts are their tables. `index` is the index
@@ -89,14 +104,7 @@ pub fn merge_columns(
         equals,
     );
     if s.unsat {
-        return MergedColumns {
-            unsat: true,
-            unchanged: false,
-            passes: 0,
-            columns: s.columns,
-            keeps: s.keeps,
-            total: 0,
-        };
+        return stopped(s.columns, s.keeps);
     }
     let m = propagate_equalities(
         index,

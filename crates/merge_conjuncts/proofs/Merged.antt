@@ -22,7 +22,7 @@ use Rattle.merge.specs.declared.answer.Rewriting.{Rewriting}
 use Rattle.merge.specs.Minterms.{minterms}
 use Rattle.merge.specs.Classify.{classify, readConjuncts}
 use Rattle.merge.specs.Demand.{isRefused}
-use Rattle.merge.specs.Emit.{Outcome, mergeFilterConstraints}
+use Rattle.merge.specs.Emit.{mergeFilterConstraints}
 use Rattle.merge.specs.Passes.{mergePasses, rewritePasses}
 use Rattle.merge.specs.Write.{outcomeBytes}
 use Rattle.merge.specs.Lines.{linesFrom}
@@ -32,6 +32,7 @@ use Rattle.constraints.specs.Lined.{lined}
 use Rattle.reasons.specs.Text.{reasonsText}
 use Rattle.reasons.specs.Explained.{refuseLong, textIf, lengthIf, explainedText, explainedAnswer, explainedBytes}
 use Rattle.filter_constraint.specs.Explained.{nodesText}
+use Rattle.merge_conjuncts.specs.Merged.{mergedNodes, MergedNodes}
 use Rattle.read_operands.specs.Walk.{walked, firstOf}
 use Rattle.reckoning.specs.Reckon.{reckonedAnswer}
 use Rattle.stages.proofs.Answers.{walkedOutcome, rewrite-on}
@@ -52,14 +53,6 @@ no-symbols t table = fun-ext (λ c. fun-ext (λ v. rw (number c)))
         ne-eqb (getD t c 0) 4 (λ e. omega (arith, low, e)))
         (λ h. ap (λ (x : ℕ). eqb x 4) (List·getD-eq-default t 0 {n = c} (ltb-false c (length t) h)))
 
--- The merging of the first n nodes.
-abbrev mergedNodes : List ℕ → List ℕ → List ℕ → ℕ → Outcome ℕ
-mergedNodes rs p nodes n = mergeFilterConstraints payload (map (classify (aexprOf rs p)) (firstOf nodes n))
-
--- Their passes.
-abbrev passesNodes : List ℕ → List ℕ → List ℕ → ℕ → ℕ
-passesNodes rs p nodes n = mergePasses payload (map (classify (aexprOf rs p)) (firstOf nodes n))
-
 -- A refusal says nothing of the passes.
 pub none-said : (a : RewriteAnswer) (k x y : ℕ) → a ≡ answer.Refused k → isRefused a ≡ false → x ≡ y
 none-said a k x y e h = absurd (true≢false (sym (ap isRefused e) ∙ h))
@@ -68,18 +61,14 @@ pub rewrite-merged : (t rs p : List ℕ) (used root : ℕ) → checkAnswer t rs 
     → (trees : List ℕ) → ((a : ℕ) → a ≤ root → getD trees a 0 ≡ min (treeCount rs a) 4097) → treeCount rs root ≤ 4096
     → (nodes : List ℕ) (n : ℕ) → firstOf nodes n ≡ minterms (walked rs) root → n ≤ 128
     → (r : Rewriting) (out buffer after : List ℕ)
-    → r .answer ≡ refuseLong (length (nodesText t rs p nodes n)) (length buffer)
-    (reckonedAnswer (length rs) trees used (mergedNodes rs p nodes n))
-    → out ≡ writtenIf (r .answer) rs (outcomeBytes t rs used (mergedNodes rs p nodes n))
-    → r .passes ≡ passesNodes rs p nodes n
-    → after ≡ textIf (r .answer) buffer (nodesText t rs p nodes n) → r .length ≡ lengthIf (r .answer) (nodesText t rs p nodes n)
+    → MergedNodes t rs p used trees nodes n buffer r out after
     → (r .answer ≡ explainedAnswer t rs p used root (length buffer))
     × ((out ≡ explainedBytes t rs p used root (length buffer))
     × ((isRefused (r .answer) ≡ false → r .passes ≡ rewritePasses rs p used root)
     × ((after ≡ textIf (r .answer) buffer (explainedText rs p used root))
     × (r .length ≡ lengthIf (r .answer) (explainedText rs p used root)))))
 unfolding rewritePasses nodesText explainedText explainedAnswer explainedBytes
-rewrite-merged t rs p used root ok trees counted small nodes n are few r out buffer after e f g x l =
+rewrite-merged t rs p used root ok trees counted small nodes n are few r out buffer after m =
     let good = checked t rs p used root ok in
     let k : n ≡ length (minterms (walked rs) root) = nodes-count t rs p used root good nodes n are in
     let on = rewrite-on t rs p used root ok trees counted small (omega (arith, k, few)) in
@@ -90,20 +79,20 @@ rewrite-merged t rs p used root ok trees counted small nodes n are few r out buf
     let text : nodesText t rs p nodes n ≡ explainedText rs p used root =
     (λ i. reasonsText (reasonsOf (no-symbols t (good .table) i) (mergeFilterConstraints lined (linesFrom 0 (read i))))) in
     let a : r .answer ≡ explainedAnswer t rs p used root (length buffer) =
-    e
+    m .answers
     ∙ ap (λ c. refuseLong (length c) (length buffer) (reckonedAnswer (length rs) trees used (mergedNodes rs p nodes n))) text
     ∙ ap (λ c. refuseLong (length (explainedText rs p used root)) (length buffer) c)
     (ap (reckonedAnswer (length rs) trees used) o ∙ sym (on .0)) in (
       a,
       (
-        f
+        m .writes
             ∙ ap (λ c. writtenIf (r .answer) rs (outcomeBytes t rs used (mergeFilterConstraints payload c))) read
             ∙ ap (λ c. writtenIf c rs (outcomeBytes t rs used (outcomeOf rs p used root))) a,
         (
-          λ h. g
+          λ h. m .counts
               ∙ ap (λ l. mergePasses payload (map (classify (aexprOf rs p)) l)) are
               ∙ sym (ap (mergePasses payload) (conjuncts-used t rs p used root good)),
-          (x ∙ ap (textIf (r .answer) buffer) text, l ∙ ap (lengthIf (r .answer)) text),
+          (m .tells ∙ ap (textIf (r .answer) buffer) text, m .measures ∙ ap (lengthIf (r .answer)) text),
         ),
       ),
     )

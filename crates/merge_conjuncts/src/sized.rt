@@ -1,16 +1,24 @@
 // The merging with tables for few conjuncts, or for as many as a screen may have.
 ghost use mathlib.Core.Path.{_≡_};
-ghost use Prim.Native.Nat.{ℕ, _≤_, min};
+ghost use Prim.Native.Nat.{ℕ, _<_, _≤_, min};
 ghost use lib.ListN.{length, getD};
 ghost use Rattle.checking.specs.Check.{checkAnswer};
 ghost use Rattle.checking.specs.Tree.{treeCount};
 ghost use Rattle.checking.specs.declared.check.CheckAnswer.the-variants as check;
 ghost use mathlib.Core.Bool.{false};
+ghost use Rattle.truth.specs.FromBytes.{aexprOf};
+ghost use Rattle.column_constraints.specs.Abstraction.{conjuncts};
+ghost use Rattle.filter_constraint.specs.Room.{Room};
+ghost use Rattle.merge.specs.Classify.{classify};
 ghost use Rattle.merge.specs.Demand.{isRefused};
 ghost use Rattle.merge.specs.Minterms.{minterms};
 ghost use Rattle.merge.specs.Passes.{rewritePasses};
 ghost use Rattle.reasons.specs.Explained.{explainedAnswer, explainedBytes, explainedText, textIf, lengthIf};
 ghost use Rattle.read_operands.specs.Walk.{walked, firstOf};
+ghost use Rattle.rewrite.specs.Told.{ToldConjunct};
+ghost use Rattle.stages.specs.Columns.{ColumnsBelow};
+ghost use Rattle.stages.specs.Rows.{stride};
+ghost use Rattle.merge_conjuncts.specs.Merged.{MergedNodes};
 use crate::far::travels_far;
 use crate::indexed::merge_indexed;
 use filter_constraint::merging::merge_filter_constraints;
@@ -18,9 +26,84 @@ use merge::answer::Rewriting;
 use records::record::Node;
 use rewrite::literals::read_literals;
 
+// The merging of conjuncts whose literals are read, in tables for few. The index of the lists has a frame of its own, which the
+// compiler keeps apart because two functions call it: a frame so large costs time even where it is not used.
+fn merge_few_read(
+    t: &[u8],
+    rs: &mut [u8],
+    p: &[u8],
+    used: u32,
+    trees: &[u16],
+    nodes: &[u32],
+    n: usize,
+    kinds: &[u8],
+    values: &[u64],
+    starts: &[u32],
+    counts: &[u32],
+    marks: &mut [u8],
+    order: &mut [u32],
+    kept: &mut [u32],
+    lefts: &mut [u32],
+    rights: &mut [u32],
+    equals: &mut [u32],
+    reasons: &mut [u8],
+) -> Rewriting
+    requires { ⌜ (n ≤ stride (now marks)) × (stride (now marks) ≤ 128) × (used ≤ 4096) × (n ≤ length (now nodes)) ⌝ }
+    requires { ⌜ Room n (now order) (now kept) (now lefts) (now rights) (now equals) ⌝ }
+    requires { ⌜ ((i : ℕ) → i < n → ToldConjunct (conjuncts (now kinds) (now values) (now starts) (now counts) (now p)) i
+        (classify (aexprOf (now rs) (now p)) (getD (now nodes) i 0))) ⌝ }
+    requires { ⌜ ((i : ℕ) → i < n → ColumnsBelow 64 (classify (aexprOf (now rs) (now p)) (getD (now nodes) i 0))) ⌝ }
+    ensures { λ r. ⌜ MergedNodes (now (t .entry)) (now (rs .entry)) (now (p .entry)) used (now (trees .entry))
+        (now (nodes .entry)) n (now (reasons .entry)) r (now (rs .exit)) (now (reasons .exit)) ⌝ }
+{
+    if travels_far(rs, nodes, n, starts, counts) {
+        return merge_indexed(
+            t,
+            rs,
+            p,
+            used,
+            trees,
+            nodes,
+            n,
+            kinds,
+            values,
+            starts,
+            counts,
+            marks,
+            order,
+            kept,
+            lefts,
+            rights,
+            equals,
+            reasons,
+        );
+    }
+    let none = [0u64; 1];
+    merge_filter_constraints(
+        t,
+        rs,
+        p,
+        used,
+        trees,
+        nodes,
+        n,
+        kinds,
+        values,
+        starts,
+        counts,
+        &none,
+        marks,
+        order,
+        kept,
+        lefts,
+        rights,
+        equals,
+        reasons,
+    )
+}
+
 // The merging of the first n nodes, the conjuncts of an accepted screen. Most screens have few: then the tables and rows for
-// 128 need not be cleared. The index of the lists has a frame of its own, which the compiler keeps apart because two functions
-// call it: a frame so large costs time even where it is not used.
+// 128 need not be cleared.
 pub fn merge_few(
     t: &[u8],
     rs: &mut [u8],
@@ -57,7 +140,6 @@ pub fn merge_few(
     let mut lefts = [0u32; 16];
     let mut rights = [0u32; 16];
     let mut equals = [0u32; 16];
-    let none = [0u64; 1];
     read_literals(
         rs,
         nodes,
@@ -67,29 +149,7 @@ pub fn merge_few(
         &mut starts,
         &mut counts,
     );
-    if travels_far(rs, nodes, n, &starts, &counts) {
-        return merge_indexed(
-            t,
-            rs,
-            p,
-            used,
-            trees,
-            nodes,
-            n,
-            &kinds,
-            &values,
-            &starts,
-            &counts,
-            &mut marks,
-            &mut order,
-            &mut kept,
-            &mut lefts,
-            &mut rights,
-            &mut equals,
-            reasons,
-        );
-    }
-    merge_filter_constraints(
+    merge_few_read(
         t,
         rs,
         p,
@@ -101,13 +161,87 @@ pub fn merge_few(
         &values,
         &starts,
         &counts,
-        &none,
         &mut marks,
         &mut order,
         &mut kept,
         &mut lefts,
         &mut rights,
         &mut equals,
+        reasons,
+    )
+}
+
+// The same in tables for many: the second function that calls the index.
+fn merge_many_read(
+    t: &[u8],
+    rs: &mut [u8],
+    p: &[u8],
+    used: u32,
+    trees: &[u16],
+    nodes: &[u32],
+    n: usize,
+    kinds: &[u8],
+    values: &[u64],
+    starts: &[u32],
+    counts: &[u32],
+    marks: &mut [u8],
+    order: &mut [u32],
+    kept: &mut [u32],
+    lefts: &mut [u32],
+    rights: &mut [u32],
+    equals: &mut [u32],
+    reasons: &mut [u8],
+) -> Rewriting
+    requires { ⌜ (n ≤ stride (now marks)) × (stride (now marks) ≤ 128) × (used ≤ 4096) × (n ≤ length (now nodes)) ⌝ }
+    requires { ⌜ Room n (now order) (now kept) (now lefts) (now rights) (now equals) ⌝ }
+    requires { ⌜ ((i : ℕ) → i < n → ToldConjunct (conjuncts (now kinds) (now values) (now starts) (now counts) (now p)) i
+        (classify (aexprOf (now rs) (now p)) (getD (now nodes) i 0))) ⌝ }
+    requires { ⌜ ((i : ℕ) → i < n → ColumnsBelow 64 (classify (aexprOf (now rs) (now p)) (getD (now nodes) i 0))) ⌝ }
+    ensures { λ r. ⌜ MergedNodes (now (t .entry)) (now (rs .entry)) (now (p .entry)) used (now (trees .entry))
+        (now (nodes .entry)) n (now (reasons .entry)) r (now (rs .exit)) (now (reasons .exit)) ⌝ }
+{
+    if travels_far(rs, nodes, n, starts, counts) {
+        return merge_indexed(
+            t,
+            rs,
+            p,
+            used,
+            trees,
+            nodes,
+            n,
+            kinds,
+            values,
+            starts,
+            counts,
+            marks,
+            order,
+            kept,
+            lefts,
+            rights,
+            equals,
+            reasons,
+        );
+    }
+    let none = [0u64; 1];
+    merge_filter_constraints(
+        t,
+        rs,
+        p,
+        used,
+        trees,
+        nodes,
+        n,
+        kinds,
+        values,
+        starts,
+        counts,
+        &none,
+        marks,
+        order,
+        kept,
+        lefts,
+        rights,
+        equals,
         reasons,
     )
 }
@@ -148,7 +282,6 @@ pub fn merge_many(
     let mut lefts = [0u32; 128];
     let mut rights = [0u32; 128];
     let mut equals = [0u32; 128];
-    let none = [0u64; 1];
     read_literals(
         rs,
         nodes,
@@ -158,29 +291,7 @@ pub fn merge_many(
         &mut starts,
         &mut counts,
     );
-    if travels_far(rs, nodes, n, &starts, &counts) {
-        return merge_indexed(
-            t,
-            rs,
-            p,
-            used,
-            trees,
-            nodes,
-            n,
-            &kinds,
-            &values,
-            &starts,
-            &counts,
-            &mut marks,
-            &mut order,
-            &mut kept,
-            &mut lefts,
-            &mut rights,
-            &mut equals,
-            reasons,
-        );
-    }
-    merge_filter_constraints(
+    merge_many_read(
         t,
         rs,
         p,
@@ -192,7 +303,6 @@ pub fn merge_many(
         &values,
         &starts,
         &counts,
-        &none,
         &mut marks,
         &mut order,
         &mut kept,

@@ -137,6 +137,59 @@ fn connect_record(
     connect_masks(f.code, s, t)
 }
 
+// The comparisons and connectives.
+fn operator_record(
+    records: &[u8],
+    pool: &[u8],
+    values: &[u8],
+    nulls: &[u64],
+    columns: usize,
+    base: usize,
+    rows: usize,
+    truths: &[u64],
+    unknowns: &[u64],
+    n: Node,
+    f: Fields,
+    keys: &mut [u64],
+) -> Masks
+    requires { ⌜ Turn (now records) (now pool) columns (now values) (now nulls) base rows (now truths) (now unknowns) n f ⌝ }
+    requires { ⌜ 192 ≤ length (now keys) ⌝ }
+    requires { ⌜ f .kind ≡ 4 ⌝ }
+    ensures { λ r. ⌜ Tells rows r (λ (i : ℕ). chainTruth (now (records .entry)) (now (pool .entry)) columns
+        (now (values .entry)) (now (nulls .entry)) (n .0) (base + i)) ⌝ }
+{
+    if f.code < 8 {
+        return compare_record(
+            records,
+            pool,
+            values,
+            nulls,
+            columns,
+            base,
+            rows,
+            truths,
+            unknowns,
+            n,
+            f,
+            keys,
+        );
+    }
+    connect_record(
+        records,
+        pool,
+        values,
+        nulls,
+        columns,
+        base,
+        rows,
+        truths,
+        unknowns,
+        n,
+        f,
+        keys,
+    )
+}
+
 // is_null and is_not_null.
 fn null_record(
     records: &[u8],
@@ -395,23 +448,7 @@ pub fn record_masks(
         (now (values .entry)) (now (nulls .entry)) (n .0) (base + i)) ⌝ }
 {
     if f.kind == 4 {
-        if f.code < 8 {
-            return compare_record(
-                records,
-                pool,
-                values,
-                nulls,
-                columns,
-                base,
-                rows,
-                truths,
-                unknowns,
-                n,
-                f,
-                keys,
-            );
-        }
-        return connect_record(
+        return operator_record(
             records,
             pool,
             values,

@@ -3,7 +3,6 @@ use mathlib.Core.Path.{_≡_, refl, sym, _∙_, ap, subst, fun-ext}
 use mathlib.Core.Bool.{Bool, true, false, not, cond, _||_}
 use mathlib.Core.List.{List, map}
 use Prim.Native.Nat.{ℕ, _<_, _^_}
-use lib.ListN.{length}
 use Rattle.truth.specs.AExpr.{AExpr}
 use Rattle.constraints.specs.Column as q
 use Rattle.constraints.specs.Column.{isNullRequired}
@@ -21,10 +20,9 @@ use Rattle.merge.specs.Write.{splice}
 use Rattle.merge.proofs.Carried.{mapCollected, carried-collect, carried-resolved, lines-back}
 use Rattle.masks.specs.Masks.{maskTo}
 use Rattle.read_operands.specs.Walk.{firstOf}
-use Rattle.read_operands.proofs.Walks.{first-length}
-use Rattle.column_table.specs.State.{ColumnTable, Shows, edgesOf, Collects, collectTo, Spread, Resolved, resolvedIn}
+use Rattle.column_table.specs.State.{ColumnTable, Shows, edgesOf, Collects, collectTo, Resolved, resolvedIn}
 use Rattle.judge_lines.specs.Lines.{nothingPasses}
-use Rattle.show_row.proofs.Nothing.{nothing-resolved}
+use Rattle.show_row.proofs.Nothing.{resolved-all, nothing-resolved}
 use Rattle.row_shown.specs.Shown.{exactly, valuePlace, nullIn, placeIn, placeShown, placesBytes}
 use Rattle.row_shown.specs.Bits.{bitsColumn}
 use Rattle.show_row.specs.declared.answer.ShowAnswer.the-variants as show
@@ -77,20 +75,19 @@ collected-bits R nodes n =
     carried-collect (linesFrom 0 (map (classify R) (firstOf nodes n)))
     ∙ ap (λ l. collect payload l begin) (lines-back 0 (map (classify R) (firstOf nodes n)))
 
-module _ (R : ℕ → AExpr ℕ) (nodes : List ℕ) (n : ℕ) (t : Conjuncts) (table₁ table₂ table₃ : List ColumnConstraints)
-    (ms₁ ms₂ ms₃ : List ℕ) (seen : List Bool) (order : List ℕ) (columns : ℕ) (kept₁ : List ℕ) (keeps₁ : ℕ)
+module _ (R : ℕ → AExpr ℕ) (nodes : List ℕ) (n : ℕ) (t : Conjuncts) (table₁ table₂ : List ColumnConstraints)
+    (ms₁ ms₂ : List ℕ) (seen : List Bool) (order : List ℕ) (columns : ℕ) (kept₁ : List ℕ) (keeps₁ : ℕ)
     (lefts rights equals : List ℕ) (edges bounds : ℕ) (normalized stop : Bool)
     (C : Collects t table₁ ms₁ seen order columns kept₁ keeps₁ lefts rights equals edges bounds normalized stop
     (collectTo R nodes n))
-    (live : stop ≡ false) (emitted : Bool) (passes : ℕ)
-    (spread : (T : ColumnTable) (equals : List ℕ) → Shows t table₁ ms₁ T
-    → Spread t table₂ ms₂ (edgesOf lefts rights equals edges) columns emitted passes T)
-    (unsat : Bool) (total : ℕ)
-    (resolving : (T : ColumnTable) → Shows t table₂ ms₂ T → Resolved t table₃ ms₃ (firstOf order columns) false unsat total T) where
+    (live : stop ≡ false) (unsat : Bool) (total : ℕ)
+    (resolving : (T : ColumnTable) (equals : List ℕ) → Shows t table₁ ms₁ T
+    → Resolved t table₂ ms₂ (firstOf order columns) false unsat total
+    (propagate lined columns (edgesOf lefts rights equals edges) T)) where
   answered : unsat ≡ nothingPasses R (firstOf nodes n)
   answered =
-      nothing-resolved R nodes n t table₁ table₂ table₃ ms₁ ms₂ ms₃ seen order columns kept₁ keeps₁ lefts rights equals edges
-      bounds normalized stop C live emitted passes spread unsat total resolving
+      nothing-resolved R nodes n t table₁ table₂ ms₁ ms₂ seen order columns kept₁ keeps₁ lefts rights equals edges bounds
+      normalized stop C live unsat total resolving
 
   pub row-dead : unsat ≡ true → (k : ℕ) → show.NoRow ≡ rowAnswer R (firstOf nodes n) k
   row-dead h k = no-row R (firstOf nodes n) k (sym h ∙ answered)
@@ -98,16 +95,13 @@ module _ (R : ℕ → AExpr ℕ) (nodes : List ℕ) (n : ℕ) (t : Conjuncts) (t
   s : Collected Lined
   s = collectTo R nodes n
 
-  spread-shown : Shows t table₂ ms₂ (propagated lined (collectTo R nodes n))
-  spread-shown =
-      subst (Shows t table₂ ms₂)
-      (ap (λ k. propagate lined k (edgesOf lefts rights equals edges) (collectTo R nodes n .constraints))
-      (sym (first-length order columns) ∙ ap length (C .entered .listed))
-      ∙ ap (λ es. propagate lined (length (collectTo R nodes n .order)) es (collectTo R nodes n .constraints))
-      (C .linked .listed)) (spread (collectTo R nodes n .constraints) equals (C .shows) .shows)
+  all-resolved : Resolved t table₂ ms₂ (firstOf order columns) false unsat total (propagated lined (collectTo R nodes n))
+  all-resolved =
+      resolved-all R nodes n t table₁ table₂ ms₁ ms₂ seen order columns kept₁ keeps₁ lefts rights equals edges bounds
+      normalized stop C live unsat total resolving
 
   module _ (k : ℕ) (old row : List ℕ) (nulls : ℕ)
-      (writes : (T : ColumnTable) → Shows t table₃ ms₃ T
+      (writes : (T : ColumnTable) → Shows t table₂ ms₂ T
       → RowWritten (firstOf order columns) (λ c. bitsColumn (T c)) k old row nulls) where
     abbrev Whole : Collected ℕ → Type 0
     Whole s = RowWritten (s .order) (resolved payload s) k old row nulls
@@ -120,7 +114,7 @@ module _ (R : ℕ → AExpr ℕ) (nodes : List ℕ) (n : ℕ) (t : Conjuncts) (t
         (C .entered .listed)
         (written-all (firstOf order columns) (propagated lined (collectTo R nodes n)) k old row nulls
         (writes (resolvedIn (firstOf order columns) (propagated lined (collectTo R nodes n)))
-        (resolving (propagated lined (collectTo R nodes n)) spread-shown .shows)))))
+        (all-resolved .shows)))))
 
     pub row-answer : unsat ≡ false → show.Row nulls ≡ rowAnswer R (firstOf nodes n) k
     unfolding shownNulls

@@ -1,11 +1,18 @@
 // The merging of the lines, and the row that its resolved columns give.
 ghost use mathlib.Core.Path.{_≡_};
+ghost use mathlib.Core.Bool.{false};
+ghost use mathlib.Core.List.{List};
 ghost use Prim.Native.Nat.{ℕ, _*_, _<_, _≤_};
 ghost use lib.ListN.{length, getD};
 ghost use Rattle.truth.specs.FromBytes.{aexprOf};
+ghost use Rattle.constraints.specs.Lined.{lined};
 ghost use Rattle.column_constraints.specs.Abstraction.{conjuncts};
 ghost use Rattle.column_sets.specs.Index.{Indexed};
+ghost use Rattle.column_table.specs.State.{ColumnTable, Shows, Fits, EdgesBelow, edgesOf, Resolved};
+ghost use Rattle.column_table.specs.Words.{columnsOf};
 ghost use Rattle.merge.specs.Classify.{classify};
+ghost use Rattle.merge.specs.Collect.{isIn};
+ghost use Rattle.merge.specs.Propagate.{propagate};
 ghost use Rattle.read_operands.specs.Walk.{firstOf};
 ghost use Rattle.rewrite.specs.Told.{ToldConjunct};
 ghost use Rattle.stages.specs.Columns.{ColumnsBelow};
@@ -16,8 +23,66 @@ ghost use Rattle.show_row.specs.Low.{LowWholes};
 use crate::answer::ShowAnswer;
 use collect_constraints::collect::collect;
 use propagate_equalities::propagate::propagate_equalities;
+use resolve_columns::conclude::ResolvedColumns;
 use resolve_columns::conclude::resolve_all;
 use write_places::write_places;
+
+// Stages 2 and 3 of the merging: the equalities are followed, then what was deferred is resolved.
+fn propagate_and_resolve(
+    index: &[u64],
+    kinds: &[u8],
+    values: &[u64],
+    starts: &[u32],
+    counts: &[u32],
+    p: &[u8],
+    cells: &mut [u64],
+    marks: &mut [u8],
+    order: &[u32],
+    lefts: &[u32],
+    rights: &[u32],
+    edges: usize,
+    columns: usize,
+) -> ResolvedColumns
+    requires { ⌜ Fits (now cells) (now marks) × (edges ≤ length (now lefts)) × (edges ≤ length (now rights))
+        × (columns ≤ length (now order)) × (columns ≤ 256) × Indexed (now starts) (now counts) (now p) (now index) ⌝ }
+    requires { ⌜ EdgesBelow (now lefts) (now rights) edges ⌝ }
+    requires { ⌜ ((o : ℕ) → o < columns → (getD (now order) o 0 < 64) ×
+        (isIn (getD (now order) o 0) (firstOf (now order) o) ≡ false)) ⌝ }
+    ensures { λ r. ⌜ (let t = conjuncts (now (kinds .entry)) (now (values .entry)) (now (starts .entry))
+        (now (counts .entry)) (now (p .entry)) in (T : ColumnTable) (equals : List ℕ) →
+        Shows t (columnsOf (now (cells .entry))) (now (marks .entry)) T →
+        Resolved t (columnsOf (now (cells .exit))) (now (marks .exit)) (firstOf (now (order .entry)) columns) false
+        (r .unsat) (r .total)
+        (propagate lined columns (edgesOf (now (lefts .entry)) (now (rights .entry)) equals edges) T)) ⌝ }
+    ensures { λ _. ⌜ length (now (cells .exit)) ≡ 448 ⌝ }
+{
+    propagate_equalities(
+        index,
+        kinds,
+        values,
+        starts,
+        counts,
+        p,
+        cells,
+        marks,
+        lefts,
+        rights,
+        edges,
+        columns,
+    );
+    resolve_all(
+        index,
+        kinds,
+        values,
+        starts,
+        counts,
+        p,
+        cells,
+        marks,
+        order,
+        columns,
+    )
+}
 
 /// The first n of `nodes` are the lines of a plain screen; kinds, values, starts and counts are their tables, `index` is the
 /// index of the lists or has none, `marks` has room for the columns' numbers, `row` has room for the columns' places.
@@ -71,21 +136,7 @@ pub fn show_lines(
     if s.unsat {
         return ShowAnswer::NoRow;
     }
-    propagate_equalities(
-        index,
-        kinds,
-        values,
-        starts,
-        counts,
-        p,
-        &mut cells,
-        marks,
-        &lefts,
-        &rights,
-        s.edges,
-        s.columns,
-    );
-    let r = resolve_all(
+    let r = propagate_and_resolve(
         index,
         kinds,
         values,
@@ -95,6 +146,9 @@ pub fn show_lines(
         &mut cells,
         marks,
         &order,
+        &lefts,
+        &rights,
+        s.edges,
         s.columns,
     );
     if r.unsat {

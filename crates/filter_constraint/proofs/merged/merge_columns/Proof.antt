@@ -4,6 +4,7 @@ use Rattle.filter_constraint.proofs.merged.merge_columns.Tie as tie
 use Rattle.filter_constraint.proofs.merged.merge_columns.Reads as reads
 use Rattle.filter_constraint.proofs.merged.merge_columns.Lts as lts
 use Rattle.collect_constraints.proofs.collect.collect.Reads as collect-reads
+use Rattle.filter_constraint.proofs.merged.stopped.Reads as stopped-reads
 use Rattle.propagate_equalities.proofs.propagate.propagate_equalities.Reads as propagate-equalities-reads
 use Rattle.resolve_columns.proofs.conclude.keep_equalities.Reads as keep-equalities-reads
 use Rattle.resolve_columns.proofs.conclude.resolve_all.Reads as resolve-all-reads
@@ -14,7 +15,7 @@ use lib.ListN.{length, getD}
 use Rattle.truth.specs.FromBytes.{aexprOf}
 use Rattle.filter_constraint.proofs.Concluding.{passesTo, passes-stopped, passes-is, passes-are, lined-is, concluded-stopped, concluded}
 
--- src/merged.rt:74:9
+-- src/merged.rt:89:9
 collect-requires : tie.Need-collect-requires
 collect-requires c κs =
     let st = c .before .before .before .before .before .before .before .before .before .before .before .before
@@ -35,66 +36,77 @@ collect-requires c κs =
       (st .pre .1 .1 .0, st .pre .1 .1 .1),
     )
 
--- src/merged.rt:92:9
+-- src/merged.rt:107:9
+stopped-requires : tie.Need-stopped-requires
+stopped-requires c κs = search needs
+
+-- src/merged.rt:107:9
 same-length : tie.Need-same-length
 same-length c = search needs
 
--- src/merged.rt:92:9
+-- src/merged.rt:107:9
 same-length-2 : tie.Need-same-length-2
 same-length-2 c = search needs
 
--- src/merged.rt:92:9
+-- src/merged.rt:107:9
 same-length-3 : tie.Need-same-length-3
 same-length-3 c = search needs
 
--- src/merged.rt:92:9
+-- src/merged.rt:107:9
 same-length-4 : tie.Need-same-length-4
 same-length-4 c = search needs
 
--- src/merged.rt:92:9
+-- src/merged.rt:107:9
 same-length-5 : tie.Need-same-length-5
 same-length-5 c = search needs
 
--- src/merged.rt:92:9
+-- src/merged.rt:107:9
 same-length-6 : tie.Need-same-length-6
 same-length-6 c = search needs
 
--- src/merged.rt:92:9
+-- src/merged.rt:107:9
 same-length-7 : tie.Need-same-length-7
 same-length-7 c = search needs
 
--- src/merged.rt:92:9
+-- src/merged.rt:107:9
 returns : tie.Need-returns
 returns c =
     let st = c .before .before .before .before .before .before .before .before .before .before .before .before
     .before .before .before .before .before .before .before .before .before .before .before .before .before
     .before .before .before .before .before .before .before .before .before .before .before .before .before
-    in
+    .before in
     let collect = c .before .before .before .before .before .before .before .before .before .before .before
-    .before .before .before .before .collect in
-    let if1 = c .if1 in (
-      concluded-stopped _ _ _ _ _ _ _ _ _ _ (collect .ensures .0 .1 .stops) (if1 .taken),
+    .before .before .before .before .before .collect in
+    let if1 = c .before .if1 in
+    let stopped = c .stopped in (
+      rw (stopped .ensures) (concluded-stopped _ _ _ _ _ _ _ _ _ _ (collect .ensures .0 .1 .stops) (if1
+          .taken)),
       (
-        passes-stopped _ _ _
-            _ (collect .ensures .0 .1 .stops) (if1 .taken),
-        (
-          record {
-            size = collect .ensures .1 .3;
-            narrow = omega
-                (arith, collect .ensures .1 .4, st .pre .0 .1);
-            fine = collect .ensures .0 .1 .shows .fine;
-          },
-          collect
-              .ensures .1 .0,
-          omega (arith, collect .ensures .1 .1),
-          omega arith,
-          (λ o h. collect .ensures .0 .1 .entered
-              .low o h),
-        ),
+        rw (stopped .ensures) (passes-stopped _ _ _ _ (collect .ensures .0 .1 .stops) (if1 .taken)),
+        rw
+            (stopped .ensures) (
+              record {
+                size = collect .ensures .1 .3;
+                narrow = omega (
+                  arith,
+                  collect .ensures .1 .4,
+                  st .pre .0 .1,
+                );
+                fine = collect .ensures .0 .1 .shows .fine;
+              },
+              collect .ensures .1 .0,
+              omega (
+                arith,
+                collect
+                    .ensures .1 .1,
+              ),
+              omega arith,
+              (λ o h. collect .ensures .0 .1 .entered .low o h),
+            ),
       ),
     )
 
--- src/merged.rt:101:9
+-- src/merged.rt:109:9
 propagate-equalities-requires : tie.Need-propagate-equalities-requires
 propagate-equalities-requires c κs =
     let st = c .before .before .before .before .before .before .before .before .before .before .before .before
@@ -141,7 +153,7 @@ propagate-equalities-requires c κs =
       ),
     )
 
--- src/merged.rt:115:9
+-- src/merged.rt:123:9
 keep-equalities-requires : tie.Need-keep-equalities-requires
 keep-equalities-requires c κs =
     let st = c .before .before .before .before .before .before .before .before .before .before .before .before
@@ -197,7 +209,7 @@ keep-equalities-requires c κs =
       λ e h. collect .ensures .0 .1 .linked .low-left e h,
     )
 
--- src/merged.rt:116:9
+-- src/merged.rt:124:9
 resolve-all-requires : tie.Need-resolve-all-requires
 resolve-all-requires c κs =
     let st = c .before .before .before .before .before .before .before .before .before .before .before .before
@@ -241,7 +253,7 @@ resolve-all-requires c κs =
       ),
     )
 
--- src/merged.rt:41:1
+-- src/merged.rt:56:1
 same-length-8 : tie.Need-same-length-8
 same-length-8 c =
     let cells = c .before .before .before .before .before .before .before .before .before .before .before
@@ -254,7 +266,7 @@ same-length-8 c =
     let cells3 = c .before .before .before .before .before .before .before .before .cells3 in
     cells3 .given ∙ cells2 .given ∙ cells .given
 
--- src/merged.rt:41:1
+-- src/merged.rt:56:1
 same-length-9 : tie.Need-same-length-9
 same-length-9 c =
     let marks = c .before .before .before .before .before .before .before .before .before .before .before
@@ -266,7 +278,7 @@ same-length-9 c =
     let marks3 = c .before .before .before .before .before .before .marks3 in
     marks3 .given ∙ marks2 .given ∙ marks .given
 
--- src/merged.rt:41:1
+-- src/merged.rt:56:1
 same-length-10 : tie.Need-same-length-10
 same-length-10 c =
     let order = c .before .before .before .before .before .before .before .before .before .before .before
@@ -275,7 +287,7 @@ same-length-10 c =
     .before .before .order in
     order .given
 
--- src/merged.rt:41:1
+-- src/merged.rt:56:1
 same-length-11 : tie.Need-same-length-11
 same-length-11 c =
     let kept = c .before .before .before .before .before .before .before .before .before .before .before .before
@@ -285,7 +297,7 @@ same-length-11 c =
     .before .before .before .kept2 in
     kept2 .given ∙ kept .given
 
--- src/merged.rt:41:1
+-- src/merged.rt:56:1
 same-length-12 : tie.Need-same-length-12
 same-length-12 c =
     let lefts = c .before .before .before .before .before .before .before .before .before .before .before
@@ -293,7 +305,7 @@ same-length-12 c =
     .before .before .before .before .before .before .before .before .before .before .before .lefts in
     lefts .given
 
--- src/merged.rt:41:1
+-- src/merged.rt:56:1
 same-length-13 : tie.Need-same-length-13
 same-length-13 c =
     let rights = c .before .before .before .before .before .before .before .before .before .before .before
@@ -301,7 +313,7 @@ same-length-13 c =
     .before .before .before .before .before .before .before .before .before .rights in
     rights .given
 
--- src/merged.rt:41:1
+-- src/merged.rt:56:1
 same-length-14 : tie.Need-same-length-14
 same-length-14 c =
     let equals = c .before .before .before .before .before .before .before .before .before .before .before
@@ -309,7 +321,7 @@ same-length-14 c =
     .before .before .before .before .before .before .before .equals in
     equals .given
 
--- src/merged.rt:41:1
+-- src/merged.rt:56:1
 returns-2 : tie.Need-returns-2
 returns-2 c =
     let collect = c .before .before .before .before .before .before .before .before .before .before .before
@@ -341,8 +353,8 @@ returns-2 c =
             collect .ensures .1 .1,
           ),
           omega (arith, resolve-all .ensures .1 .1, collect .ensures .1 .0),
-          (λ o h. collect
-              .ensures .0 .1 .entered .low o h),
+          (λ o h.
+              collect .ensures .0 .1 .entered .low o h),
         ),
       ),
     )
@@ -352,6 +364,7 @@ merge-columns-spec =
     tie.close
     (tie.spec
     collect-requires
+    stopped-requires
     same-length
     same-length-2
     same-length-3
