@@ -313,20 +313,52 @@ static void make_wide_chain(int any)
     }
 }
 
-/* is_in of each column in turn, or of its quotient by 1, each over half of a pool of so many different odd numbers. */
-static int wide_lists(const char *name, unsigned count, unsigned different, int divided)
+enum asked { COLUMN, QUOTIENT, LITERAL };
+
+/* A pool of so many different odd numbers. */
+static void make_wide_pool(unsigned different)
 {
-    uint32_t top = 0, one;
     make(&now, SCREEN_MAX_COLUMNS, SCREEN_TYPE_INT);
     for (unsigned i = 0; i < SCREEN_MAX_POOL_VALUES; i++)
         screen_put_pool(&now.s, 2 * (int64_t)(i * 2654435761u % different) + 1);
+}
+
+/* is_in of a column, each in its turn, of its quotient by 1 or of a literal, over half of the pool. */
+static uint32_t wide_list(unsigned n, enum asked of, uint32_t one)
+{
+    uint32_t x, part;
+    if (of == LITERAL)
+        x = screen_put_int(&now.s, 2 * (int64_t)(n % 4096) + 1);
+    else
+        x = screen_put_column(&now.s, n % SCREEN_MAX_COLUMNS);
+    if (of == QUOTIENT)
+        x = screen_put_floor_divide(&now.s, x, one);
+    part = screen_put(&now.s, SCREEN_KIND_LIST, 0, SCREEN_TYPE_INT, n * 977 % 4097, 4096, 0);
+    return screen_put_is_in(&now.s, x, part, 0);
+}
+
+static int wide_lists(const char *name, unsigned count, unsigned different, enum asked of)
+{
+    uint32_t top = 0, one;
+    make_wide_pool(different);
     one = screen_put_int(&now.s, 1);
     for (unsigned n = 0; n < count; n++) {
-        uint32_t column = screen_put_column(&now.s, n % SCREEN_MAX_COLUMNS);
-        uint32_t x = divided ? screen_put_floor_divide(&now.s, column, one) : column;
-        uint32_t part = screen_put(&now.s, SCREEN_KIND_LIST, 0, SCREEN_TYPE_INT, n * 977 % 4097, 4096, 0);
-        uint32_t next = screen_put_is_in(&now.s, x, part, 0);
+        uint32_t next = wide_list(n, of, one);
         top = n == 0 ? next : screen_put_or(&now.s, top, next);
+    }
+    return family(name);
+}
+
+/* The same, whether what is told so far lies between the next two: three and a half records a list instead of four. */
+static int between_lists(const char *name, unsigned count, unsigned different, enum asked of)
+{
+    uint32_t top, one;
+    make_wide_pool(different);
+    one = screen_put_int(&now.s, 1);
+    top = wide_list(0, of, one);
+    for (unsigned n = 1; n + 1 < count; n += 2) {
+        uint32_t low = wide_list(n, of, one);
+        top = screen_put_between(&now.s, SCREEN_CLOSED_BOTH, top, low, wide_list(n + 1, of, one));
     }
     return family(name);
 }
@@ -382,9 +414,14 @@ int main(void)
     differ |= lists("1,024 lists that have every row's value", 1024, 1);
     differ |= nested_lists();
     make_wide_chain(0);
-    differ |= wide_lists("1,023 lists over 64 columns", 1023, 8192, 0);
-    differ |= wide_lists("the same, each value twice in the pool", 1023, 4096, 0);
-    differ |= wide_lists("682 lists of divisions over 64 columns", 682, 8192, 1);
+    differ |= wide_lists("1,023 lists over 64 columns", 1023, 8192, COLUMN);
+    differ |= wide_lists("the same, each value twice in the pool", 1023, 4096, COLUMN);
+    differ |= wide_lists("the same, each value 91 times", 1023, 90, COLUMN);
+    differ |= between_lists("1,169 lists between one another, each value twice", 1169, 4096, COLUMN);
+    differ |= wide_lists("1,023 lists of literals, each value twice", 1023, 4096, LITERAL);
+    differ |= wide_lists("682 lists of divisions over 64 columns", 682, 8192, QUOTIENT);
+    differ |= wide_lists("the same, each value twice in the pool", 682, 4096, QUOTIENT);
+    differ |= between_lists("743 lists of divisions between one another, so too", 743, 4096, QUOTIENT);
     make_wide_chain(1);
     differ |= division_trees();
     printf("goals met: %u of %u\n", met, goals);

@@ -25,7 +25,7 @@ use Rattle.truth.specs.FromBytes.{valuesFrom}
 use Rattle.truth.specs.Evaluate.{holdsKey, memberOf}
 use Rattle.membership.proofs.Lists.{list-more, list-found, list-done, list-start, member-null, member-known}
 use Rattle.masks.specs.declared.Masks.{Masks}
-use Rattle.masks.specs.Masks.{isUnknown, inverse, Tells, KeyAt, isNull, isKey, Shown}
+use Rattle.masks.specs.Masks.{isUnknown, inverse, maskTo, Tells, KeyAt, isNull, isKey, Shown}
 use Rattle.masks.specs.Block.{Finds}
 use Rattle.masks.proofs.Bits.{bit-and, bit-inverse, mask-bit}
 use Rattle.pool_lists.specs.Truths.{Truths}
@@ -250,6 +250,19 @@ truths-found keys at ones zeros values one nought m n r asked asked′ em en er 
         let q : x ≡ 9223372036854775808 = eqb-true _ _ u in
         rw (y, u) (asked′ bits hb (sym q ∙ e)))
         (λ u. absurd (true≢false (sym (rw (y, u) at either)))))
+
+-- ---- where all are one key
+pub alike-found : (keys : List ℕ) (at w same : ℕ) (values : List ℕ) (b : Bool) (r : ℕ)
+    → same ≡ maskTo (λ (i : ℕ). eqb (getD keys (at + i) 0) w) 64 → same ≡ 18446744073709551615
+    → ((bits : ℕ) → bits < 2 ^ 64 → w ≡ biasOf bits → b ≡ holdsKey (key bits) values) → ((i : ℕ) → i < 64 → bit r i ≡ b)
+    → Finds keys at values r
+unfolding Finds
+alike-found keys at w same values b r es all-same asked er i bits h hb e =
+    let q : getD keys (at + i) 0 ≡ w =
+    eqb-true _ _
+    (sym (ap (λ z. bit z i) es ∙ mask-bit (λ (j : ℕ). eqb (getD keys (at + j) 0) w) 64 i h)
+    ∙ every-bit true same refl all-same i h) in
+    er i h ∙ asked bits hb (sym q ∙ e)
 
 -- ---- where the first 64 keys stay
 pub finds-kept : (before after values : List ℕ) (m : ℕ) → ((j : ℕ) → j < 64 → getD after j 0 ≡ getD before j 0)

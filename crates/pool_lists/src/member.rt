@@ -132,7 +132,86 @@ fn find_truths(pool: &[u8], order: &[u64], start: u32, count: u32, ones: u64, ze
     (ones & one) | (zeros & zero)
 }
 
-// The same of the first 64 keys, by the way that takes least time. What stands from `hints` on is for guesses.
+// The same of the first 64 keys, by guesses where the pool is in order. What stands from `hints` on is for them.
+fn find_any(
+    pool: &[u8],
+    order: &[u64],
+    start: u32,
+    count: u32,
+    keys: &mut [u64],
+    hints: usize,
+    stamp: u64,
+) -> u64
+    requires { ⌜ Ordered (now pool) (now order) ⌝ }
+    requires { ⌜ 8 * (start + count) ≤ length (now pool) ⌝ }
+    requires { ⌜ 64 ≤ length (now keys) ⌝ }
+    requires { ⌜ 64 ≤ hints ⌝ }
+    requires { ⌜ hints ≤ 8192 ⌝ }
+    ensures { λ r. ⌜ Finds (now (keys .entry)) 0 (valuesFrom (now (pool .entry)) start count) r ⌝ }
+{
+    if order.len() < 17793 {
+        return find_keys(pool, order, start, count, keys, 0);
+    }
+    let mut spots = [0u64; 128];
+    let end = start as u64 + count as u64;
+    guess(order, end, keys, hints, stamp, &mut spots);
+    find_guessed(pool, order, start, count, keys, 0, &spots)
+}
+
+// The same where the keys may be one key, as those of a literal are: one question serves all.
+fn find_alike(
+    pool: &[u8],
+    order: &[u64],
+    start: u32,
+    count: u32,
+    keys: &mut [u64],
+    hints: usize,
+    stamp: u64,
+) -> u64
+    requires { ⌜ Ordered (now pool) (now order) ⌝ }
+    requires { ⌜ 8 * (start + count) ≤ length (now pool) ⌝ }
+    requires { ⌜ 64 ≤ length (now keys) ⌝ }
+    requires { ⌜ 64 ≤ hints ⌝ }
+    requires { ⌜ hints ≤ 8192 ⌝ }
+    ensures { λ r. ⌜ Finds (now (keys .entry)) 0 (valuesFrom (now (pool .entry)) start count) r ⌝ }
+{
+    let w = keys[0];
+    if mask_equal(keys, 0, w) == 18446744073709551615 {
+        return all_if(find_one(pool, order, start, count, w));
+    }
+    find_any(pool, order, start, count, keys, hints, stamp)
+}
+
+// The same where the keys may be those of truths.
+fn find_likely(
+    pool: &[u8],
+    order: &[u64],
+    start: u32,
+    count: u32,
+    keys: &mut [u64],
+    hints: usize,
+    stamp: u64,
+) -> u64
+    requires { ⌜ Ordered (now pool) (now order) ⌝ }
+    requires { ⌜ 8 * (start + count) ≤ length (now pool) ⌝ }
+    requires { ⌜ 64 ≤ length (now keys) ⌝ }
+    requires { ⌜ 64 ≤ hints ⌝ }
+    requires { ⌜ hints ≤ 8192 ⌝ }
+    ensures { λ r. ⌜ Finds (now (keys .entry)) 0 (valuesFrom (now (pool .entry)) start count) r ⌝ }
+{
+    let ones = mask_equal(keys, 0, 9223372036854775809);
+    let zeros = mask_equal(keys, 0, 9223372036854775808);
+    if (ones | zeros) == 18446744073709551615 {
+        return find_truths(pool, order, start, count, ones, zeros);
+    }
+    find_any(pool, order, start, count, keys, hints, stamp)
+}
+
+fn is_truth_key(w: u64) -> bool {
+    (w == 9223372036854775808) | (w == 9223372036854775809)
+}
+
+// The same by the way that takes least time.
 fn find_first(
     pool: &[u8],
     order: &[u64],
@@ -152,18 +231,13 @@ fn find_first(
     if count < 16 {
         return find_keys(pool, order, start, count, keys, 0);
     }
-    let ones = mask_equal(keys, 0, 9223372036854775809);
-    let zeros = mask_equal(keys, 0, 9223372036854775808);
-    if (ones | zeros) == 18446744073709551615 {
-        return find_truths(pool, order, start, count, ones, zeros);
+    if is_truth_key(keys[0]) {
+        return find_likely(pool, order, start, count, keys, hints, stamp);
     }
-    if order.len() < 16386 {
-        return find_keys(pool, order, start, count, keys, 0);
+    if keys[0] == keys[63] {
+        return find_alike(pool, order, start, count, keys, hints, stamp);
     }
-    let mut spots = [0u64; 128];
-    let end = start as u64 + count as u64;
-    guess(order, end, keys, hints, stamp, &mut spots);
-    find_guessed(pool, order, start, count, keys, 0, &spots)
+    find_any(pool, order, start, count, keys, hints, stamp)
 }
 
 /// is_in of a column, the first 64 keys, and the record of a list; `equal` is nulls_equal. Where `keys` has 17 words more from

@@ -127,6 +127,17 @@ fn has_between_from(order: &[u64], count: usize, x: u64, z: u64, q: usize) -> bo
     (x <= y) & (y < z)
 }
 
+// The last of k numbers, if g is none.
+fn nearest(g: usize, k: usize) -> usize {
+    if g < k {
+        return g;
+    }
+    if k == 0 {
+        return 0;
+    }
+    k - 1
+}
+
 /// As `holds`, with guesses of the key's number and of the last seat before the list's end.
 pub fn holds_from(
     pool: &[u8],
@@ -144,7 +155,7 @@ pub fn holds_from(
         → r ≡ holdsKey (key bits) (valuesFrom (now (pool .entry)) start count)) ⌝ }
 {
     let k = order[16384] as usize;
-    let r = find_from(order, k, w, (number % 8192) as usize);
+    let r = find_from(order, k, w, nearest((number % 8192) as usize, k));
     if r == k {
         return false;
     }

@@ -1,72 +1,59 @@
 -- Divisions of a block: the keys of two columns are divided row by row. Assumes nothing.
 use mathlib.Core.Path.{_≡_, refl, sym, _∙_, ap}
-use mathlib.Core.Bool.{Bool, true, false, cond, true≢false}
+use mathlib.Core.Bool.{Bool, true, false, cond, _||_}
 use mathlib.Core.List.{List}
-use mathlib.Core.Logic.{_⊎_, ⊎-elim}
 use mathlib.Core.Option.{Option, none, some}
-use Prim.Native.Nat.{ℕ, _+_, _-_, _*_, _^_, _≤_, _<_}
+use Prim.Native.Nat.{ℕ, _+_, _*_, _^_, _≤_, _<_}
 use native.Mathlib.Omega.{arith}
 use lib.Bits.{bitOr}
 use lib.IntN.{ℤ}
 use lib.ListN.{length, getD, set}
 use lib.Seq.{getD-set-other}
-use borrow.Author.Tests.{lt-ltb, le-ltb}
 use Rattle.records.specs.Record.{fieldsAt}
 use Rattle.records.specs.declared.record.Fields.{Fields}
 use Rattle.records.specs.declared.record.Node.{Node}
+use Rattle.records.proofs.Laws.{by-test}
 use Rattle.checking.specs.Columns.{bit}
-use Rattle.truth.specs.declared.value.Value.{Value}
-use Rattle.truth.specs.Halves.{key, biasOf}
-use Rattle.truth.specs.Evaluate.{keyed, nullTest, dividedOf}
-use Rattle.truth.proofs.Keys.{lt-or-le}
+use Rattle.checking.proofs.Bits.{bit-or}
+use Rattle.truth.specs.Evaluate.{dividedOf}
 use Rattle.row_test.proofs.Evaluation.{binary-below, divided-value}
 use Rattle.masks.specs.Masks.{maskTo, KeyAt, isNull, isKey, Shown}
 use Rattle.masks.specs.Block.{chainRow, chainWorth, Ready}
-use Rattle.masks.proofs.Bits.{mask-none}
-use Rattle.masks.proofs.Blocks.{ShownTo, shown-none, shown-more, shown-done, mark-more}
+use Rattle.masks.proofs.Bits.{mask-none, mask-bit}
+use Rattle.masks.proofs.Blocks.{mark-more}
 use Rattle.masks.proofs.Comparing.{shown-same, shown-kept}
-use Rattle.masks.proofs.Operands.{key-worth}
+use Rattle.pool_order.proofs.Ordering.{filled-next}
+use Rattle.row_blocks.specs.Parts.{hasNone, IsPart}
+use Rattle.row_blocks.proofs.Parts.{none-null}
 use Rattle.row_blocks.proofs.Turns.{ready-below, row-evaluable, first-row}
 
--- ---- a key gives its value back
-abbrev half : ℕ
-half = 9223372036854775808
+-- ---- a row: a null on either side, no quotient, or a part of one
+or-last : (b : Bool) → (b || true) ≡ true
+or-last true = refl
+or-last false = refl
 
-bias-low : (a : ℕ) → a < half → biasOf a ≡ a + half
-unfolding biasOf
-bias-low a h = rw (lt-ltb a half h)
-
-bias-high : (a : ℕ) → half ≤ a → biasOf a ≡ a - half
-unfolding biasOf
-bias-high a h = rw (le-ltb a half h)
-
-bias-twice : (b : ℕ) → b < 2 ^ 64 → biasOf (biasOf b) ≡ b
-bias-twice b h =
-    ⊎-elim
-    (λ (l : b < half).
-    let e = bias-high (b + half) (omega arith) in
-    ap biasOf (bias-low b l) ∙ e ∙ omega arith)
-    (λ (l : half ≤ b).
-    let e = bias-low (b - half) (omega (arith, l, h)) in
-    ap biasOf (bias-high b l) ∙ e ∙ omega (arith, l))
-    (lt-or-le b half)
-
-pub from-null : (n : Bool) (k : ℕ) (v : Option ℤ) → n ≡ true → KeyAt n k v → none ≡ v
-from-null n k v t (isNull e ev) = sym ev
-from-null n k v t (isKey bits h e ek ev) = absurd (true≢false (sym t ∙ e))
-
-pub from-key : (n : Bool) (k x : ℕ) (v : Option ℤ) → n ≡ false → x ≡ biasOf k → KeyAt n k v → some (key x) ≡ v
-from-key n k x v t ex (isNull e ev) = absurd (true≢false (sym e ∙ t))
-from-key n k x v t ex (isKey bits h e ek ev) =
-    ap (λ z. some (key z)) (ex ∙ ap biasOf ek ∙ bias-twice bits h) ∙ sym ev
+row-divided : (code p q k : ℕ) (n x y : Bool) (v w : Option ℤ) → n ≡ hasNone p q → IsPart code p q k → KeyAt x p v → KeyAt y q w
+    → KeyAt ((n || x) || y) k (dividedOf code v w)
+unfolding dividedOf IsPart
+row-divided code p q k n x y v w en part (isNull e ev) t = isNull (rw (e, or-last n)) (rw ev)
+row-divided code p q k n x y v w en part (isKey a ha e ep ev) (isNull f ew) = isNull (rw f (or-last (n || x))) (rw (ev, ew))
+row-divided code p q k n x y v w en part (isKey a ha e ep ev) (isKey b hb f eq ew) =
+    rw (e, f)
+    (by-test n
+    (λ z.
+    isNull (rw z) (none-null code p q v w (sym en ∙ z) (isKey a ha refl ep ev) (isKey b hb refl eq ew)))
+    (λ z.
+    rw z (part (sym en ∙ z) v w (isKey a ha refl ep ev) (isKey b hb refl eq ew))))
 
 -- ---- the rows divided so far
 module _ (code rows : ℕ) (old : List ℕ) (at one two x y : ℕ) where
+  abbrev lacks : ℕ → Bool
+  lacks j = hasNone (getD old (one + j) 0) (getD old (two + j) 0)
+
   unfoldable pub Divided : List ℕ → ℕ → ℕ → Type 0
   Divided keys marks i =
-      (value second : ℕ → Option ℤ) → Shown rows old one x value → Shown rows old two y second
-      → (marks ≡ maskTo (λ j. nullTest (dividedOf code (value j) (second j))) i)
-      × ShownTo (λ j. nullTest (dividedOf code (value j) (second j))) (λ j. dividedOf code (value j) (second j)) keys at i
+      (marks ≡ maskTo lacks i)
+      × ((j : ℕ) → j < i → IsPart code (getD old (one + j) 0) (getD old (two + j) 0) (getD keys (at + j) 0))
 
   -- the rows behind them are as they were
   unfoldable pub Untouched : List ℕ → ℕ → Type 0
@@ -74,7 +61,7 @@ module _ (code rows : ℕ) (old : List ℕ) (at one two x y : ℕ) where
 
   pub divided-none : Divided old 0 0
   unfolding Divided
-  divided-none value second s t = (mask-none _, shown-none _ _ _ _)
+  divided-none = (mask-none _, (λ j l. absurd (omega (arith, l))))
 
   pub untouched-all : Untouched old 0
   unfolding Untouched
@@ -85,39 +72,30 @@ module _ (code rows : ℕ) (old : List ℕ) (at one two x y : ℕ) where
   untouched-more keys i k u j h =
       getD-set-other keys (at + i) j k 0 (λ z. omega (arith, h, z)) ∙ u j (omega (arith, h))
 
-  module _ (keys : List ℕ) (marks i m k : ℕ) (a b v : Value) (p q null : Bool) (h : i < rows) (few : rows ≤ 64) (h-one : at ≤ one) (h-two : at ≤ two)
-      (room : at + i < length keys) (u : Untouched keys i) (ep : p ≡ bit x i) (eq : q ≡ bit y i)
-      (ea : (w : Option ℤ) → KeyAt p (getD keys (one + i) 0) w → keyed a ≡ w)
-      (eb : (w : Option ℤ) → KeyAt q (getD keys (two + i) 0) w → keyed b ≡ w)
-      (ev : keyed v ≡ dividedOf code (keyed a) (keyed b)) (ek : KeyAt (nullTest (keyed v)) k (keyed v))
-      (en : null ≡ nullTest (keyed v)) (em : m ≡ cond null (bitOr marks (2 ^ i)) marks) where
-    first : (value : ℕ → Option ℤ) → Shown rows old one x value → keyed a ≡ value i
-    unfolding Shown Untouched
-    first value s =
-        ea (value i) (rw (ep, u (one + i) (omega (arith, h-one))) (s i (omega (arith, h, few)) h))
+  pub divided-more : (keys : List ℕ) (marks i m k : ℕ) (null : Bool) → at ≤ one → at ≤ two → at + i < length keys
+      → Untouched keys i → IsPart code (getD keys (one + i) 0) (getD keys (two + i) 0) k
+      → null ≡ hasNone (getD keys (one + i) 0) (getD keys (two + i) 0) → m ≡ cond null (bitOr marks (2 ^ i)) marks
+      → Divided keys marks i → Divided (set keys (at + i) k) m (i + 1)
+  unfolding Divided Untouched
+  divided-more keys marks i m k null h-one h-two room u part en em d =
+      let p : getD keys (one + i) 0 ≡ getD old (one + i) 0 = u (one + i) (omega (arith, h-one)) in
+      let q : getD keys (two + i) 0 ≡ getD old (two + i) 0 = u (two + i) (omega (arith, h-two)) in (
+        mark-more lacks i marks m null (en ∙ rw (p, q)) (d .0) em,
+        filled-next (λ j z. IsPart code (getD old (one + j) 0) (getD old (two + j) 0) z) at keys i k room (d .1)
+            (rw (← p, ← q) part),
+      )
 
-    other : (second : ℕ → Option ℤ) → Shown rows old two y second → keyed b ≡ second i
-    unfolding Shown Untouched
-    other second s =
-        eb (second i) (rw (eq, u (two + i) (omega (arith, h-two))) (s i (omega (arith, h, few)) h))
-
-    pub divided-more : Divided keys marks i → Divided (set keys (at + i) k) m (i + 1)
-    unfolding Divided
-    divided-more d value second s t =
-        let e : keyed v ≡ dividedOf code (value i) (second i) = ev ∙ rw (first value s, other second t) in (
-          mark-more (λ j. nullTest (dividedOf code (value j) (second j))) i marks m null (en ∙ ap nullTest e)
-              (d value second s t .0) em,
-          shown-more (λ j. nullTest (dividedOf code (value j) (second j))) (λ j. dividedOf code (value j) (second j)) keys at i
-              k room (d value second s t .1) (key-worth k (keyed v) (dividedOf code (value i) (second i)) e ek),
-        )
-
-  pub divided-done : (keys : List ℕ) (marks i : ℕ) → i ≡ rows → Divided keys marks i → (value second : ℕ → Option ℤ)
-      → Shown rows old one x value → Shown rows old two y second
-      → Shown rows keys at marks (λ j. dividedOf code (value j) (second j))
-  unfolding Divided
-  divided-done keys marks i e d value second s t =
-      shown-done (λ j. nullTest (dividedOf code (value j) (second j))) (λ j. dividedOf code (value j) (second j)) keys at i
-      rows marks e (d value second s t .0) (d value second s t .1)
+  pub divided-done : (keys : List ℕ) (marks i r : ℕ) → i ≡ rows → r ≡ bitOr (bitOr marks x) y → Divided keys marks i
+      → (value second : ℕ → Option ℤ) → Shown rows old one x value → Shown rows old two y second
+      → Shown rows keys at r (λ j. dividedOf code (value j) (second j))
+  unfolding Divided Shown
+  divided-done keys marks i r e er d value second s t j h l =
+      let b : bit r j ≡ ((bit marks j || bit x j) || bit y j) =
+      ap (λ z. bit z j) er ∙ bit-or (bitOr marks x) y j ∙ ap (λ z. z || bit y j) (bit-or marks x j) in
+      let n : bit marks j ≡ lacks j = ap (λ z. bit z j) (d .0) ∙ mask-bit lacks i j (omega (arith, e, l)) in
+      rw b
+      (row-divided code (getD old (one + j) 0) (getD old (two + j) 0) (getD keys (at + j) 0) (bit marks j) (bit x j) (bit y j)
+      (value j) (second j) n (d .1 j (omega (arith, e, l))) (s j h l) (t j h l))
 
 -- ---- a division by the values of its inputs
 module _ (rs p : List ℕ) (columns : ℕ) (values nulls : List ℕ) (base rows : ℕ) (n : Node) (f : Fields)

@@ -27,7 +27,7 @@ pub fn join(low: u32, high: u32) -> u64
     low as u64 + 4294967296 * high as u64
 }
 
-fn pick(b: bool, on: u64, off: u64) -> u64
+pub fn pick(b: bool, on: u64, off: u64) -> u64
     ensures { λ r. ⌜ r ≡ cond b on off ⌝ }
 {
     if b {

@@ -2,17 +2,18 @@
 ghost use mathlib.Core.Path.{_≡_};
 ghost use mathlib.Core.Bool.{true, cond};
 ghost use mathlib.Core.Option.{Option};
-ghost use Prim.Native.Nat.{ℕ, _+_, _≤_, _<_};
+ghost use Prim.Native.Nat.{ℕ, _+_, _-_, _≤_, _<_};
 ghost use lib.IntN.{ℤ};
 ghost use lib.ListN.{length, getD};
-ghost use Rattle.truth.specs.Evaluate.{keyed, dividedOf};
-ghost use Rattle.masks.specs.Masks.{KeyAt, Shown};
+ghost use Rattle.truth.specs.Evaluate.{dividedOf};
+ghost use Rattle.masks.specs.Masks.{Shown};
 ghost use Rattle.masks.specs.Block.{chainWorth, Ready};
+ghost use Rattle.row_blocks.specs.Parts.{hasNone, IsPart};
 use crate::depths::is_deeper;
 use crate::operand::fill_keys;
 use crate::operand::fill_rows;
 use crate::operand::join;
-use crate::operand::value_key;
+use crate::operand::pick;
 use masks::block::biased;
 use masks::block::fill_column;
 use masks::reach::is_kept;
@@ -20,19 +21,89 @@ use masks::with_bit;
 use records::record::Fields;
 use records::record::Node;
 use records::record::fields_in;
-use truth::read::null_marked;
-use truth::scalar::Scalar;
-use truth::value::Value;
-use truth::value::divided;
-use truth::value::is_null;
 
-fn value_from(null: bool, k: u64) -> Value
-    ensures { λ r. ⌜ ((v : Option ℤ) → KeyAt null k v → keyed r ≡ v) ⌝ }
+// The key of 0 is 2^63, and those of the numbers below 0 are below it. Signs change from row to row, so nothing here branches
+// on them.
+
+fn one_if(b: bool) -> u64
+    ensures { λ r. ⌜ r ≡ cond b 1 0 ⌝ }
 {
-    if null {
-        return Value::Null;
+    if b { 1 } else { 0 }
+}
+
+// -x - 1, if t. The compiler does not ask whether the result of an exclusive or is short before it divides, which would be a
+// branch more.
+fn turned_if(t: bool, x: u64) -> u64
+    ensures { λ r. ⌜ r ≡ cond t (18446744073709551615 - x) x ⌝ }
+{
+    x ^ pick(t, 18446744073709551615, 0)
+}
+
+// How far the key is from that of 0.
+fn distance(q: u64) -> u64
+    ensures { λ r. ⌜ (q < 9223372036854775808 → r + q ≡ 9223372036854775808) ⌝ }
+    ensures { λ r. ⌜ (9223372036854775808 ≤ q → r + 9223372036854775808 ≡ q) ⌝ }
+{
+    if q < 9223372036854775808 {
+        return 9223372036854775808 - q;
     }
-    Value::Known(Scalar(biased(k)))
+    q - 9223372036854775808
+}
+
+// The divisor's size; 1 for 0.
+fn size_of(q: u64) -> u64
+    ensures { λ r. ⌜ (0 < r) × (r ≤ 9223372036854775808) ⌝ }
+    ensures { λ r. ⌜ (q < 9223372036854775808 → r + q ≡ 9223372036854775808) ⌝ }
+    ensures { λ r. ⌜ (9223372036854775808 < q → r + 9223372036854775808 ≡ q) ⌝ }
+{
+    let d = distance(q);
+    d + one_if(d == 0)
+}
+
+// u - v, or one less than v - u.
+fn dividend(u: u64, v: u64) -> u64
+    ensures { λ r. ⌜ (v ≤ u → r + v ≡ u) × (u < v → r + u + 1 ≡ v) ⌝ }
+{
+    turned_if(u < v, std::num::wrapping_sub_u64(u, v))
+}
+
+// Whether the values with these keys have no quotient: of 0, and of the least number by -1.
+fn has_none(p: u64, q: u64) -> bool
+    ensures { λ r. ⌜ r ≡ hasNone p q ⌝ }
+{
+    (q == 9223372036854775808) | ((p == 0) & (q == 9223372036854775807))
+}
+
+// The key of the quotient, rounded down: by a divisor below 0 both signs are turned. Where divisor and dividend differ in sign
+// the dividend is taken as n below 0, -n - 1, and so is the quotient.
+fn quotient_key(p: u64, q: u64) -> u64
+    ensures { λ r. ⌜ ((code : ℕ) → code ≡ 13 → IsPart code p q r) ⌝ }
+{
+    let u = pick(q < 9223372036854775808, 9223372036854775808, p);
+    let v = pick(q < 9223372036854775808, p, 9223372036854775808);
+    let k = dividend(u, v) / size_of(q);
+    biased(turned_if(u < v, k))
+}
+
+// That of the remainder, which has the divisor's sign.
+fn remainder_key(p: u64, q: u64) -> u64
+    ensures { λ r. ⌜ ((code : ℕ) → (code ≡ 13 → ⊥) → IsPart code p q r) ⌝ }
+{
+    let u = pick(q < 9223372036854775808, 9223372036854775808, p);
+    let v = pick(q < 9223372036854775808, p, 9223372036854775808);
+    let size = size_of(q);
+    let k = dividend(u, v) % size;
+    let m = pick(u < v, size - 1 - k, k);
+    pick(q < 9223372036854775808, 9223372036854775808 - m, biased(m))
+}
+
+fn part_key(code: u8, p: u64, q: u64) -> u64
+    ensures { λ r. ⌜ IsPart code p q r ⌝ }
+{
+    if code == 13 {
+        return quotient_key(p, q);
+    }
+    remainder_key(p, q)
 }
 
 // The 64 keys from `one` on divided by those from `two` on, into the place from `at` on; the word of the quotients' nulls.
@@ -59,14 +130,13 @@ fn divide_keys(
     let mut marks: u64 = 0;
     let mut i: usize = 0;
     while i < rows {
-        let a = value_from(null_marked(x, i as u32), keys[one + i]);
-        let b = value_from(null_marked(y, i as u32), keys[two + i]);
-        let v = divided(code, a, b);
-        keys[at + i] = value_key(v);
-        marks = with_bit(marks, i as u32, is_null(v));
+        let p = keys[one + i];
+        let q = keys[two + i];
+        keys[at + i] = part_key(code, p, q);
+        marks = with_bit(marks, i as u32, has_none(p, q));
         i += 1;
     }
-    marks
+    marks | x | y
 }
 
 // The 64 keys from `at` on and the next 64 are those of a division's inputs, or, turned round, of the second and the first.
