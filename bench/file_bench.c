@@ -1,6 +1,6 @@
 /*
- * Saving and loading the largest screen, 64 columns, 4,096 records and 8,192 pool values, and a screen of a few lines,
- * beside memcpy of the same bytes: what the checks, the blocks and the checksums cost.
+ * Saving and loading the largest screen, 64 columns, 4,096 records, 8,192 pool values and 8,192 bytes of text, and a
+ * screen of a few lines, beside memcpy of the same bytes: what the checks, the blocks and the checksums cost.
  */
 #define _POSIX_C_SOURCE 199309L
 #include "make.h"
@@ -12,12 +12,13 @@ static uint8_t file[SCREEN_MAX_FILE_BYTES];
 static uint8_t few_file[4096];
 static uint64_t length;
 static uint64_t few_length;
-static uint8_t table[64], records[65536], pool[65536];
+static uint8_t table[64], records[65536], pool[65536], text[8192];
 
 static void make_full(void)
 {
     make(&full, 64, SCREEN_TYPE_INT);
     full.s.pool_len = sizeof full.pool;
+    full.s.text_len = sizeof full.text;
     while (full.s.used < 4095)
         line(&full, SCREEN_OP_GT, (uint32_t)(full.s.used % 64), 7);
     screen_put_is_null(&full.s, (uint32_t)full.s.root);
@@ -38,14 +39,16 @@ static uint64_t save_few(void)
 
 static uint64_t load_full(void)
 {
-    uint64_t n[4] = {0};
-    return screen_load(file, (size_t)length, table, 64, records, 65536, pool, 65536, n, n + 1, n + 2, n + 3) + n[0];
+    uint64_t n[5] = {0};
+    return screen_load(file, (size_t)length, table, 64, records, 65536, pool, 65536, text, 8192, n, n + 1, n + 2, n + 3,
+                       n + 4) + n[0];
 }
 
 static uint64_t load_few(void)
 {
-    uint64_t n[4] = {0};
-    return screen_load(few_file, (size_t)few_length, table, 64, records, 65536, pool, 65536, n, n + 1, n + 2, n + 3) +
+    uint64_t n[5] = {0};
+    return screen_load(few_file, (size_t)few_length, table, 64, records, 65536, pool, 65536, NULL, 0, n, n + 1, n + 2,
+                       n + 3, n + 4) +
            n[0];
 }
 
@@ -82,7 +85,7 @@ int main(void)
         puts("saving or loading answers something else than expected");
         return 1;
     }
-    compare("saving the largest screen, 268 blocks", save_full, copy_full, "memcpy", 20);
+    compare("saving the largest screen, 285 blocks", save_full, copy_full, "memcpy", 20);
     compare("loading the largest screen", load_full, copy_full, "memcpy", 20);
     compare("saving a screen of 15 records, 3 blocks", save_few, copy_few, "memcpy", 2000);
     compare("loading a screen of 15 records", load_few, copy_few, "memcpy", 2000);

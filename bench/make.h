@@ -11,13 +11,15 @@ struct made {
     uint8_t table[64];
     uint8_t records[16 * 4096];
     uint8_t pool[8 * 8192];
+    uint8_t text[8192];
     struct screen_lent s; /* points to the above */
 };
 
 static inline void make(struct made *m, unsigned columns, unsigned type)
 {
     memset(m, 0, sizeof *m);
-    screen_begin(&m->s, m->table, sizeof m->table, m->records, sizeof m->records, m->pool, sizeof m->pool);
+    screen_begin(&m->s, m->table, sizeof m->table, m->records, sizeof m->records, m->pool, sizeof m->pool,
+                 m->text, sizeof m->text);
     for (unsigned i = 0; i < columns; i++)
         screen_declare(&m->s, type);
 }

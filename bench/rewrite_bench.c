@@ -14,7 +14,8 @@
 #include <stdbool.h>
 
 struct prepared;
-struct prepared *oracle_prepare(const uint8_t *records, size_t records_len, const uint8_t *pool, size_t pool_len);
+struct prepared *oracle_prepare(const uint8_t *records, size_t records_len, const uint8_t *pool, size_t pool_len,
+                                const uint8_t *text, size_t text_len);
 bool oracle_merge(struct prepared *prepared, size_t root);
 void oracle_free(struct prepared *prepared);
 
@@ -173,6 +174,24 @@ static void make_exclusions(void)
     join_chain(1);
 }
 
+/* Lines on two Text columns of symbols of three letters and of sixteen, equal bytes at several starts among them. */
+static void make_symbols(unsigned count)
+{
+    static const char *const names[6] = {"SPX", "NDX", "RUT", "SPXW AM  2026-12", "SPXW PM  2026-12", "SP"};
+    static const unsigned codes[6] = {SCREEN_OP_GT_EQ, SCREEN_OP_LT_EQ, SCREEN_OP_NOT_EQ, SCREEN_OP_LT, SCREEN_OP_GT,
+                                      SCREEN_OP_NOT_EQ};
+    begin(2);
+    now.table[0] = now.table[1] = SCREEN_TYPE_TEXT;
+    for (unsigned n = 0; n < count; n++) {
+        uint32_t length = (uint32_t)strlen(names[n % 6]), start = (uint32_t)now.s.text_len;
+        memcpy(now.s.text + start, names[n % 6], length);
+        now.s.text_len += length;
+        uint32_t left = screen_put_column(&now.s, n / 6 % 2);
+        uint32_t right = screen_put_literal(&now.s, SCREEN_TYPE_TEXT, screen_symbol(start, length));
+        join(screen_put_binary(&now.s, codes[n % 6], left, right));
+    }
+}
+
 /* ---------------------------------------------------------------------------------------------------- the two sides */
 
 static uint64_t ours(void)
@@ -199,7 +218,8 @@ static int beside(const char *name, double goal, unsigned rounds, unsigned times
     static struct taken taken;
     const work works[3] = {ours, rust, checks};
     uint64_t answer = ours();
-    prepared = oracle_prepare(now.s.records, 16 * (size_t)now.s.used, now.s.pool, now.s.pool_len);
+    prepared = oracle_prepare(now.s.records, 16 * (size_t)now.s.used, now.s.pool, now.s.pool_len,
+                              now.s.text, now.s.text_len);
     if (answer < SCREEN_UNCHANGED || (answer != SCREEN_UNCHANGED) != rust()) {
         printf("%s: the answers differ\n", name);
         oracle_free(prepared);
@@ -245,5 +265,10 @@ int main(void)
     make_worst_allowed();
     differ |= beside("rewriting, 65 lists of 100 values, 63 equalities", 1, 3, 1);
     printf("goals met: %u of %u\n", goals_met, goals);
+    for (unsigned i = 0; i < 4; i++) {
+        make_symbols(counts[i]);
+        snprintf(name, sizeof name, "rewriting, %u lines of symbols", counts[i]);
+        differ |= beside(name, 4, ROUNDS, 20);
+    }
     return differ;
 }

@@ -25,8 +25,8 @@ static uint64_t rewrite_ours(void)
 {
     static uint8_t text[SCREEN_MAX_REASONS_BYTES];
     uint64_t root = 0, used = 0, passes = 0, length = 0;
-    return screen_rewrite(now.table, now.s.table_len, scratch, sizeof scratch, now.pool, now.s.pool_len, now.s.used,
-                          now.s.root, text, sizeof text, &root, &used, &length, &passes);
+    return screen_rewrite(now.table, now.s.table_len, scratch, sizeof scratch, now.pool, now.s.pool_len, now.text,
+                          now.s.text_len, now.s.used, now.s.root, text, sizeof text, &root, &used, &length, &passes);
 }
 
 static uint64_t check_ours(void)

@@ -99,8 +99,9 @@ static uint64_t rewrite(void)
     uint64_t reasons_used = 0;
     uint64_t passes = 0;
     memcpy(scratch, now.records, sizeof scratch);
-    return screen_rewrite(now.table, now.s.table_len, scratch, sizeof scratch, now.pool, now.s.pool_len, now.s.used,
-                          now.s.root, reasons, sizeof reasons, &root, &used, &reasons_used, &passes);
+    return screen_rewrite(now.table, now.s.table_len, scratch, sizeof scratch, now.pool, now.s.pool_len, now.text,
+                          now.s.text_len, now.s.used, now.s.root, reasons, sizeof reasons, &root, &used,
+                          &reasons_used, &passes);
 }
 
 static volatile uint64_t sink;

@@ -48,8 +48,9 @@ static double rewrite_time(void)
     uint64_t root = 0, used = 0, passes = 0, length = 0;
     memcpy(scratch, now.records, sizeof scratch);
     double from = seconds();
-    uint32_t got = screen_rewrite(now.table, now.s.table_len, scratch, sizeof scratch, now.pool, now.s.pool_len, now.s.used,
-                                  now.s.root, text, sizeof text, &root, &used, &length, &passes);
+    uint32_t got = screen_rewrite(now.table, now.s.table_len, scratch, sizeof scratch, now.pool, now.s.pool_len,
+                                  now.text, now.s.text_len, now.s.used, now.s.root, text, sizeof text, &root, &used,
+                                  &length, &passes);
     return got == SCREEN_NOTHING_PASSES ? seconds() - from : 0;
 }
 

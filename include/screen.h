@@ -12,6 +12,8 @@
  *   table    one byte for each column, its type (SCREEN_TYPE_..). At most 64 columns; none at all is fine.
  *   records  16 bytes for each record, laid out as below. Bytes after the last whole record are allowed and left alone.
  *   pool     the values of lists: 8 bytes each, 64-bit two's complement, little-endian. At most 8,192 values.
+ *   text     the bytes of symbols, at most 8,192; none at all is fine. A symbol is 0 to 16 bytes of it, told by a start and a
+ *            length; symbols of equal bytes are equal wherever they lie, and parts of the text may serve several.
  *   used     how many records, from record 0 on, belong to the screen. At most 4,096, and no more than were lent.
  *   root     the number of the record that the screen means, below used. Records count from 0.
  *
@@ -31,7 +33,8 @@
  *
  *   kind                     code              type  A              B            C
  *   SCREEN_KIND_COLUMN       -                 -     column number  -            -
- *   SCREEN_KIND_LITERAL      -                 yes   -              B and C: the value, 64-bit two's complement
+ *   SCREEN_KIND_LITERAL      -                 yes   -              B and C: the value, 64-bit two's complement;
+ *                                                                   of type Text B the start and C the length
  *   SCREEN_KIND_NULL         -                 yes   -              -            -
  *   SCREEN_KIND_BINARY       SCREEN_OP_..      -     left input     right input  -
  *   SCREEN_KIND_NOT          -                 -     input          -            -
@@ -42,7 +45,8 @@
  *   SCREEN_KIND_IS_IN        1: nulls_equal    -     value input    list input   -
  *
  *   Start and count of a list are in values, not bytes. The code of a list or an is_in is otherwise 0. A list of code 1
- *   has a null beside its values: with count 0 that null is its one entry.
+ *   has a null beside its values: with count 0 that null is its one entry. In the pool and in rows a symbol is 8 bytes: its
+ *   start in the low four, its length in the high four.
  *
  * ANSWERS
  *
@@ -57,16 +61,19 @@
  *
  * WHAT A CALL COSTS
  *
- * Each call checks every used record first, whether the root reaches it or not, so its time grows with `used`: a screen
- * that is kept for many calls should hold no record that its root does not reach. Checking a short screen takes some 50
- * ns, a full one 15 to 30 us, whatever its lists. The slowest screen known to rewrite, 64 lists and a bound carried from
- * column to column by 63 equalities, takes some 4 ms. A hedge list checks the screen once for all rows and takes them 64 at
- * a time: 1,024 rows of 10 lines take some 0.02 ms, of a full screen of comparisons 0.7 ms; the slowest known, 682 lists of
- * divisions, takes some 40 ms.
+ * Each call checks every used record first, whether the root reaches it or not, so its time grows with `used`: a
+ * screen that is kept for many calls should hold no record that its root does not reach. Checking a short screen
+ * takes some 50 ns, a full one 15 to 30 us, whatever its lists. The slowest screen known to rewrite, 64 lists and a
+ * bound carried from column to column by 63 equalities, takes some 4 ms. A hedge list checks the screen once for all
+ * rows and takes them 64 at a time: 1,024 rows of 10 lines take some 0.02 ms, of a full screen of comparisons 0.7
+ * ms; the slowest known, 743 lists of divisions, takes some 17 ms. A screen with symbols takes longer: where it is
+ * rewritten its symbols are put in order first, which of a full text pool takes some 2 ms; the slowest found, 65
+ * negated lists along 63 equalities, takes 22 ms. In a hedge list its rows are taken one by one and its lists looked
+ * through: 1,024 rows of 10 lines take 0.2 ms, of 1,022 lines 30 ms, and each list of 8,192 symbols 10 ms more.
  *
  * PLATFORM
  *
- * x86-64 Linux, two's complement. The archive needs nothing but memcpy and memset, has some 161 KB of code, keeps no
+ * x86-64 Linux, two's complement. The archive needs nothing but memcpy and memset, has some 208 KB of code, keeps no
  * state and opens no file. MIT licence: LICENSE, and NOTICE for the Rust sources that it follows.
  *
  * "Document 01" in this file and in the sources is docs/01-scope.md, the paper that the library is made from.
@@ -78,9 +85,9 @@
 #include <stdint.h>
 
 /* Of this interface: the major number rises if a host must be changed to compile, the minor one if something is new. */
-#define SCREEN_VERSION_MAJOR 4
-#define SCREEN_VERSION_MINOR 2
-#define SCREEN_VERSION "4.2"
+#define SCREEN_VERSION_MAJOR 5
+#define SCREEN_VERSION_MINOR 0
+#define SCREEN_VERSION "5.0"
 
 /* A host that leaves an answer unread is warned, by compilers that can. */
 #if defined(__GNUC__)
@@ -98,6 +105,8 @@ enum screen_limit {
     SCREEN_MAX_COLUMNS = 64,
     SCREEN_MAX_RECORDS = 4096,
     SCREEN_MAX_POOL_VALUES = 8192,
+    SCREEN_MAX_TEXT_BYTES = 8192,
+    SCREEN_MAX_SYMBOL_BYTES = 16,
     SCREEN_MAX_TREE = 4096,     /* records of a root's tree, a shared one counted each time it is reached */
     SCREEN_MAX_CONJUNCTS = 128, /* conjuncts of a root, a shared one counted each time it is reached */
     SCREEN_RECORD_BYTES = 16,
@@ -105,16 +114,17 @@ enum screen_limit {
     SCREEN_MAX_ROWS = 1024,         /* of a chain */
     SCREEN_PLACE_BYTES = 2,         /* of a hedge list: a row's number */
     SCREEN_CELL_BYTES = 16,         /* of a row with halves: a column's whole part and its half part */
-    SCREEN_MAX_REASONS_BYTES = 34816, /* 1,024 lines of at most 34 bytes: every text of screen_rewrite fits */
+    SCREEN_MAX_REASONS_BYTES = 48128, /* 1,024 lines of at most 47 bytes: every text of screen_rewrite fits */
     SCREEN_BLOCK_BYTES = 512,       /* a saved screen is whole blocks */
-    SCREEN_MAX_FILE_BYTES = 137216  /* 268 blocks: 64 columns, 4,096 records and 8,192 values */
+    SCREEN_MAX_FILE_BYTES = 145920  /* 285 blocks: 64 columns, 4,096 records, 8,192 values and 8,192 bytes of text */
 };
 
 /* Types of columns, literals, nulls and lists. */
 enum screen_type {
     SCREEN_TYPE_INT = 1,  /* 64-bit signed */
     SCREEN_TYPE_DAY = 2,  /* 32-bit signed, held in 64 bits */
-    SCREEN_TYPE_TRUTH = 3 /* 0 false, 1 true */
+    SCREEN_TYPE_TRUTH = 3, /* 0 false, 1 true */
+    SCREEN_TYPE_TEXT = 4 /* a symbol: 0 to 16 bytes, ordered byte by byte, 0 to 255, a prefix below what extends it */
 };
 
 /* Byte 0 of a record. */
@@ -171,11 +181,17 @@ enum screen_closed {
 enum screen_refusal {
     /* Over 64 columns, or a byte of the table that is no type. */
     SCREEN_REFUSED_TABLE = 1,
-    /* used is over 4,096 or over the whole records lent, or the pool is over 8,192 values or not whole values. */
+    /*
+     * used is over 4,096 or over the whole records lent, the pool is over 8,192 values or not whole values, or the text
+     * is over 8,192 bytes.
+     */
     SCREEN_REFUSED_SIZE = 2,
     /* The root is not below used. */
     SCREEN_REFUSED_ROOT = 3,
-    /* A record of unknown kind, code or type, with a nonzero unused field, or a literal outside its type. */
+    /*
+     * A record of unknown kind, code or type, with a nonzero unused field, or a literal outside its type: a symbol past the
+     * text, also of length 0, or of over 16 bytes.
+     */
     SCREEN_REFUSED_RECORD = 4,
     /*
      * A record with an input that is not below it, a column that is not in the table, or a list whose start plus count
@@ -212,7 +228,7 @@ enum screen_refusal {
      */
     SCREEN_REFUSED_ROW = 13,
     /*
-     * A lent buffer is too short: saving's file, one of loading's table, records and pool, or the row that is shown,
+     * A lent buffer is too short: saving's file, one of loading's table, records, pool and text, or the row that is shown,
      * which has a place for each column; that is looked at whether some row passes or not.
      */
     SCREEN_REFUSED_SHORT = 14,
@@ -252,8 +268,8 @@ static inline const char *screen_refusal_text(uint32_t answer)
     case SCREEN_REFUSED_TABLE:
         return "The table has more than 64 columns, or a column of an unknown type.";
     case SCREEN_REFUSED_SIZE:
-        return "More than 4,096 records are used or more than were lent, or the pool is over 8,192 values or ends "
-               "inside a value.";
+        return "More than 4,096 records are used or more than were lent, the pool is over 8,192 values or ends inside a "
+               "value, or the text is over 8,192 bytes.";
     case SCREEN_REFUSED_ROOT:
         return "The root is not one of the used records.";
     case SCREEN_REFUSED_RECORD:
@@ -285,7 +301,7 @@ static inline const char *screen_refusal_text(uint32_t answer)
     case SCREEN_REFUSED_REASONS:
         return "The text buffer is too short for the reasons of the rewritten screen.";
     case SCREEN_REFUSED_PLAIN:
-        return "The screen is not plain: a line is not one of the plain forms, or a Truth column is read.";
+        return "The screen is not plain: a line is not one of the plain forms, or a Truth or Text column is read.";
     case SCREEN_REFUSED_CELLS:
         return "The row does not have exactly 16 bytes for each column, or it has a half part other than -1, 0 and +1, a "
                "null mark beyond its columns, or a null whose parts are not zero.";
@@ -313,14 +329,16 @@ enum screen_check_answer {
  *   table, table_len      the column types; table_len is the number of columns
  *   records, records_len  the records; records_len / 16, rounded down, are lent
  *   pool, pool_len        the values of lists; pool_len is 8 times their number
+ *   text, text_len        the bytes of symbols; a screen without symbols needs none
  *   used                  how many of the records belong to the screen; any number, one too large is refused
  *   root                  the record that the screen means; any number, one not below used is refused
  *
- * The call needs some 50 KB of stack, and less than 88 KB where the pool has over 128 values.
+ * The call needs less than 72 KB of stack.
  */
 SCREEN_MUST_USE
 uint32_t screen_check(const uint8_t *table, size_t table_len, const uint8_t *records, size_t records_len,
-                      const uint8_t *pool, size_t pool_len, uint64_t used, uint64_t root);
+                      const uint8_t *pool, size_t pool_len,
+                      const uint8_t *text, size_t text_len, uint64_t used, uint64_t root);
 
 /* ---------------------------------------------------------------------------------------------- rewriting a screen */
 
@@ -357,7 +375,8 @@ enum screen_rewrite_answer {
  *
  * that is the column's number, the operator (Eq, NotEq, Lt, LtEq, Gt, GtEq), the value and the line's number, between
  * them one blank, and byte 10 at the end, of the last line too. Numbers are decimal without leading zeros, a minus before
- * negative values; a Truth is 0 or 1, a Day its number. Lines are the conjuncts of the root sent, counted from 0 from left
+ * negative values; a Truth is 0 or 1, a Day its number, a symbol the letter t and two lower-case hexadecimal digits for each
+ * of its bytes, as t535058 of SPX. Lines are the conjuncts of the root sent, counted from 0 from left
  * to right; one that is reached twice is two lines. Of lines that give the same value the first keeps it, also where a
  * later one opens the end or excludes the value there; what an equality carries to another column keeps its line. An Eq
  * made of two ends names the line of the lower end. Two different lists of reasons never have the same text. No zero byte
@@ -366,7 +385,9 @@ enum screen_rewrite_answer {
  * *passes is at most the number of different columns in the equalities; screen_slowest builds screens that reach it.
  *
  * The screen returned is the one sent with the records as they are after the call, *new_root and *new_used; with
- * SCREEN_UNCHANGED it is the one sent. It keeps its table and its pool.
+ * SCREEN_UNCHANGED it is the one sent. It keeps its table, its pool and its text. A symbol that it compares with has the
+ * start that the kept value had: of equal symbols the one held first, for an Eq made of two ends the lower end's, and where
+ * a NotEq opened an end the NotEq's.
  *
  * Before it runs on many rows it should be copied out: each call checks all used records, and those of the screen sent
  * are still among them. screen_copy_reached of screen_build.h does so; it takes what the root reaches.
@@ -375,7 +396,7 @@ enum screen_rewrite_answer {
  * number *new_used, each whole; with SCREEN_REWRITTEN *new_root is one of them, never a record that was sent. Those
  * before them are the screen sent, which can still be used with its old root;
  * those behind them, and bytes after the last whole record, keep their values. With SCREEN_UNCHANGED and with a refusal
- * no byte is written.
+ * no byte changes. While the call runs on a screen with symbols its used records hold something else; they are put back.
  *
  * So the call needs room: lend more records than are used. SCREEN_NOTHING_PASSES needs one; SCREEN_REWRITTEN three for
  * each comparison of a column with a value that the merged screen has, and one for each And that joins its conjuncts.
@@ -392,7 +413,7 @@ enum screen_rewrite_answer {
  * of their columns; screen_test_row takes no others. So with SCREEN_NOTHING_PASSES no such row passes. That answer is
  * not given of every screen that no row passes: "c0 > 3" and "c0 < 4" are left as they are, though no whole number
  * passes both. Of a plain screen that is not refused it is given exactly if no row passes even where values half way
- * between two whole numbers are allowed. A screen is plain if it reads no Truth column and each of its conjuncts is one
+ * between two whole numbers are allowed. A screen is plain if it reads no Truth and no Text column and each of its conjuncts is one
  * of these, whatever stands among the records that the root does not reach:
  *
  *   a column against a literal, either way round, by Eq, NotEq, Lt, LtEq, Gt or GtEq; Not of that
@@ -403,12 +424,13 @@ enum screen_rewrite_answer {
  *
  * A conjunct with a FloorDivide or Modulus in it is none of these: it stays as it is and says nothing of its columns.
  *
- * The call needs some 70 KB of stack, less than 100 KB where the pool has over 128 values, and less than 400 KB where many
- * lists are carried by many equalities.
+ * The call needs less than 96 KB of stack, less than 400 KB where many lists are carried by many equalities, and less than
+ * 576 KB where a column or a record is of type Text.
  */
 SCREEN_MUST_USE
 uint32_t screen_rewrite(const uint8_t *table, size_t table_len, uint8_t *records, size_t records_len,
-                        const uint8_t *pool, size_t pool_len, uint64_t used, uint64_t root,
+                        const uint8_t *pool, size_t pool_len,
+                        const uint8_t *text, size_t text_len, uint64_t used, uint64_t root,
                         uint8_t *reasons, size_t reasons_len, uint64_t *new_root, uint64_t *new_used,
                         uint64_t *reasons_used, uint64_t *passes);
 
@@ -432,11 +454,13 @@ enum screen_line_answer {
  * never answered with SCREEN_NO_LINE. A line that stands twice is never found.
  *
  * The call merges the lines once as they are and, where nothing passes, once for each line left out, up to the one
- * found: at most 129 times, of the slowest screens known some 13 ms. It needs some 390 KB of stack, whatever the screen.
+ * found: at most 129 times, of the slowest screens known some 13 ms. It needs less than 416 KB of stack, and less than 512
+ * KB where a column or a record is of type Text.
  */
 SCREEN_MUST_USE
 uint32_t screen_line_in_the_way(const uint8_t *table, size_t table_len, const uint8_t *records, size_t records_len,
-                                const uint8_t *pool, size_t pool_len, uint64_t used, uint64_t root, uint64_t *line);
+                                const uint8_t *pool, size_t pool_len,
+                                const uint8_t *text, size_t text_len, uint64_t used, uint64_t root, uint64_t *line);
 
 /*
  * A row with halves, as the next two calls take it: for each column in the table's order 16 bytes, its whole part and then
@@ -477,11 +501,13 @@ enum screen_show_row_answer {
  * numbers only, answers SCREEN_TRUE of it if all of its half parts are zero.
  *
  * The call merges the lines once, and looks for the smallest value that all lists of a column allow: of the slowest screen
- * known, 65 lists of 100 values on 64 equal columns, some 20 ms. It needs some 390 KB of stack, whatever the screen.
+ * known, 65 lists of 100 values on 64 equal columns, some 20 ms. It needs less than 416 KB of stack, and less than 512 KB
+ * where a column or a record is of type Text.
  */
 SCREEN_MUST_USE
 uint32_t screen_show_row(const uint8_t *table, size_t table_len, const uint8_t *records, size_t records_len,
-                         const uint8_t *pool, size_t pool_len, uint64_t used, uint64_t root,
+                         const uint8_t *pool, size_t pool_len,
+                         const uint8_t *text, size_t text_len, uint64_t used, uint64_t root,
                          uint8_t *row, size_t row_len, uint64_t *nulls);
 
 /* The answers of screen_check_row. */
@@ -501,11 +527,12 @@ enum screen_check_row_answer {
  * The row may be anyone's, not only one that screen_show_row wrote. Of a row without halves whose values are within their
  * columns' types the answer is SCREEN_PASSES exactly if screen_test_row answers SCREEN_TRUE.
  *
- * The call needs some 68 KB of stack, and less than 104 KB where the pool has over 128 values.
+ * The call needs less than 104 KB of stack, and less than 208 KB where a column or a record is of type Text.
  */
 SCREEN_MUST_USE
 uint32_t screen_check_row(const uint8_t *table, size_t table_len, const uint8_t *records, size_t records_len,
-                          const uint8_t *pool, size_t pool_len, uint64_t used, uint64_t root,
+                          const uint8_t *pool, size_t pool_len,
+                          const uint8_t *text, size_t text_len, uint64_t used, uint64_t root,
                           const uint8_t *row, size_t row_len, uint64_t nulls);
 
 /* The answer of screen_slowest. */
@@ -548,7 +575,8 @@ enum screen_test_row_answer {
  *
  *   table .. root  as in screen_check
  *   row, row_len   for each column in the table's order its value, 8 bytes, two's complement, little-endian, within the
- *                  column's type; 8 zero bytes for a null. row_len is 8 times the number of columns
+ *                  column's type; of a Text column the start and the length of a symbol in the same text, 4 bytes each; 8 zero
+ *                  bytes for a null. row_len is 8 times the number of columns
  *   nulls          the null marks: bit i, counted from the lowest, is set if column i is null
  *
  * is_in over the entries a, b, .. is "x = a Or x = b Or ..": true if a value is found; else unknown if x is null or the
@@ -565,7 +593,8 @@ enum screen_test_row_answer {
  */
 SCREEN_MUST_USE
 uint32_t screen_test_row(const uint8_t *table, size_t table_len, const uint8_t *records, size_t records_len,
-                         const uint8_t *pool, size_t pool_len, uint64_t used, uint64_t root,
+                         const uint8_t *pool, size_t pool_len,
+                         const uint8_t *text, size_t text_len, uint64_t used, uint64_t root,
                          const uint8_t *row, size_t row_len, uint64_t nulls);
 
 /* --------------------------------------------------------------------------------------------------- the hedge list */
@@ -609,11 +638,13 @@ enum screen_hedge_list_answer {
  *
  * The call needs less than 128 KB of stack, and less than 384 KB if the screen asks its lists for 4,096 values or more,
  * those of all is_in together. With divisions of divisions its need follows their depth: the deepest screen, 2,046 of
- * them, needs less than 768 KB, and with such lists beside them less than 1,088 KB.
+ * them, needs less than 768 KB, and with such lists beside them less than 1,088 KB. Where a column or a record is of type
+ * Text it needs what screen_test_row needs, less than 1.5 MB.
  */
 SCREEN_MUST_USE
 uint32_t screen_hedge_list(const uint8_t *table, size_t table_len, const uint8_t *records, size_t records_len,
-                           const uint8_t *pool, size_t pool_len, uint64_t used, uint64_t root,
+                           const uint8_t *pool, size_t pool_len,
+                           const uint8_t *text, size_t text_len, uint64_t used, uint64_t root,
                            const uint8_t *values, size_t values_len, const uint64_t *nulls, size_t rows,
                            uint8_t *list, size_t list_len, struct screen_tally *tally, uint64_t *count);
 
@@ -650,11 +681,12 @@ enum screen_columns_read_answer {
  *   count          not NULL, and not the same as columns. Written with SCREEN_COLUMNS: the number of ones in *columns.
  *                  Keeps its value with a refusal
  *
- * The call needs some 75 KB of stack, and less than 112 KB where the pool has over 128 values.
+ * The call needs less than 104 KB of stack.
  */
 SCREEN_MUST_USE
 uint32_t screen_columns_read(const uint8_t *table, size_t table_len, const uint8_t *records, size_t records_len,
-                             const uint8_t *pool, size_t pool_len, uint64_t used, uint64_t root,
+                             const uint8_t *pool, size_t pool_len,
+                             const uint8_t *text, size_t text_len, uint64_t used, uint64_t root,
                              uint64_t *columns, uint64_t *count);
 
 /* -------------------------------------------------------------------------------------- saving and loading a screen */
@@ -664,15 +696,15 @@ uint32_t screen_columns_read(const uint8_t *table, size_t table_len, const uint8
  *
  *   bytes 0-1   the Internet checksum (RFC 1071) of the block with these two bytes zero, the high byte first
  *   bytes 2-3   the block's number, from 0, little-endian
- *   byte 4      the kind: 1 the column table, 2 records, 3 the pool, 4 the end
- *   byte 5      how many columns, records or values the block holds; 1 in the end
- *   bytes 6-15  zero
- *   then        496 bytes of content, those that are not used zero: columns of 1 byte, records of 16, values of 8; in
- *               the end used and root, 4 bytes each, little-endian
+ *   byte 4      the kind: 1 the column table, 2 records, 3 the pool, 5 the text, 4 the end
+ *   bytes 5-6   how many columns, records, values or bytes of text the block holds, little-endian; 1 in the end
+ *   bytes 7-15  zero
+ *   then        496 bytes of content, those that are not used zero: columns of 1 byte, records of 16, values of 8, text of
+ *               1; in the end used and root, 4 bytes each, little-endian
  *
- * There is one block of kind 1, even of no column, then as many of kinds 2 and 3 as are needed, each full before the
- * next begins and none empty, and one of kind 4. A screen has exactly one file: what loads is, byte for byte, what
- * saving the loaded screen writes.
+ * There is one block of kind 1, even of no column, then as many of kinds 2, 3 and 5, in this order, as are needed, each
+ * full before the next begins and none empty, and one of kind 4. A screen has exactly one file: what loads is, byte for
+ * byte, what saving the loaded screen writes.
  */
 
 /* The answer of screen_save. */
@@ -683,21 +715,23 @@ enum screen_save_answer {
 /*
  * Writes the file of a screen. Answers SCREEN_SAVED, or a refusal: 1 to 7, then 14.
  *
- *   table .. root   as in screen_check; the used records are saved, not those behind them, and the whole pool
+ *   table .. root   as in screen_check; the used records are saved, not those behind them, the whole pool and the whole
+ *                   text
  *   file, file_len  where the file goes; SCREEN_MAX_FILE_BYTES are enough for every screen
  *   length          not NULL. Written with SCREEN_SAVED: the file's length in bytes. Keeps its value with a refusal
  *
  * With SCREEN_SAVED the first *length bytes of file are written, and those behind them keep their values. With a
- * refusal no byte is written. Loading those *length bytes gives the same table, used records, pool, used and root.
+ * refusal no byte is written. Loading those *length bytes gives the same table, used records, pool, text, used and root.
  */
 SCREEN_MUST_USE
 uint32_t screen_save(const uint8_t *table, size_t table_len, const uint8_t *records, size_t records_len,
-                     const uint8_t *pool, size_t pool_len, uint64_t used, uint64_t root,
+                     const uint8_t *pool, size_t pool_len,
+                     const uint8_t *text, size_t text_len, uint64_t used, uint64_t root,
                      uint8_t *file, size_t file_len, uint64_t *length);
 
 /* The answer of screen_load. */
 enum screen_load_answer {
-    SCREEN_LOADED = 256 /* the screen and the four numbers are written */
+    SCREEN_LOADED = 256 /* the screen and the five numbers are written */
 };
 
 /*
@@ -708,24 +742,26 @@ enum screen_load_answer {
  *   table, table_len      room for the table: 64 bytes are enough for every screen
  *   records, records_len  room for the records: 16 bytes each, 4,096 are enough
  *   pool, pool_len        room for the pool: 8 bytes a value, 8,192 are enough
- *   root, columns, used, values
- *                         not NULL, and four different numbers. Written with SCREEN_LOADED: the root, and how many
- *                         columns, records and values were read. They keep their values with a refusal
+ *   text, text_len        room for the text: 8,192 bytes are enough
+ *   root, columns, used, values, text_bytes
+ *                         not NULL, and five different numbers. Written with SCREEN_LOADED: the root, and how many
+ *                         columns, records, values and bytes of text were read. They keep their values with a refusal
  *
- * With SCREEN_LOADED the first *columns bytes of table, 16 * *used of records and 8 * *values of pool are written; the
- * bytes behind them keep their values. The screen is lent to the other calls with these three lengths, *used and *root;
- * screen_check accepts it. With a refusal no byte is written.
+ * With SCREEN_LOADED the first *columns bytes of table, 16 * *used of records, 8 * *values of pool and *text_bytes of text
+ * are written; the bytes behind them keep their values. The screen is lent to the other calls with these four lengths,
+ * *used and *root; screen_check accepts it. With a refusal no byte is written.
  *
- * Since 14 comes before 1 to 7, a file of more than 64 columns, 4,096 records or 8,192 values is answered 14 by a host
- * that lends the room above, and 1 or 2 by one that lends more. A file with room for all is never answered 14.
+ * Since 14 comes before 1 to 7, a file of more than 64 columns, 4,096 records, 8,192 values or 8,192 bytes of text is
+ * answered 14 by a host that lends the room above, and 1 or 2 by one that lends more. A file with room for all is never
+ * answered 14.
  *
  * The records and the pool lie in pieces in the file, so they are copied for the checks: the call needs less than
  * 224 KB of stack, whatever the screen; saving needs as much as screen_check.
  */
 SCREEN_MUST_USE
 uint32_t screen_load(const uint8_t *file, size_t file_len, uint8_t *table, size_t table_len, uint8_t *records,
-                     size_t records_len, uint8_t *pool, size_t pool_len, uint64_t *root, uint64_t *columns,
-                     uint64_t *used, uint64_t *values);
+                     size_t records_len, uint8_t *pool, size_t pool_len, uint8_t *text, size_t text_len,
+                     uint64_t *root, uint64_t *columns, uint64_t *used, uint64_t *values, uint64_t *text_bytes);
 
 #ifdef __cplusplus
 }

@@ -2,9 +2,9 @@
  * screen_build.h: puts a screen together in lent buffers, and makes the calls of screen.h on it. C99 and C++11; every
  * function is static inline, nothing is allocated and nothing is linked but the library.
  *
- *     uint8_t table[4], records[16 * 64], pool[8 * 16];
+ *     uint8_t table[4], records[16 * 64], pool[8 * 16], text[64];
  *     struct screen_lent s;
- *     screen_begin(&s, table, sizeof table, records, sizeof records, pool, sizeof pool);
+ *     screen_begin(&s, table, sizeof table, records, sizeof records, pool, sizeof pool, text, sizeof text);
  *     uint32_t strike = screen_declare(&s, SCREEN_TYPE_INT);
  *     uint32_t low = screen_put_binary(&s, SCREEN_OP_GT_EQ, screen_put_column(&s, strike), screen_put_int(&s, -100));
  *     uint32_t answer = screen_lent_rewrite(&s);
@@ -52,6 +52,9 @@ struct screen_lent {
     uint8_t *pool;
     size_t pool_len;
     size_t pool_room;
+    uint8_t *text;
+    size_t text_len;
+    size_t text_room;
     uint64_t used;
     uint64_t root;
 };
@@ -118,7 +121,7 @@ static inline int64_t screen_day(int32_t year, unsigned month, unsigned day)
 
 /* An empty screen in these buffers, lengths in bytes. All records are lent to the calls: rewriting needs room. */
 static inline void screen_begin(struct screen_lent *s, uint8_t *table, size_t table_room, uint8_t *records,
-                                size_t records_room, uint8_t *pool, size_t pool_room)
+                                size_t records_room, uint8_t *pool, size_t pool_room, uint8_t *text, size_t text_room)
 {
     s->table = table;
     s->table_len = 0;
@@ -129,6 +132,9 @@ static inline void screen_begin(struct screen_lent *s, uint8_t *table, size_t ta
     s->pool = pool;
     s->pool_len = 0;
     s->pool_room = pool_room;
+    s->text = text;
+    s->text_len = 0;
+    s->text_room = text_room;
     s->used = 0;
     s->root = 0;
 }
@@ -205,6 +211,44 @@ static inline uint32_t screen_put_day(struct screen_lent *s, int64_t days)
 static inline uint32_t screen_put_truth(struct screen_lent *s, int truth)
 {
     return screen_put_literal(s, SCREEN_TYPE_TRUTH, truth != 0);
+}
+
+/* The 64 bits of a symbol, as literals, lists and rows have them: its start and its length in the text. */
+static inline int64_t screen_symbol(uint32_t start, uint32_t length)
+{
+    uint64_t bits = SCREEN_CAST(uint64_t, length) << 32 | start;
+    int64_t value;
+    memcpy(&value, &bits, sizeof value);
+    return value;
+}
+
+/*
+ * Puts these bytes into the text, unless they lie in it already, and answers their start there; SCREEN_FULL if there is no
+ * room. Looking through the text takes time where it is long: a host with many symbols appends them by itself.
+ */
+static inline uint32_t screen_put_text(struct screen_lent *s, const char *bytes, uint32_t length)
+{
+    size_t start;
+    if (screen_is_full(s) || s->text_len > s->text_room)
+        return screen_mark_full(s);
+    for (start = 0; start + length <= s->text_len; start++)
+        if (length == 0 || memcmp(s->text + start, bytes, length) == 0)
+            return SCREEN_CAST(uint32_t, start);
+    if (s->text_room - s->text_len < length)
+        return screen_mark_full(s);
+    start = s->text_len;
+    memcpy(s->text + start, bytes, length);
+    s->text_len += length;
+    return SCREEN_CAST(uint32_t, start);
+}
+
+/* A literal of type Text with these bytes, at most 16; they are put into the text. */
+static inline uint32_t screen_put_symbol(struct screen_lent *s, const char *bytes, uint32_t length)
+{
+    uint32_t start = screen_put_text(s, bytes, length);
+    if (start == SCREEN_FULL)
+        return SCREEN_FULL;
+    return screen_put_literal(s, SCREEN_TYPE_TEXT, screen_symbol(start, length));
 }
 
 /* A null of this type (SCREEN_TYPE_..). */
@@ -338,7 +382,8 @@ static inline unsigned screen_inputs(unsigned kind)
 SCREEN_MUST_USE
 static inline uint32_t screen_lent_check(const struct screen_lent *s)
 {
-    return screen_check(s->table, s->table_len, s->records, s->records_len, s->pool, s->pool_len, s->used, s->root);
+    return screen_check(s->table, s->table_len, s->records, s->records_len, s->pool, s->pool_len, s->text, s->text_len,
+                        s->used, s->root);
 }
 
 /* As screen_rewrite; root and used become those of the screen returned, the text and the other two numbers as there. */
@@ -347,14 +392,15 @@ static inline uint32_t screen_lent_rewrite_told(struct screen_lent *s, uint8_t *
                                                 uint64_t *reasons_used, uint64_t *passes)
 {
     uint64_t root = s->root, used = s->used;
-    uint32_t answer = screen_rewrite(s->table, s->table_len, s->records, s->records_len, s->pool, s->pool_len, s->used,
-                                     s->root, reasons, reasons_len, &root, &used, reasons_used, passes);
+    uint32_t answer = screen_rewrite(s->table, s->table_len, s->records, s->records_len, s->pool, s->pool_len, s->text,
+                                     s->text_len, s->used, s->root, reasons, reasons_len, &root, &used, reasons_used,
+                                     passes);
     s->root = root;
     s->used = used;
     return answer;
 }
 
-/* The same for a caller who does not ask for the reasons; their buffer takes 34 KB of stack. */
+/* The same for a caller who does not ask for the reasons; their buffer takes 47 KB of stack. */
 SCREEN_MUST_USE
 static inline uint32_t screen_lent_rewrite_counted(struct screen_lent *s, uint64_t *passes)
 {
@@ -371,12 +417,18 @@ static inline uint32_t screen_lent_rewrite(struct screen_lent *s)
     return screen_lent_rewrite_counted(s, &passes);
 }
 
-/* One line of the text of reasons: column, SCREEN_OP_.., value, and the number of the typed line, from 0. */
+/*
+ * One line of the text of reasons: column, SCREEN_OP_.., value, and the number of the typed line, from 0. Of a symbol
+ * is_symbol is 1, length says how many bytes `symbol` has, and value is 0.
+ */
 struct screen_reason {
     uint64_t column;
     uint64_t code;
     int64_t value;
     uint64_t line;
+    uint32_t is_symbol;
+    uint32_t length;
+    uint8_t symbol[SCREEN_MAX_SYMBOL_BYTES];
 };
 
 /* The word at *at, up to a blank or the end of its line, and *at behind that byte. */
@@ -398,6 +450,19 @@ static inline uint64_t screen_reason_number(const uint8_t *word, size_t len)
     for (size_t i = minus; i < len; i++)
         number = 10 * number + SCREEN_CAST(uint64_t, word[i] - '0');
     return minus ? 0 - number : number;
+}
+
+/* A symbol's bytes, of two digits each behind the letter t. */
+static inline uint32_t screen_reason_symbol(const uint8_t *word, size_t len, uint8_t *symbol)
+{
+    uint32_t length = 0;
+    while (2 * SCREEN_CAST(size_t, length) + 2 < len && length < SCREEN_MAX_SYMBOL_BYTES) {
+        const uint8_t *digits = word + 1 + 2 * SCREEN_CAST(size_t, length);
+        unsigned high = digits[0] < 'a' ? digits[0] - SCREEN_CAST(unsigned, '0') : digits[0] - SCREEN_CAST(unsigned, 'a') + 10;
+        unsigned low = digits[1] < 'a' ? digits[1] - SCREEN_CAST(unsigned, '0') : digits[1] - SCREEN_CAST(unsigned, 'a') + 10;
+        symbol[length++] = SCREEN_CAST(uint8_t, (16 * high + low) & 255);
+    }
+    return length;
 }
 
 /* By its letters: Eq, NotEq, Lt, LtEq, Gt, GtEq. */
@@ -427,7 +492,9 @@ static inline int screen_next_reason(const uint8_t *text, size_t len, size_t *at
     size = screen_reason_word(text, len, at, &word);
     reason->code = screen_reason_operator(word, size);
     size = screen_reason_word(text, len, at, &word);
-    bits = screen_reason_number(word, size);
+    reason->is_symbol = size > 0 && word[0] == 't';
+    reason->length = reason->is_symbol ? screen_reason_symbol(word, size, reason->symbol) : 0;
+    bits = reason->is_symbol ? 0 : screen_reason_number(word, size);
     memcpy(&reason->value, &bits, sizeof bits);
     size = screen_reason_word(text, len, at, &word);
     reason->line = screen_reason_number(word, size);
@@ -438,16 +505,16 @@ static inline int screen_next_reason(const uint8_t *text, size_t len, size_t *at
 SCREEN_MUST_USE
 static inline uint32_t screen_lent_line_in_the_way(const struct screen_lent *s, uint64_t *line)
 {
-    return screen_line_in_the_way(s->table, s->table_len, s->records, s->records_len, s->pool, s->pool_len, s->used,
-                                  s->root, line);
+    return screen_line_in_the_way(s->table, s->table_len, s->records, s->records_len, s->pool, s->pool_len, s->text,
+                                  s->text_len, s->used, s->root, line);
 }
 
 /* As screen_show_row. */
 SCREEN_MUST_USE
 static inline uint32_t screen_lent_show_row(const struct screen_lent *s, uint8_t *row, size_t row_len, uint64_t *nulls)
 {
-    return screen_show_row(s->table, s->table_len, s->records, s->records_len, s->pool, s->pool_len, s->used, s->root,
-                           row, row_len, nulls);
+    return screen_show_row(s->table, s->table_len, s->records, s->records_len, s->pool, s->pool_len, s->text,
+                           s->text_len, s->used, s->root, row, row_len, nulls);
 }
 
 /* As screen_check_row. */
@@ -455,8 +522,8 @@ SCREEN_MUST_USE
 static inline uint32_t screen_lent_check_row(const struct screen_lent *s, const uint8_t *row, size_t row_len,
                                              uint64_t nulls)
 {
-    return screen_check_row(s->table, s->table_len, s->records, s->records_len, s->pool, s->pool_len, s->used, s->root,
-                            row, row_len, nulls);
+    return screen_check_row(s->table, s->table_len, s->records, s->records_len, s->pool, s->pool_len, s->text,
+                            s->text_len, s->used, s->root, row, row_len, nulls);
 }
 
 /* The whole part of a column of a row with halves. */
@@ -478,7 +545,7 @@ static inline void screen_store_cell(uint8_t *row, uint64_t column, int64_t whol
     screen_store_value(row + SCREEN_CELL_BYTES * column + SCREEN_VALUE_BYTES, half);
 }
 
-/* As screen_slowest, into the rooms of s, which becomes the screen built; it has no pool. A refusal leaves s. */
+/* As screen_slowest, into the rooms of s, which becomes the screen built; it has no pool and no text. A refusal leaves s. */
 SCREEN_MUST_USE
 static inline uint32_t screen_lent_slowest(struct screen_lent *s, uint64_t columns)
 {
@@ -489,6 +556,7 @@ static inline uint32_t screen_lent_slowest(struct screen_lent *s, uint64_t colum
     s->table_len = columns;
     s->records_len = s->records_room;
     s->pool_len = 0;
+    s->text_len = 0;
     s->root = root;
     s->used = used;
     return answer;
@@ -499,8 +567,8 @@ SCREEN_MUST_USE
 static inline uint32_t screen_lent_test_row(const struct screen_lent *s, const uint8_t *row, size_t row_len,
                                             uint64_t nulls)
 {
-    return screen_test_row(s->table, s->table_len, s->records, s->records_len, s->pool, s->pool_len, s->used, s->root,
-                           row, row_len, nulls);
+    return screen_test_row(s->table, s->table_len, s->records, s->records_len, s->pool, s->pool_len, s->text,
+                           s->text_len, s->used, s->root, row, row_len, nulls);
 }
 
 /* As screen_hedge_list; `rows` is how many words of null marks there are, and list_len is in bytes. */
@@ -509,8 +577,9 @@ static inline uint32_t screen_lent_hedge_list(const struct screen_lent *s, const
                                               const uint64_t *nulls, size_t rows, uint8_t *list, size_t list_len,
                                               struct screen_tally *tally, uint64_t *count)
 {
-    return screen_hedge_list(s->table, s->table_len, s->records, s->records_len, s->pool, s->pool_len, s->used, s->root,
-                             values, values_len, nulls, rows, list, list_len, tally, count);
+    return screen_hedge_list(s->table, s->table_len, s->records, s->records_len, s->pool, s->pool_len, s->text,
+                             s->text_len, s->used, s->root, values, values_len, nulls, rows, list, list_len, tally,
+                             count);
 }
 
 /* The row number at a place of a hedge list; places are counted from 0. */
@@ -523,16 +592,16 @@ static inline uint32_t screen_listed(const uint8_t *list, uint64_t place)
 SCREEN_MUST_USE
 static inline uint32_t screen_lent_columns_read(const struct screen_lent *s, uint64_t *columns, uint64_t *count)
 {
-    return screen_columns_read(s->table, s->table_len, s->records, s->records_len, s->pool, s->pool_len, s->used,
-                               s->root, columns, count);
+    return screen_columns_read(s->table, s->table_len, s->records, s->records_len, s->pool, s->pool_len, s->text,
+                               s->text_len, s->used, s->root, columns, count);
 }
 
-/* As screen_save: the used records are saved, and the whole pool. */
+/* As screen_save: the used records are saved, the whole pool and the whole text. */
 SCREEN_MUST_USE
 static inline uint32_t screen_lent_save(const struct screen_lent *s, uint8_t *file, size_t file_len, uint64_t *length)
 {
-    return screen_save(s->table, s->table_len, s->records, s->records_len, s->pool, s->pool_len, s->used, s->root, file,
-                       file_len, length);
+    return screen_save(s->table, s->table_len, s->records, s->records_len, s->pool, s->pool_len, s->text, s->text_len,
+                       s->used, s->root, file, file_len, length);
 }
 
 /*
@@ -542,14 +611,15 @@ static inline uint32_t screen_lent_save(const struct screen_lent *s, uint8_t *fi
 SCREEN_MUST_USE
 static inline uint32_t screen_lent_load(struct screen_lent *s, const uint8_t *file, size_t file_len)
 {
-    uint64_t root = 0, columns = 0, used = 0, values = 0;
+    uint64_t root = 0, columns = 0, used = 0, values = 0, text_bytes = 0;
     uint32_t answer = screen_load(file, file_len, s->table, s->table_room, s->records, s->records_room, s->pool,
-                                  s->pool_room, &root, &columns, &used, &values);
+                                  s->pool_room, s->text, s->text_room, &root, &columns, &used, &values, &text_bytes);
     if (screen_refused(answer))
         return answer;
     s->table_len = columns;
     s->records_len = s->records_room;
     s->pool_len = SCREEN_VALUE_BYTES * values;
+    s->text_len = text_bytes;
     s->used = used;
     s->root = root;
     return answer;
@@ -568,7 +638,7 @@ static inline void screen_copy_record(uint8_t *to, const uint8_t *from, const ui
 
 /*
  * Copies the records that the root reaches, in their order and renumbered, into `records`, and makes *to the same
- * screen with these: with the table and the pool of `from`, and all of `records` lent. Answers SCREEN_ACCEPTED, or a
+ * screen with these: with the table, the pool and the text of `from`, and all of `records` lent. Answers SCREEN_ACCEPTED, or a
  * refusal and writes nothing: as screen_check of `from`, then SCREEN_REFUSED_ROOM if `records` is too short.
  *
  * `records` may be the buffer of `from`; else the two do not overlap. `to` may be `from`.

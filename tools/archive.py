@@ -13,7 +13,8 @@ ARCHIVE = os.path.join(REPO, "target", "staticlib", "libscreen.a")
 MARKS = (0x0123456789ABCDEF, 0xFEDCBA9876543210)  # out-parameters before a call
 THREE_MARKS = MARKS + (0x5555AAAA5555AAAA,)
 FOUR_MARKS = THREE_MARKS + (0x00FF00FF00FF00FF,)
-TEXT_ROOM = 34816  # bytes: enough for the text of every rewriting
+FIVE_MARKS = FOUR_MARKS + (0x1234123412341234,)
+REASONS_ROOM = 48128  # bytes: enough for the text of every rewriting
 
 
 FILLER = bytes((7 * i + 3) % 251 for i in range(1 << 16))
@@ -42,14 +43,14 @@ class Archive:
     def _call(self, name, s, *more, writes_records=False):
         """The answer and the records at exit; `more` are the arguments after those that all calls share."""
         slices = []
-        for data in (s.table, s.records, s.pool):
+        for data in (s.table, s.records, s.pool, s.text):
             lent = (ctypes.c_uint8 * len(data)).from_buffer_copy(data) if data else None
             slices += [lent, ctypes.c_size_t(len(data))]
         function = getattr(self.lib, name)
         function.restype = ctypes.c_uint32
         answer = function(*slices, ctypes.c_uint64(s.used), ctypes.c_uint64(s.root), *more)
-        table, records, pool = (bytes(slices[i] or b"") for i in (0, 2, 4))
-        if (table, pool) != (s.table, s.pool) or not writes_records and records != s.records:
+        table, records, pool, text = (bytes(slices[i] or b"") for i in (0, 2, 4, 6))
+        if (table, pool, text) != (s.table, s.pool, s.text) or not writes_records and records != s.records:
             raise Changed(name)
         return answer, records
 
@@ -73,7 +74,7 @@ class Archive:
     def test_row(self, s, row, nulls):
         return self._row("screen_test_row", s, row, nulls)
 
-    def rewrite(self, s, room=TEXT_ROOM):
+    def rewrite(self, s, room=REASONS_ROOM):
         """The answer, new root, new used, length of the text and passes, which stand at FOUR_MARKS before the call, the
         lent text buffer of `room` bytes after it, where filler(5, room) stood, and the records at exit."""
         lent = (ctypes.c_uint8 * room).from_buffer_copy(filler(5, room)) if room else None
@@ -118,12 +119,12 @@ class Archive:
         return answer, size.value, bytes(file or b""), old
 
     def load(self, data, *rooms):
-        """The answer, the four out-parameters, which stand at FOUR_MARKS before the call, and the lent table, records
-        and pool of `rooms` bytes, after and before it."""
+        """The answer, the five out-parameters, which stand at FIVE_MARKS before the call, and the lent table, records,
+        pool and text of `rooms` bytes, after and before it."""
         lent = (ctypes.c_uint8 * len(data)).from_buffer_copy(data) if data else None
         old = [filler(n, room) for n, room in enumerate(rooms)]
         buffers = [(ctypes.c_uint8 * len(b)).from_buffer_copy(b) if b else None for b in old]
-        out = [ctypes.c_uint64(mark) for mark in FOUR_MARKS]
+        out = [ctypes.c_uint64(mark) for mark in FIVE_MARKS]
         slices = [lent, ctypes.c_size_t(len(data))]
         for buffer, b in zip(buffers, old):
             slices += [buffer, ctypes.c_size_t(len(b))]

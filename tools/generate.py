@@ -6,6 +6,8 @@
   mixed    plain lines among all others: every record kind, operator and type, nested, with shared records
   divided  plain lines among those that divide: in every place of an Int, nested, by zero, at the ends of 64 bits, some
            where the root does not reach them, some of wrong types
+  symbols  lines on Text columns among others: equal bytes at several starts, prefixes, empty symbols, symbols of 16 bytes,
+           bytes 0 and 255, some at the very end of the text pool, some past it or too long
   limits   127 to 129 conjuncts, trees of 4,095 to 4,097, full tables, pools and records, long lists
   damaged  one of the above with bytes, lengths or numbers changed
   garbage  bytes that were never a screen
@@ -22,6 +24,7 @@ LOGIC = (m.AND, m.OR, m.XOR, m.LOGICAL_AND, m.LOGICAL_OR)
 EXTREMES = {m.INT: (-2**63, 2**63 - 1, 2**31, -2**31 - 1, 2**32), m.DAY: (-2**31, 2**31 - 1), m.TRUTH: (0, 1)}
 DIVIDED = (-2**63, 1 - 2**63, 2**63 - 1, -101, -100, -7, -1, 0, 1, 7, 99, 100, 101)
 DIVISORS = (0, 0, 1, -1, -1, 2, -2, 3, -3, 7, -7, 100, -100, -2**63, 2**63 - 1)
+ALPHABETS = (b"ab", b"ab", b"abc", b"\0\xff", b"SPXN", bytes(range(256)))
 ODD_NUMBERS = (2**64 - 1, 2**63, 2**60, 2**32, 2**32 + 1, 2**16, 4096, 4097, 8192)
 
 
@@ -29,11 +32,23 @@ def value_bytes(v):
     return (v & (2**64 - 1)).to_bytes(8, "little")
 
 
+def symbol(rng, text):
+    """64 bits that name a part of the text pool: the start in the low half, the length in the high half."""
+    length = min(rng.choice((0, 1, 1, 1, 2, 2, 3, 16)), len(text))
+    start = len(text) - length if rng.random() < 0.1 else rng.randrange(len(text) - length + 1)
+    return start | length << 32
+
+
+def text_pool(rng):
+    letters, length = rng.choice(ALPHABETS), rng.choice((0, 1, 4, 8, 8, 20, 40))
+    return bytes(rng.choice(letters) for _ in range(length))
+
+
 class Builder:
     """A screen under construction. Columns, literals and whole lines are sometimes used again instead of made anew."""
 
-    def __init__(self, rng, table, spread=7, share=0.3):
-        self.rng, self.table, self.spread, self.share = rng, bytes(table), spread, share
+    def __init__(self, rng, table, spread=7, share=0.3, text=b"", types=(m.INT, m.INT, m.DAY, m.TRUTH)):
+        self.rng, self.table, self.spread, self.share, self.text, self.types = rng, bytes(table), spread, share, text, types
         self.records, self.values, self.made = bytearray(), [], {}
 
     def put(self, kind, code=0, type_=0, a=0, b=0, c=0):
@@ -51,13 +66,15 @@ class Builder:
 
     def screen(self, root, room=b""):
         pool = b"".join(value_bytes(v) for v in self.values)
-        return Screen(self.table, bytes(self.records) + room, pool, self.used(), root)
+        return Screen(self.table, bytes(self.records) + room, pool, self.used(), root, self.text)
 
     # Leaves
 
     def draw(self, type_):
         if type_ == m.TRUTH:
             return self.rng.randrange(2)
+        if type_ == m.TEXT:
+            return symbol(self.rng, self.text)
         if self.rng.random() < 0.03:
             return self.rng.choice(EXTREMES[type_])
         return self.rng.randrange(self.spread) - self.spread // 3
@@ -114,8 +131,8 @@ class Builder:
         other = self.rng.choice(self.columns((self.table[number],)))
         return self.put(m.BINARY, m.EQ, 0, self.column(number), self.column(other))
 
-    def plain_line(self, mix=None):
-        number = self.rng.choice(self.columns((m.INT, m.DAY)))
+    def plain_line(self, mix=None, types=(m.INT, m.DAY)):
+        number = self.rng.choice(self.columns(types))
         make = (self.comparison, self.range, self.member, self.negated_member, self.null_test, self.negated_null_test,
                 self.equality, self.negated_comparison)
         return self.rng.choices(make, mix or (8, 2, 2, 2, 1, 1, 3, 3))[0](number)
@@ -135,7 +152,7 @@ class Builder:
         rng = self.rng
         if depth <= 0 or rng.random() < 0.1:
             return self.value(m.TRUTH, 0)
-        type_ = rng.choice((m.INT, m.INT, m.DAY, m.TRUTH))
+        type_ = rng.choice(self.types)
         kind = rng.choice((m.BINARY,) * 5 + (m.NOT, m.IS_NULL, m.IS_NOT_NULL, m.IS_BETWEEN, m.IS_IN))
         if kind == m.BINARY and rng.random() < 0.4:
             return self.put(kind, rng.choice(LOGIC), 0, self.truth(depth - 1), self.truth(depth - 1))
@@ -320,6 +337,73 @@ def divided(rng, most=8):
     if weights == (1, 0) and not before or rng.random() < 0.2:  # behind the root, and reached by nothing
         rng.choices((b.division, b.dividing_line, b.misfit), (10, 10, 1))[0]()
     return b.screen(root, room(rng))
+
+
+SYMBOL_TABLE = (m.TEXT, m.TEXT, m.TEXT, m.INT, m.TRUTH)
+SYMBOL_TYPES = (m.TEXT, m.TEXT, m.TEXT, m.INT, m.TRUTH)
+
+
+def symbols(rng, most=8):
+    table = [m.TEXT] + [rng.choice(SYMBOL_TABLE) for _ in range(rng.choice((0, 1, 1, 2, 3, 5)))]
+    b = Builder(rng, table, rng.choice((3, 5)), rng.choice((0, 0.3, 0.9)), text_pool(rng), SYMBOL_TYPES)
+    makes = (lambda: b.plain_line(mix, (m.TEXT,)), lambda: b.plain_line(mix, (m.TEXT, m.INT)), b.near_plain,
+             lambda: b.truth(rng.randint(1, 4)))
+    mix = rng.choice((None, None, (4, 1, 1, 1, 1, 1, 8, 1), (1, 1, 4, 4, 2, 2, 1, 1), (8, 1, 0, 0, 0, 0, 0, 0)))
+    weights = rng.choice(((3, 1, 1, 1), (6, 1, 0, 0), (6, 1, 0, 0), (0, 1, 1, 2)))
+    lines = [rng.choices(makes, weights)[0]() for _ in range(rng.randint(1, rng.choice((2, 4, most))))]
+    root = b.conjunction(b.repeat(lines))
+    if rng.random() < 0.1:  # a symbol that the root does not reach
+        rng.choice((lambda: b.literal(m.TEXT), lambda: b.list(m.TEXT), lambda: b.put(m.NULL, type_=m.TEXT)))()
+    return b.screen(root, room(rng))
+
+
+def merging_symbols(rng, most=10):
+    """Lines on Text columns that some row passes, so that there is more to merge than a contradiction."""
+    table = [m.TEXT] * rng.choice((1, 1, 2, 3)) + [m.INT] * rng.choice((0, 0, 1))
+    text = text_pool(rng) or b"ab"
+    b = Builder(rng, table, 5, rng.choice((0, 0.3, 0.9)), text, SYMBOL_TYPES)
+    one = text[:rng.choice((0, 1, 1, 2))]
+    row = [(one if rng.random() < 0.8 else any_symbol(rng, b.screen(0))) if type_ == m.TEXT else 1 for type_ in table]
+    lines, wanted, tries = [], rng.randint(2, most), 0
+    while len(lines) < wanted and (tries := tries + 1) < 200:
+        before = len(b.records), len(b.values), dict(b.made)
+        line = b.plain_line(types=(m.TEXT, m.INT))
+        if m.evaluate(b.screen(line), row) == 1:
+            lines.append(line)
+        else:
+            del b.records[before[0]:], b.values[before[1]:]
+            b.made = before[2]
+    return b.screen(b.conjunction(b.repeat(lines)), room(rng)) if lines else symbols(rng)
+
+
+def symbols_beside(rng):
+    """A plain screen with Text columns that it does not read, and records of type Text that its root does not reach."""
+    b = Builder(rng, [m.TEXT, m.INT, m.DAY], 5, 0.3, text_pool(rng), SYMBOL_TYPES)
+    before = [b.literal(m.TEXT), b.put(m.IS_NULL, a=b.column(0))][:rng.randrange(3)]
+    lines = [b.plain_line() for _ in range(rng.randint(1, 5))]
+    if before and rng.random() < 0.1:
+        lines.append(before[-1] if len(before) == 2 else b.put(m.IS_NULL, a=b.column(0)))
+    root = b.conjunction(lines)
+    b.list(m.TEXT)
+    return b.screen(root, room(rng))
+
+
+def damaged_symbols(rng):
+    """Symbols past the pool or too long, pools cut or too long; or any other damage."""
+    s = rng.choice((symbols, merging_symbols, symbols_beside))(rng)
+    kind = rng.randrange(6)
+    if kind == 0:
+        return s.but(text=s.text[:max(0, len(s.text) - rng.choice((1, 1, 2, 5)))])
+    if kind == 1:
+        return s.but(text=s.text + bytes(rng.choice((8192, 8193)) - len(s.text)))
+    literals = [n for n in range(s.used) if s.records[16 * n] == m.LITERAL and s.records[16 * n + 2] == m.TEXT]
+    if kind in (2, 3) and literals:
+        at, changed = 16 * rng.choice(literals), bytearray(s.records)
+        length = rng.choice((0, 1, 15, 16, 17, 2**32 - 1))
+        start = max(0, len(s.text) - length + rng.choice((-1, 0, 1)))
+        changed[at + 8:at + 16] = (start % 2**32).to_bytes(4, "little") + length.to_bytes(4, "little")
+        return s.but(records=bytes(changed), text=s.text + bytes(rng.choice((0, 0, 17))))
+    return damage(rng, s)
 
 
 def many_conjuncts(rng):
@@ -526,8 +610,9 @@ def garbage(rng):
 
 
 def screen(rng):
-    return rng.choices((plain, merging, mixed, divided, limits, damaged, damaged_division, garbage),
-                       (20, 20, 25, 15, 2, 20, 4, 4))[0](rng)
+    return rng.choices((plain, merging, mixed, divided, limits, damaged, damaged_division, garbage, symbols,
+                        merging_symbols, symbols_beside, damaged_symbols),
+                       (20, 20, 25, 15, 2, 20, 4, 4, 20, 20, 4, 12))[0](rng)
 
 
 # Rows
@@ -538,7 +623,7 @@ def literals(s):
     found = {0, 1, 2, 3}
     for n in range(min(s.used, len(s.records) // 16)):
         r = m.record_at(s.records, n)
-        if r.kind == m.LITERAL:
+        if r.kind == m.LITERAL and r.type != m.TEXT:
             found.add(r.value)
     found.update(m.number(s.pool[i:i + 8], True) for i in range(0, min(len(s.pool), 800), 8))
     if m.check(s) == m.ACCEPTED and m.reaches_division(s):
@@ -546,8 +631,17 @@ def literals(s):
     return sorted(v + d for v in found for d in (-1, 0, 1))
 
 
+def any_symbol(rng, s):
+    """Bytes as a row of demand 3 has them: those of the pool, or any."""
+    if rng.random() < 0.7:
+        return s.symbol(symbol(rng, s.text))
+    letters = s.text or b"a"
+    return bytes(rng.choice(letters) for _ in range(rng.choice((0, 1, 1, 2, 3, 16))))
+
+
 def cells(rng, s, halves=False):
-    """A row as the definition has it: for each column None or a number, with `halves` also half way between two."""
+    """A row as the definition has it: for each column None or a number, with `halves` also half way between two; of a
+    Text column a symbol, with `halves` one that need not lie in the pool."""
     values, row = literals(s), []
     nulls = rng.choice((0, 0.2, 0.5))
     for type_ in s.table:
@@ -555,6 +649,8 @@ def cells(rng, s, halves=False):
             row.append(None)
         elif type_ == m.TRUTH:
             row.append(rng.randrange(2))
+        elif type_ == m.TEXT:
+            row.append(any_symbol(rng, s) if halves else s.symbol(symbol(rng, s.text)))
         elif halves:
             row.append(rng.choice(values) + rng.choice((0, 0, 0.5)))
         else:
@@ -564,8 +660,8 @@ def cells(rng, s, halves=False):
 
 def equal_cells(rng, s):
     """A row without nulls that holds one value wherever it fits, so that lines which compare columns hold."""
-    v = rng.choice(literals(s)) + rng.choice((0, 0, 0.5))
-    return [rng.randrange(2) if type_ == m.TRUTH else v for type_ in s.table]
+    v, of_text = rng.choice(literals(s)) + rng.choice((0, 0, 0.5)), any_symbol(rng, s)
+    return [{m.TRUTH: rng.randrange(2), m.TEXT: of_text}.get(type_, v) for type_ in s.table]
 
 
 def demanded_cells(rng, s, equal):
@@ -573,8 +669,8 @@ def demanded_cells(rng, s, equal):
     if m.reaches_division(s):
         row = cells(rng, s)
         v = rng.choice(row) if row else None
-        if equal and v is not None:
-            row = [v if m.in_type(type_, v) and type_ != m.TRUTH else old for type_, old in zip(s.table, row)]
+        if equal and isinstance(v, int):
+            row = [v if type_ in (m.INT, m.DAY) and m.in_type(type_, v) else old for type_, old in zip(s.table, row)]
         return row
     return equal_cells(rng, s) if equal else cells(rng, s, halves=True)
 
@@ -604,11 +700,19 @@ def critical_rows(s, most):
     return rows
 
 
+def packed(rng, s, v):
+    """A cell as eight bytes: a symbol by a place where its bytes lie in the pool, one of several perhaps."""
+    if not isinstance(v, bytes):
+        return value_bytes(v or 0)
+    starts = [i for i in range(len(s.text) - len(v) + 1) if s.text[i:i + len(v)] == v]
+    return value_bytes(rng.choice(starts) | len(v) << 32)
+
+
 def lent_row(rng, s, damage=0.1):
     """A row as the call takes it, sometimes one to refuse: its bytes and its null marks."""
     row = cells(rng, s)
     nulls = sum(1 << i for i, v in enumerate(row) if v is None)
-    data = bytearray(b"".join(value_bytes(v or 0) for v in row))
+    data = bytearray(b"".join(map(lambda v: packed(rng, s, v), row)))
     if rng.random() < damage:
         kind = rng.randrange(4)
         if kind == 0:

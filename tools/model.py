@@ -1,14 +1,14 @@
 """A model of the calls, written from the paper alone: checking, tree count, columns read, the row test, plain screens.
 
-It shares no code and no shape with the library: a record's value is one cell (a number, or None for null and for
-unknown), all cells are filled from record 0 up, and nothing is fast. The recorded answers and the comparisons use it.
+It shares no code and no shape with the library: a record's value is one cell (a number, the bytes of a symbol, or None
+for null and for unknown), all cells are filled from record 0 up, and nothing is fast. The recorded answers and the comparisons use it.
 """
 
 from dataclasses import dataclass, replace
 from functools import lru_cache
 from typing import NamedTuple
 
-INT, DAY, TRUTH = 1, 2, 3
+INT, DAY, TRUTH, TEXT = 1, 2, 3, 4
 COLUMN, LITERAL, NULL, BINARY, NOT, IS_NULL, IS_NOT_NULL, IS_BETWEEN, LIST, IS_IN = range(1, 11)
 (EQ, EQ_VALIDITY, NOT_EQ, NOT_EQ_VALIDITY, LT, LT_EQ, GT, GT_EQ, PLUS, MINUS, MULTIPLY, RUST_DIVIDE, TRUE_DIVIDE,
  FLOOR_DIVIDE, MODULUS, AND, OR, XOR, LOGICAL_AND, LOGICAL_OR) = range(20)
@@ -17,6 +17,7 @@ PLAIN = (EQ, NOT_EQ, LT, LT_EQ, GT, GT_EQ)
 DIVISIONS = (FLOOR_DIVIDE, MODULUS)
 
 MAX_COLUMNS, MAX_RECORDS, MAX_POOL, MAX_TREE, MAX_CONJUNCTS = 64, 4096, 8192, 4096, 128
+MAX_TEXT, MAX_SYMBOL = 8192, 16
 
 ACCEPTED = 256
 FALSE, UNKNOWN, TRUE = 256, 257, 258
@@ -39,9 +40,23 @@ class Screen:
     pool: bytes
     used: int
     root: int
+    text: bytes | None = b""  # None as before request 2.10, when none was lent and there was no type 4
 
     def but(self, **fields):
         return replace(self, **fields)
+
+    def symbol(self, v):
+        """The bytes that 64 bits name in the text pool: the start in the low half, the length in the high half."""
+        bits = v & (2**64 - 1)
+        start, length = bits & (2**32 - 1), bits >> 32
+        return self.text[start:start + length]
+
+    def cell(self, type_, v):
+        """64 bits of a type as what is compared."""
+        return self.symbol(v) if type_ == TEXT else v
+
+    def types(self):
+        return (INT, DAY, TRUTH) if self.text is None else (INT, DAY, TRUTH, TEXT)
 
 
 class Record(NamedTuple):
@@ -77,28 +92,32 @@ def pool_of(s):
     return tuple(number(s.pool[i:i + 8], True) for i in range(0, len(s.pool), 8))
 
 
-def in_type(type_, v):
+def in_type(type_, v, text=b""):
+    """A symbol's start and length are within the text pool, and it has at most 16 bytes."""
     if type_ == INT:
         return -2**63 <= v < 2**63
     if type_ == DAY:
         return -2**31 <= v < 2**31
+    if type_ == TEXT:
+        bits = v & (2**64 - 1)
+        return bits >> 32 <= MAX_SYMBOL and (bits & (2**32 - 1)) + (bits >> 32) <= len(text)
     return v in (0, 1)
 
 
 # Checking
 
 
-def fault_4(r):
+def fault_4(s, r):
     """Unknown kind, code or type, a nonzero unused field, a literal outside its type."""
     if r.kind not in USES or r.zero != 0:
         return True
     if r.code > MAX_CODE.get(r.kind, 0):
         return True
-    if r.type not in ((INT, DAY, TRUTH) if r.kind in TYPED else (0,)):
+    if r.type not in (s.types() if r.kind in TYPED else (0,)):
         return True
     if any(field != 0 and name not in USES[r.kind] for name, field in zip("ABC", (r.a, r.b, r.c))):
         return True
-    return r.kind == LITERAL and not in_type(r.type, r.value)
+    return r.kind == LITERAL and not in_type(r.type, r.value, s.text)
 
 
 def fault_5(s, pool, n, r):
@@ -108,7 +127,7 @@ def fault_5(s, pool, n, r):
     if r.kind == COLUMN:
         return r.a >= len(s.table)
     if r.kind == LIST:
-        return r.a + r.b > len(pool) or not all(in_type(r.type, v) for v in pool[r.a:r.a + r.b])
+        return r.a + r.b > len(pool) or not all(in_type(r.type, v, s.text) for v in pool[r.a:r.a + r.b])
     return False
 
 
@@ -149,17 +168,17 @@ def fault_7(types, r):
 
 @lru_cache(8)
 def check(s):
-    if len(s.table) > MAX_COLUMNS or any(t not in (INT, DAY, TRUTH) for t in s.table):
+    if len(s.table) > MAX_COLUMNS or any(t not in s.types() for t in s.table):
         return 1
     if s.used > MAX_RECORDS or s.used > len(s.records) // 16:
         return 2
-    if len(s.pool) % 8 != 0 or len(s.pool) // 8 > MAX_POOL:
+    if len(s.pool) % 8 != 0 or len(s.pool) // 8 > MAX_POOL or len(s.text or b"") > MAX_TEXT:
         return 2
     if s.root >= s.used:
         return 3
     records, pool, types = records_of(s), pool_of(s), []
     for n, r in enumerate(records):
-        if fault_4(r):
+        if fault_4(s, r):
             return 4
         if fault_5(s, pool, n, r):
             return 5
@@ -289,7 +308,8 @@ def line_in_the_way(s, passes):
     return NO_LINE, None
 
 
-# The row test. A cell is a number, or None for null; of a truth 0 false, 1 true, None unknown.
+# The row test. A cell is a number, bytes of a symbol, or None for null; of a truth 0 false, 1 true, None unknown. Python
+# orders bytes as the paper does symbols: byte by byte, 0 to 255, a prefix below what extends it.
 
 
 def divided(a, b):
@@ -361,14 +381,14 @@ def member(x, values, holds_null, nulls_equal):
 
 
 def evaluate(s, row, root=None, divide=divided):
-    """The root's cell on a row, a cell for each column; its numbers may be any, halves too."""
+    """The root's cell on a row, a cell for each column; its numbers may be any, halves too, and its symbols any bytes."""
     pool, cells = pool_of(s), []
     for r in records_of(s):
         got = [cells[i] for i in r.inputs()]
         if r.kind == COLUMN:
             cell = row[r.a]
         elif r.kind == LITERAL:
-            cell = r.value
+            cell = s.cell(r.type, r.value)
         elif r.kind == NULL:
             cell = None
         elif r.kind == BINARY:
@@ -382,7 +402,7 @@ def evaluate(s, row, root=None, divide=divided):
         elif r.kind == IS_BETWEEN:
             cell = between(r.code, *got)
         elif r.kind == LIST:
-            cell = (pool[r.a:r.a + r.b], r.code == 1)
+            cell = ([s.cell(r.type, v) for v in pool[r.a:r.a + r.b]], r.code == 1)
         else:
             cell = member(got[0], got[1][0], got[1][1], r.code == 1)
         cells.append(cell)
@@ -404,7 +424,7 @@ def test_row(s, row, nulls):
     for i, type_ in enumerate(s.table):
         v = number(row[8 * i:8 * i + 8], True)
         null = nulls >> i & 1
-        if (v != 0) if null else not in_type(type_, v):
+        if (v != 0) if null else not in_type(type_, v, s.text):
             return 13
-        cells.append(None if null else v)
+        cells.append(None if null else s.cell(type_, v))
     return {0: FALSE, None: UNKNOWN, 1: TRUE}[evaluate(s, cells)]

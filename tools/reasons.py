@@ -12,12 +12,12 @@ import model as m
 NAMES = {m.EQ: "Eq", m.NOT_EQ: "NotEq", m.LT: "Lt", m.LT_EQ: "LtEq", m.GT: "Gt", m.GT_EQ: "GtEq"}
 MIRRORED = {m.EQ: m.EQ, m.NOT_EQ: m.NOT_EQ, m.LT: m.GT, m.LT_EQ: m.GT_EQ, m.GT: m.LT, m.GT_EQ: m.LT_EQ}
 OPPOSITE = {m.EQ: m.NOT_EQ, m.NOT_EQ: m.EQ, m.LT: m.GT_EQ, m.LT_EQ: m.GT, m.GT: m.LT_EQ, m.GT_EQ: m.LT}
-MAX_LINE = 34  # column 63, NotEq, 20 bytes of value, line 127, three blanks and a byte 10
+MAX_LINE = 47  # column 63, NotEq, 33 bytes of a symbol, line 127, three blanks and a byte 10
 MAX_TEXT = 1024 * MAX_LINE
 
 
 class Limit(NamedTuple):
-    value: int
+    value: int | bytes
     closed: bool
     line: int
 
@@ -93,22 +93,27 @@ class Column:
         return found
 
 
-def said(records, r):
-    """The limits of one line: column, comparison and value."""
+def said(s, records, r):
+    """The limits of one line: column, comparison and value, of a symbol its bytes."""
+    for column, code, literal in said_literals(records, r):
+        yield column, code, s.cell(literal.type, literal.value)
+
+
+def said_literals(records, r):
     turned = r.kind == m.NOT and records[r.a].kind == m.BINARY
     if turned:
         r = records[r.a]
     inputs = [records[i] for i in r.inputs()]
     kinds = [i.kind for i in inputs]
     if r.kind == m.IS_BETWEEN and kinds == [m.COLUMN, m.LITERAL, m.LITERAL]:
-        yield inputs[0].a, m.GT_EQ if r.code in (m.BOTH, m.LEFT) else m.GT, inputs[1].value
-        yield inputs[0].a, m.LT_EQ if r.code in (m.BOTH, m.RIGHT) else m.LT, inputs[2].value
+        yield inputs[0].a, m.GT_EQ if r.code in (m.BOTH, m.LEFT) else m.GT, inputs[1]
+        yield inputs[0].a, m.LT_EQ if r.code in (m.BOTH, m.RIGHT) else m.LT, inputs[2]
     elif r.kind == m.BINARY and r.code in m.PLAIN and sorted(kinds) == [m.COLUMN, m.LITERAL]:
         code = OPPOSITE[r.code] if turned else r.code
         if kinds[0] == m.COLUMN:
-            yield inputs[0].a, code, inputs[1].value
+            yield inputs[0].a, code, inputs[1]
         else:
-            yield inputs[1].a, MIRRORED[code], inputs[0].value
+            yield inputs[1].a, MIRRORED[code], inputs[0]
 
 
 def pair(records, r):
@@ -136,7 +141,7 @@ def merged(s):
     records, columns, edges = m.records_of(s), [Column() for _ in s.table], []
     for line, n in enumerate(m.conjuncts(s)):
         r = records[n]
-        for column, code, value in said(records, r):
+        for column, code, value in said(s, records, r):
             columns[column].say(code, value, line)
         if (both := pair(records, r)) is not None:
             left, right, equal = both
@@ -153,11 +158,11 @@ def merged(s):
     return columns
 
 
-def rebuilt(records, first, last):
+def rebuilt(s, records, first, last):
     """The comparisons among the records added: a column, a literal and the comparison of the two, then the Ands."""
     while first < last and m.record_at(records, first).kind == m.COLUMN:
         column, literal, comparison = (m.record_at(records, first + i) for i in range(3))
-        yield column.a, comparison.code, literal.value
+        yield column.a, comparison.code, s.cell(literal.type, literal.value)
         first += 3
 
 
@@ -165,11 +170,16 @@ def reasons(s, records, used):
     """Column, operator, value and line of each comparison rebuilt, where rewriting s left these records and this used."""
     columns = [column.comparisons() for column in merged(s)]
     found = [(column, NAMES[code], value, columns[column][code, value])
-             for column, code, value in rebuilt(records, s.used, used)]
+             for column, code, value in rebuilt(s, records, s.used, used)]
     assert len(found) == len(set(found)) == sum(map(len, columns)), "other limits than the model's"
     return found
 
 
+def shown(value):
+    """A number in decimals; a symbol as the letter t and two lower-case hexadecimal digits a byte."""
+    return b"t" + value.hex().encode() if isinstance(value, bytes) else b"%d" % value
+
+
 def text(s, records, used):
-    return b"".join(b"%d %s %d %d\n" % (column, name.encode(), value, line)
+    return b"".join(b"%d %s %s %d\n" % (column, name.encode(), shown(value), line)
                     for column, name, value, line in reasons(s, records, used))

@@ -27,8 +27,8 @@ class Rust:
         """The Rust's answer on an accepted screen, with the new root and the added bytes."""
         size, root = ctypes.c_size_t(), ctypes.c_size_t()
         answer = self.call(s.records[:16 * s.used], ctypes.c_size_t(16 * s.used), s.pool, ctypes.c_size_t(len(s.pool)),
-                           ctypes.c_size_t(s.root), ctypes.c_bool(difference), self.added, ctypes.c_size_t(ROOM),
-                           ctypes.byref(size), ctypes.byref(root))
+                           s.text or b"", ctypes.c_size_t(len(s.text or b"")), ctypes.c_size_t(s.root), ctypes.c_bool(difference),
+                           self.added, ctypes.c_size_t(ROOM), ctypes.byref(size), ctypes.byref(root))
         assert answer >= 0, "more records added than any screen adds"
         return UNCHANGED + answer, root.value, bytes(self.added[:size.value])
 
@@ -37,7 +37,7 @@ class Rust:
         if not m.has_equality(s):
             return 0
         return self.count(s.records[:16 * s.used], ctypes.c_size_t(16 * s.used), s.pool, ctypes.c_size_t(len(s.pool)),
-                          ctypes.c_size_t(s.root))
+                          s.text or b"", ctypes.c_size_t(len(s.text or b"")), ctypes.c_size_t(s.root))
 
     def lets_pass(self, s, nodes):
         """Whether the Rust lets some row pass the And of these records, of a plain screen that is accepted."""

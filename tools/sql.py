@@ -1,7 +1,8 @@
 """A screen as an SQL expression, for the engines that the row test is compared with; screens and rows to ask them of.
 
 How a record is written. A truth may stand wherever a value may, and false is below true: 0 and 1 in SQLite, FALSE and
-TRUE in PostgreSQL.
+TRUE in PostgreSQL. A symbol is a BLOB in SQLite and a bytea in PostgreSQL: both are ordered byte by byte, a prefix below what
+extends it.
   comparisons     = <> < <= > >=
   EqValidity      IS NOT DISTINCT FROM, which takes null as a value (SQLite: IS); NotEqValidity: IS DISTINCT FROM
   And, Or, Not    AND, OR, NOT; LogicalAnd and LogicalOr likewise
@@ -20,22 +21,25 @@ TRUE in PostgreSQL.
 """
 
 import collections
+import random
 
 import generate as g
 import model as m
 
 Dialect = collections.namedtuple("Dialect", "same different literal null no_value")
-SQLITE = Dialect("IS", "IS NOT", lambda type_, v: f"({v})", lambda type_: "NULL", lambda x, type_: f"({x} IN ())")
-NAMES = {m.INT: "bigint", m.DAY: "bigint", m.TRUTH: "boolean"}
+SQLITE = Dialect("IS", "IS NOT", lambda type_, v: f"x'{v.hex()}'" if type_ == m.TEXT else f"({v})", lambda type_: "NULL", lambda x, type_: f"({x} IN ())")
+NAMES = {m.INT: "bigint", m.DAY: "bigint", m.TRUTH: "boolean", m.TEXT: "bytea"}
 POSTGRES = Dialect("IS NOT DISTINCT FROM", "IS DISTINCT FROM",
-                   lambda type_, v: ("FALSE", "TRUE")[v] if type_ == m.TRUTH else f"({v})::bigint",
+                   lambda type_, v: ("FALSE", "TRUE")[v] if type_ == m.TRUTH else
+                   f"'\\x{v.hex()}'::bytea" if type_ == m.TEXT else f"({v})::bigint",
                    lambda type_: f"NULL::{NAMES[type_]}", lambda x, type_: f"({x} = ANY('{{}}'::{NAMES[type_]}[]))")
 WORDS = {m.EQ: "=", m.NOT_EQ: "<>", m.LT: "<", m.LT_EQ: "<=", m.GT: ">", m.GT_EQ: ">=", m.AND: "AND",
          m.LOGICAL_AND: "AND", m.OR: "OR", m.LOGICAL_OR: "OR", m.XOR: "<>"}
 
 
-def member(dialect, x, pool, list_, nulls_equal):
-    values = [dialect.literal(list_.type, v) for v in pool[list_.a:list_.a + list_.b]]
+def member(dialect, x, s, list_, nulls_equal):
+    cells = [s.cell(list_.type, v) for v in m.pool_of(s)[list_.a:list_.a + list_.b]]
+    values = [dialect.literal(list_.type, v) for v in cells]
     if list_.code == 1 and not nulls_equal:
         values.append(dialect.null(list_.type))
     found = f"({x} IN ({', '.join(values)}))" if values else dialect.no_value(x, list_.type)
@@ -55,14 +59,14 @@ def division(dialect, code, x, y):
 
 def expression(s, dialect):
     """The root as an SQL expression over columns c0, c1, .."""
-    pool, records, texts = m.pool_of(s), m.records_of(s), []
+    records, texts = m.records_of(s), []
     words = {**WORDS, m.EQ_VALIDITY: dialect.same, m.NOT_EQ_VALIDITY: dialect.different}
     for r in records:
         got = [texts[i] for i in r.inputs()]
         if r.kind == m.COLUMN:
             text = f"c{r.a}"
         elif r.kind == m.LITERAL:
-            text = dialect.literal(r.type, r.value)
+            text = dialect.literal(r.type, s.cell(r.type, r.value))
         elif r.kind == m.NULL:
             text = dialect.null(r.type)
         elif m.divides(r):
@@ -84,7 +88,7 @@ def expression(s, dialect):
         elif r.kind == m.LIST:
             text = ""
         else:
-            text = member(dialect, got[0], pool, records[r.b], r.code == 1)
+            text = member(dialect, got[0], s, records[r.b], r.code == 1)
         texts.append(text)
     return texts[s.root]
 
@@ -157,7 +161,7 @@ def small_cells(rng, s):
 def draw(rng):
     """A screen, and rows to ask it of."""
     while True:
-        kind = rng.choice((g.plain, g.mixed, deep, nulled, g.divided, lots))
+        kind = rng.choice((g.plain, g.mixed, deep, nulled, g.divided, lots, g.symbols, g.merging_symbols))
         s = kind(rng)
         if m.check(s) == m.ACCEPTED and m.tree_count(s) <= 250:  # an engine's parser has limits of its own
             cells = small_cells if kind is lots else g.cells
@@ -169,10 +173,11 @@ class Tally:
 
     def __init__(self, engine, lib):
         self.engine, self.lib, self.passed, self.failed, self.seen = engine, lib, 0, 0, collections.Counter()
+        self.rng = random.Random(1)  # which of several places a symbol of a row has
 
     def compare(self, s, rows, truths, text):
         for row, truth in zip(rows, truths, strict=True):
-            data = b"".join(g.value_bytes(v or 0) for v in row)
+            data = b"".join(g.packed(self.rng, s, v) for v in row)
             nulls = sum(1 << i for i, v in enumerate(row) if v is None)
             got = [m.test_row(s, data, nulls)] + ([self.lib.test_row(s, data, nulls)] if self.lib else [])
             self.seen[truth] += 1

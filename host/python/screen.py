@@ -1,8 +1,8 @@
 """Option screens from Python: put together, checked, merged, run on rows and saved by the proved library libscreen.so.
 
     import datetime, screen
-    s = screen.Screen(strike="Int", expiry="Day", halted="Truth")
-    s.add(s.strike > 3, s.strike >= 5, s.expiry <= datetime.date(2026, 12, 18), ~s.halted)
+    s = screen.Screen(strike="Int", expiry="Day", halted="Truth", underlying="Text")
+    s.add(s.strike > 3, s.strike >= 5, s.expiry <= datetime.date(2026, 12, 18), ~s.halted, s.underlying == "SPX")
     s.rewrite()                                     # 'rewritten'
     s.reasons                                       # [('strike', 'GtEq', 5, 1), ..]: the line behind each limit
     s.test_row({"strike": 7, "expiry": None, "halted": False})   # True, False, or None for unknown
@@ -10,7 +10,8 @@
     s.hedge_list([{"strike": 7}, {"strike": 4}], tally)   # the numbers of the rows that pass
 
 Columns are attributes of the screen (or s["strike"]); comparisons of them, joined by & and |, are lines, and // and % of
-Ints are values: s.size // 100 >= 3. A value is an int, a datetime.date, a bool, or None for null. A refusal raises
+Ints are values: s.size // 100 >= 3. A value is an int, a datetime.date, a bool, a str or bytes for a symbol of at most 16
+bytes (a str in UTF-8), or None for null. A refusal raises
 Refused, which has the library's number; then nothing is changed. include/screen.h says of each call what is promised.
 """
 
@@ -19,23 +20,24 @@ import datetime
 import fractions
 import os
 
-VERSION = (4, 2)  # of include/screen.h
+VERSION = (5, 0)  # of include/screen.h
 
-INT, DAY, TRUTH = 1, 2, 3
-TYPES = {"Int": INT, "Day": DAY, "Truth": TRUTH}
+INT, DAY, TRUTH, TEXT = 1, 2, 3, 4
+TYPES = {"Int": INT, "Day": DAY, "Truth": TRUTH, "Text": TEXT}
 (COLUMN, LITERAL, NULL, BINARY, NOT, IS_NULL, IS_NOT_NULL, IS_BETWEEN, LIST, IS_IN) = range(1, 11)
 (EQ, EQ_VALIDITY, NOT_EQ, NOT_EQ_VALIDITY, LT, LT_EQ, GT, GT_EQ) = range(8)
 FLOOR_DIVIDE, MODULUS = 13, 14
 AND, OR, XOR = 15, 16, 17
 CLOSED = {"both": 0, "left": 1, "right": 2, "none": 3}
 INPUTS = {BINARY: 2, NOT: 1, IS_NULL: 1, IS_NOT_NULL: 1, IS_BETWEEN: 3, IS_IN: 2}
-MAX_RECORDS, MAX_POOL_VALUES, RECORD_BYTES, VALUE_BYTES, MAX_FILE_BYTES = 4096, 8192, 16, 8, 137216
-MAX_ROWS, PLACE_BYTES, CELL_BYTES, MAX_REASONS_BYTES = 1024, 2, 16, 34816
+MAX_RECORDS, MAX_POOL_VALUES, RECORD_BYTES, VALUE_BYTES, MAX_FILE_BYTES = 4096, 8192, 16, 8, 145920
+MAX_ROWS, PLACE_BYTES, CELL_BYTES, MAX_REASONS_BYTES = 1024, 2, 16, 48128
+MAX_TEXT_BYTES, MAX_SYMBOL_BYTES = 8192, 16
 
 REFUSALS = {
     1: "The table has more than 64 columns, or a column of an unknown type.",
-    2: "More than 4,096 records are used or more than were lent, or the pool is over 8,192 values or ends inside a "
-       "value.",
+    2: "More than 4,096 records are used or more than were lent, the pool is over 8,192 values or ends inside a value, or "
+       "the text is over 8,192 bytes.",
     3: "The root is not one of the used records.",
     4: "A record has an unknown kind, code or type, an unused field that is not zero, or a literal outside its type.",
     5: "A record names an input that is not before it, a column that does not exist, or a list that is not in the pool "
@@ -52,7 +54,7 @@ REFUSALS = {
     14: "A lent buffer is too short for the file, for what the file holds, or for the row shown.",
     15: "This is not a saved screen, or it was damaged.",
     16: "The text buffer is too short for the reasons of the rewritten screen.",
-    17: "The screen is not plain: a line is not one of the plain forms, or a Truth column is read.",
+    17: "The screen is not plain: a line is not one of the plain forms, or a Truth or Text column is read.",
     18: "The row does not have exactly 16 bytes for each column, or it has a half part other than -1, 0 and +1, a null mark "
         "beyond its columns, or a null whose parts are not zero.",
     19: "The slowest screen is built for 2 to 64 columns.",
@@ -70,7 +72,7 @@ class Refused(Exception):
 
 
 class Full(Exception):
-    """A screen has no room for another record or value."""
+    """A screen has no room for another record, value or symbol."""
 
 
 _library = None
@@ -108,8 +110,27 @@ def _number(value, kind):
     return int(value)
 
 
+def _symbol(value, text):
+    """A symbol as its 64 bits, start and length in `text`, to which its bytes are appended if they are not in it."""
+    if isinstance(value, str):
+        value = value.encode()
+    if not isinstance(value, bytes):
+        raise TypeError(f"{value!r} is no symbol")
+    if len(value) > MAX_SYMBOL_BYTES:
+        raise ValueError(f"{value!r} has more than 16 bytes")
+    start = text.find(value)
+    if start < 0:
+        if len(text) + len(value) > MAX_TEXT_BYTES:
+            raise Full("the symbols of a screen and of its rows have at most 8,192 bytes together")
+        start = len(text)
+        text += value
+    return start | len(value) << 32
+
+
 def _half(value, kind):
     """A value as its whole part and its half part; a Fraction may be half way between two whole numbers."""
+    if kind == TEXT:
+        return 0, 0  # a plain screen reads no symbol: any value will do
     if not isinstance(value, fractions.Fraction):
         return _number(value, kind), 0
     if value.denominator > 2:
@@ -126,6 +147,8 @@ def _kind_of(value):
         return None
     if isinstance(value, bool):
         return TRUTH
+    if isinstance(value, (str, bytes)):
+        return TEXT
     return DAY if isinstance(value, datetime.date) else INT
 
 
@@ -151,11 +174,12 @@ class Tally(ctypes.Structure):
 class Chain:
     """Rows as the library takes them: the values row after row as bytes, and a word of null marks a row.
 
-    Screen.pack makes one of rows by name; a host that has its rows as bytes makes its own.
+    Screen.pack makes one of rows by name; a host that has its rows as bytes makes its own. Its symbols lie in `text`, which
+    begins with the screen's own; None is the screen's.
     """
 
-    def __init__(self, values, nulls):
-        self.values, self.nulls = bytes(values), (ctypes.c_uint64 * len(nulls))(*nulls)
+    def __init__(self, values, nulls, text=None):
+        self.values, self.nulls, self.text = bytes(values), (ctypes.c_uint64 * len(nulls))(*nulls), text
 
 
 class Part:
@@ -263,6 +287,7 @@ class Screen:
         self.kinds = [TYPES[kind] for kind in columns.values()]
         self.records = ctypes.create_string_buffer(RECORD_BYTES * MAX_RECORDS)
         self.pool = ctypes.create_string_buffer(VALUE_BYTES * MAX_POOL_VALUES)
+        self.text = bytearray()
         self.used = self.values = self.root = 0
 
     def __getitem__(self, name):
@@ -295,9 +320,13 @@ class Screen:
         start = self.values
         for value in values:
             at = VALUE_BYTES * self.values
-            self.pool[at:at + VALUE_BYTES] = _number(value, kind).to_bytes(8, "little", signed=True)
+            self.pool[at:at + VALUE_BYTES] = self._bits(value, kind, self.text).to_bytes(8, "little", signed=True)
             self.values += 1
         return start, len(values)
+
+    @staticmethod
+    def _bits(value, kind, text):
+        return _symbol(value, text) if kind == TEXT else _number(value, kind)
 
     def part(self, value, kind=None):
         """A Part as it is, another value as a literal, None as a null of the type `kind`."""
@@ -308,7 +337,7 @@ class Screen:
         if value is None:
             return self.put(NULL, kind=kind or TRUTH, result=kind or TRUTH)
         kind = _kind_of(value)
-        bits = _number(value, kind) & (1 << 64) - 1
+        bits = self._bits(value, kind, self.text) & (1 << 64) - 1
         return self.put(LITERAL, kind=kind, b=bits & 0xffffffff, c=bits >> 32, result=kind)
 
     def add(self, *lines):
@@ -323,10 +352,12 @@ class Screen:
 
     # ------------------------------------------------------------------------------------------------------ the calls
 
-    def _lent(self):
-        """The parameters that every call takes first."""
+    def _lent(self, text=None):
+        """The parameters that every call takes first; `text` where rows bring symbols of their own."""
+        text = bytes(self.text if text is None else text)
         return (*_slice(bytes(self.kinds), len(self.kinds)), *_slice(self.records, len(self.records)),
-                *_slice(self.pool, VALUE_BYTES * self.values), ctypes.c_uint64(self.used), ctypes.c_uint64(self.root))
+                *_slice(self.pool, VALUE_BYTES * self.values), *_slice(text, len(text)), ctypes.c_uint64(self.used),
+                ctypes.c_uint64(self.root))
 
     def check(self):
         """screen_check: is this a well-formed screen? Answers 'accepted', or raises Refused with 1 to 7."""
@@ -338,8 +369,8 @@ class Screen:
 
         The screen becomes the one returned: a row passes it exactly if it passed before. What it was stays among its
         records; copy_reached leaves it behind. `passes` is then how many passes over the equalities were made, and
-        `reasons` has the line behind each comparison written: column, operator, value, and the number of the line among
-        those of the screen that it was, from 0. Refused with 1 to 7, 8, 9, 11.
+        `reasons` has the line behind each comparison written: column, operator, value, a symbol's as bytes, and the number of
+        the line among those of the screen that it was, from 0. Refused with 1 to 7, 8, 9, 11.
         """
         root, used, passes = ctypes.c_uint64(self.root), ctypes.c_uint64(self.used), ctypes.c_uint64()
         text, length = (ctypes.c_uint8 * MAX_REASONS_BYTES)(), ctypes.c_uint64()
@@ -347,7 +378,7 @@ class Screen:
                        ctypes.byref(used), ctypes.byref(length), ctypes.byref(passes))
         self.root, self.used, self.passes = root.value, used.value, passes.value
         words = (line.split() for line in bytes(text[:length.value]).decode().splitlines())
-        self.reasons = [(self.names[int(column)], operator, int(value), int(line))
+        self.reasons = [(self.names[int(column)], operator, bytes.fromhex(value[1:]) if value[0] == "t" else int(value), int(line))
                         for column, operator, value, line in words]
         return ("unchanged", "nothing passes", "rewritten")[answer - 256]
 
@@ -391,14 +422,14 @@ class Screen:
         if unknown:
             raise KeyError(f"no column named {sorted(unknown)[0]}")
 
-    def _cells(self, row):
-        """A row's values as bytes, and its null marks."""
+    def _cells(self, row, text):
+        """A row's values as bytes, and its null marks; symbols that are not in `text` are appended to it."""
         self._known(row)
         nulls, cells = 0, b""
         for number, (name, kind) in enumerate(zip(self.names, self.kinds)):
             value = row.get(name)
             nulls |= (value is None) << number
-            cells += (0 if value is None else _number(value, kind)).to_bytes(8, "little", signed=True)
+            cells += (0 if value is None else self._bits(value, kind, text)).to_bytes(8, "little", signed=True)
         return cells, nulls
 
     def test_row(self, row):
@@ -407,14 +438,16 @@ class Screen:
         `row` has a value for each column by its name; a column that is not there is null. Refused with 1 to 7, 8, 12,
         13: a value that is outside its column's type.
         """
-        cells, nulls = self._cells(row)
-        answer = _call("screen_test_row", *self._lent(), *_slice(cells, len(cells)), ctypes.c_uint64(nulls))
+        text = bytearray(self.text)
+        cells, nulls = self._cells(row, text)
+        answer = _call("screen_test_row", *self._lent(text), *_slice(cells, len(cells)), ctypes.c_uint64(nulls))
         return (False, None, True)[answer - 256]
 
     def pack(self, rows):
-        """Rows by name as a Chain; a chain that runs on many screens or ticks need be packed once."""
-        packed = [self._cells(row) for row in rows]
-        return Chain(b"".join(cells for cells, _ in packed), [nulls for _, nulls in packed])
+        """Rows by name as a Chain; a chain that runs on many ticks need be packed once, and on many screens if it has no symbols."""
+        text = bytearray(self.text)
+        packed = [self._cells(row, text) for row in rows]
+        return Chain(b"".join(cells for cells, _ in packed), [nulls for _, nulls in packed], bytes(text))
 
     def hedge_list(self, rows, tally):
         """screen_hedge_list: the numbers, from 0, of the rows that pass; `tally` grows by the rows of each class.
@@ -426,7 +459,7 @@ class Screen:
         if not isinstance(tally, Tally):
             raise TypeError("the tally is a screen.Tally")
         places, count = ctypes.create_string_buffer(PLACE_BYTES * len(chain.nulls)), ctypes.c_uint64()
-        _call("screen_hedge_list", *self._lent(), *_slice(chain.values, len(chain.values)), chain.nulls,
+        _call("screen_hedge_list", *self._lent(chain.text), *_slice(chain.values, len(chain.values)), chain.nulls,
               ctypes.c_size_t(len(chain.nulls)), *_slice(places, len(places)), ctypes.byref(tally),
               ctypes.byref(count))
         return [int.from_bytes(places[PLACE_BYTES * n:PLACE_BYTES * (n + 1)], "little") for n in range(count.value)]
@@ -454,8 +487,8 @@ class Screen:
         buffers are as long as the file, which is longer than what it holds, so 14 is never given.
         """
         file = bytes(file)
-        lent = [ctypes.create_string_buffer(len(file)) for _ in range(3)]  # table, records, pool
-        root, columns, used, values = numbers = [ctypes.c_uint64() for _ in range(4)]
+        lent = [ctypes.create_string_buffer(len(file)) for _ in range(4)]  # table, records, pool, text
+        root, columns, used, values, text = numbers = [ctypes.c_uint64() for _ in range(5)]
         _call("screen_load", *_slice(file, len(file)), *(part for buffer in lent for part in _slice(buffer, len(file))),
               *map(ctypes.byref, numbers))
         names = [f"c{i}" for i in range(columns.value)] if names is None else list(names)
@@ -466,6 +499,7 @@ class Screen:
         loaded.used, loaded.values, loaded.root = used.value, values.value, root.value
         loaded.records[:RECORD_BYTES * loaded.used] = lent[1].raw[:RECORD_BYTES * loaded.used]
         loaded.pool[:VALUE_BYTES * loaded.values] = lent[2].raw[:VALUE_BYTES * loaded.values]
+        loaded.text = bytearray(lent[3].raw[:text.value])
         loaded._begun = True
         return loaded
 

@@ -89,7 +89,7 @@ int main(void)
     uint8_t table[COLUMNS], records[16 * 64], reached[16 * 64]; /* with room for the merged screen */
     struct screen_lent s;
     uint64_t columns = 0, count = 0;
-    screen_begin(&s, table, sizeof table, records, sizeof records, NULL, 0);
+    screen_begin(&s, table, sizeof table, records, sizeof records, NULL, 0, NULL, 0);
     put_screen(&s);
     uint32_t answer = screen_lent_columns_read(&s, &columns, &count);
     if (screen_refused(answer))

@@ -116,22 +116,22 @@ static void stays_full(const char *name, struct screen_lent *s)
 
 static void test_full(void)
 {
-    uint8_t table[2], records[2 * 16 + 15], pool[15];
+    uint8_t table[2], records[2 * 16 + 15], pool[15], text[3];
     struct screen_lent s;
-    screen_begin(&s, table, sizeof table, records, sizeof records, pool, sizeof pool);
+    screen_begin(&s, table, sizeof table, records, sizeof records, pool, sizeof pool, text, sizeof text);
     report(screen_declare(&s, INT) == 0 && screen_declare(&s, DAY) == 1 && !screen_is_full(&s), "two columns", "full");
     report(screen_declare(&s, INT) == SCREEN_FULL, "a third column", "not full");
     stays_full("a third column", &s);
-    screen_begin(&s, table, sizeof table, records, sizeof records, pool, sizeof pool);
+    screen_begin(&s, table, sizeof table, records, sizeof records, pool, sizeof pool, text, sizeof text);
     report(screen_put_truth(&s, 1) == 0 && screen_put_truth(&s, 1) == 1 && !screen_is_full(&s), "two records", "full");
     report(s.records_len == sizeof records, "two records", "not all of them are lent");
     report(screen_put_and(&s, 0, 1) == SCREEN_FULL, "a third record", "not full");
     stays_full("a third record", &s);
-    screen_begin(&s, table, sizeof table, records, sizeof records, pool, sizeof pool);
+    screen_begin(&s, table, sizeof table, records, sizeof records, pool, sizeof pool, text, sizeof text);
     report(screen_put_pool(&s, 1) == 0 && !screen_is_full(&s), "one value", "full");
     report(screen_put_pool(&s, 1) == SCREEN_FULL, "a second value", "not full");
     stays_full("a second value", &s);
-    screen_begin(&s, NULL, 0, NULL, 0, NULL, 0);
+    screen_begin(&s, NULL, 0, NULL, 0, NULL, 0, NULL, 0);
     report(screen_put_null(&s, TRUTH) == SCREEN_FULL, "no buffer at all", "not full");
     stays_full("no buffer at all", &s);
 }
@@ -251,21 +251,21 @@ static void wrappers_agree(void)
     s.records = bytes.records;
     s.pool = bytes.pool;
     report(screen_lent_check(&s) == screen_check(s.table, s.table_len, s.records, s.records_len, s.pool, s.pool_len,
-                                                 s.used, s.root), "screen_lent_check", "another answer");
+                                                 s.text, s.text_len, s.used, s.root), "screen_lent_check", "another answer");
     nulls = some_row(row);
     report(screen_lent_test_row(&s, row, 32, nulls) ==
-               screen_test_row(s.table, s.table_len, s.records, s.records_len, s.pool, s.pool_len, s.used, s.root, row,
-                               32, nulls), "screen_lent_test_row", "another answer");
+               screen_test_row(s.table, s.table_len, s.records, s.records_len, s.pool, s.pool_len, s.text, s.text_len,
+                               s.used, s.root, row, 32, nulls), "screen_lent_test_row", "another answer");
     report(screen_lent_columns_read(&s, &columns[0], &counts[0]) ==
-               screen_columns_read(s.table, s.table_len, s.records, s.records_len, s.pool, s.pool_len, s.used, s.root,
-                                   &columns[1], &counts[1]) && columns[0] == columns[1] && counts[0] == counts[1],
+               screen_columns_read(s.table, s.table_len, s.records, s.records_len, s.pool, s.pool_len, s.text,
+                                   s.text_len, s.used, s.root, &columns[1], &counts[1]) && columns[0] == columns[1] && counts[0] == counts[1],
            "screen_lent_columns_read", "another answer");
     static uint8_t reasons[2][SCREEN_MAX_REASONS_BYTES];
     struct screen_lent told = s;
     uint64_t lengths[2] = {4, 4}, counted = 3;
     uint32_t answer = screen_rewrite(sent.table, sent.table_len, sent.records, sent.records_len, sent.pool,
-                                     sent.pool_len, sent.used, sent.root, reasons[0], sizeof reasons[0], &root, &used,
-                                     &lengths[0], &passes);
+                                     sent.pool_len, sent.text, sent.text_len, sent.used, sent.root, reasons[0],
+                                     sizeof reasons[0], &root, &used, &lengths[0], &passes);
     report(screen_lent_rewrite_told(&told, reasons[1], sizeof reasons[1], &lengths[1], &counted) == answer &&
                told.root == root && told.used == used && counted == passes && lengths[0] == lengths[1] &&
                memcmp(reasons[0], reasons[1], sizeof reasons[0]) == 0, "screen_lent_rewrite_told", "another answer");
@@ -306,16 +306,17 @@ static void load_agrees(size_t length, const size_t *rooms)
 {
     static struct store wrapped, plain;
     struct screen_lent s, before;
-    uint64_t n[4] = {0, 0, 0, 0};
+    uint64_t n[5] = {0, 0, 0, 0, 0};
     begin_in(&s, &wrapped);
     begin_in(&before, &plain);
     s.table_room = rooms[0];
     s.records_room = rooms[1];
     s.pool_room = rooms[2];
+    s.text_room = rooms[3];
     s.used = s.root = 77;
     before = s;
     uint32_t answer = screen_load(saved[0], length, plain.table, rooms[0], plain.records, rooms[1], plain.pool,
-                                  rooms[2], &n[0], &n[1], &n[2], &n[3]);
+                                  rooms[2], plain.text, rooms[3], &n[0], &n[1], &n[2], &n[3], &n[4]);
     report(screen_lent_load(&s, saved[0], length) == answer, "screen_lent_load", "another answer");
     report(memcmp(&wrapped, &plain, sizeof plain) == 0, "screen_lent_load", "other bytes");
     if (answer == SCREEN_LOADED) {
@@ -323,6 +324,7 @@ static void load_agrees(size_t length, const size_t *rooms)
         before.table_len = n[1];
         before.used = n[2];
         before.pool_len = 8 * n[3];
+        before.text_len = n[4];
         before.records_len = rooms[1];
     }
     report(memcmp(&s, &before, sizeof s) == 0, "screen_lent_load", "another screen");
@@ -332,17 +334,18 @@ static void load_agrees(size_t length, const size_t *rooms)
 static unsigned files_agree(void)
 {
     uint64_t length[2] = {5, 5};
-    size_t exact[3] = {sent.table_len, 16 * (size_t)sent.used, sent.pool_len};
+    size_t exact[4] = {sent.table_len, 16 * (size_t)sent.used, sent.pool_len, sent.text_len};
     size_t room = choice(4) == 0 ? 512 * (size_t)choice(6) : sizeof saved[0];
     memset(saved, 0, sizeof saved);
-    uint32_t answer = screen_save(sent.table, sent.table_len, sent.records, sent.records_len, sent.pool, sent.pool_len,
-                                  sent.used, sent.root, saved[0], room, &length[0]);
+    uint32_t answer = screen_save(sent.table, sent.table_len, sent.records, sent.records_len, sent.pool,
+                                  sent.pool_len, sent.text, sent.text_len, sent.used, sent.root, saved[0], room,
+                                  &length[0]);
     report(screen_lent_save(&sent, saved[1], room, &length[1]) == answer && length[0] == length[1] &&
                memcmp(saved[0], saved[1], sizeof saved[0]) == 0, "screen_lent_save", "another answer or file");
     if (answer != SCREEN_SAVED)
         return 0;
     load_agrees((size_t)length[0], exact);
-    for (unsigned i = 0; i < 3; i++)
+    for (unsigned i = 0; i < 4; i++)
         if (exact[i] > 0) {
             exact[i]--;
             load_agrees((size_t)length[0], exact);

@@ -13,12 +13,12 @@ static void expect_words(const char *name, uint32_t want, uint64_t want_columns,
     struct slices s = lend();
     uint64_t columns = MARK_COLUMNS;
     uint64_t count = MARK_COUNT;
-    uint32_t got = screen_check(s.table, sent.table_len, s.records, sent.records_len, s.pool, sent.pool_len, sent.used,
-                                sent.root);
+    uint32_t got = screen_check(s.table, sent.table_len, s.records, sent.records_len, s.pool, sent.pool_len, s.text,
+                                sent.text_len, sent.used, sent.root);
     report(got == want, name, screen_refusal_text(got));
     report(all_kept(&s), name, "screen_check changed a lent byte");
-    got = screen_columns_read(s.table, sent.table_len, s.records, sent.records_len, s.pool, sent.pool_len, sent.used,
-                              sent.root, &columns, &count);
+    got = screen_columns_read(s.table, sent.table_len, s.records, sent.records_len, s.pool, sent.pool_len, s.text,
+                              sent.text_len, sent.used, sent.root, &columns, &count);
     report(got == want, name, screen_refusal_text(got));
     report(all_kept(&s), name, "screen_columns_read changed a lent byte");
     report(columns == want_columns && count == want_count, name, "other columns than expected");
@@ -57,7 +57,7 @@ static void test_table(void)
     refuse("65 columns", SCREEN_REFUSED_TABLE);
     table_of(128);
     refuse("128 columns", SCREEN_REFUSED_TABLE);
-    static const uint8_t no_types[4] = {0, 4, 128, 255};
+    static const uint8_t no_types[4] = {0, 5, 128, 255};
     for (size_t i = 0; i < sizeof no_types; i++) {
         table_of(3);
         sent.table[0] = no_types[i];
@@ -178,15 +178,15 @@ static void test_empty_slices(void)
     uint64_t columns = MARK_COLUMNS;
     uint64_t count = MARK_COUNT;
     uint8_t *odd = (uint8_t *)(uintptr_t)1;
-    report(screen_check(NULL, 0, NULL, 0, NULL, 0, 0, 0) == SCREEN_REFUSED_ROOT, "all NULL", "not 3");
-    report(screen_check(odd, 0, odd, 0, odd, 0, 0, 0) == SCREEN_REFUSED_ROOT, "all at address 1", "not 3");
-    report(screen_check(NULL, 0, NULL, 0, NULL, 0, UINT64_MAX, UINT64_MAX) == SCREEN_REFUSED_SIZE, "all NULL", "not 2");
-    report(screen_check(NULL, 0, one, 16, NULL, 0, 1, 0) == SCREEN_ACCEPTED, "a null alone", "not accepted");
-    report(screen_check(odd, 0, one, 16, odd, 0, 1, 0) == SCREEN_ACCEPTED, "a null alone", "not accepted");
-    report(screen_columns_read(NULL, 0, NULL, 0, NULL, 0, 0, 0, &columns, &count) == SCREEN_REFUSED_ROOT, "all NULL",
+    report(screen_check(NULL, 0, NULL, 0, NULL, 0, NULL, 0, 0, 0) == SCREEN_REFUSED_ROOT, "all NULL", "not 3");
+    report(screen_check(odd, 0, odd, 0, odd, 0, odd, 0, 0, 0) == SCREEN_REFUSED_ROOT, "all at address 1", "not 3");
+    report(screen_check(NULL, 0, NULL, 0, NULL, 0, NULL, 0, UINT64_MAX, UINT64_MAX) == SCREEN_REFUSED_SIZE, "all NULL", "not 2");
+    report(screen_check(NULL, 0, one, 16, NULL, 0, NULL, 0, 1, 0) == SCREEN_ACCEPTED, "a null alone", "not accepted");
+    report(screen_check(odd, 0, one, 16, odd, 0, odd, 0, 1, 0) == SCREEN_ACCEPTED, "a null alone", "not accepted");
+    report(screen_columns_read(NULL, 0, NULL, 0, NULL, 0, NULL, 0, 0, 0, &columns, &count) == SCREEN_REFUSED_ROOT, "all NULL",
            "not 3");
     report(columns == MARK_COLUMNS && count == MARK_COUNT, "all NULL", "out-parameters written");
-    report(screen_columns_read(odd, 0, one, 16, NULL, 0, 1, 0, &columns, &count) == SCREEN_COLUMNS, "a null alone",
+    report(screen_columns_read(odd, 0, one, 16, NULL, 0, NULL, 0, 1, 0, &columns, &count) == SCREEN_COLUMNS, "a null alone",
            "not accepted");
     report(columns == 0 && count == 0, "a null alone", "reads a column");
 }
@@ -275,7 +275,7 @@ static void test_unknown(void)
     static const uint32_t typed[] = {9, 10, 16};
     for (size_t i = 0; i < 3; i++) {
         refuse_byte("type 0", typed[i], 2, 0);
-        refuse_byte("type 4", typed[i], 2, 4);
+        refuse_byte("type 5", typed[i], 2, 5);
         refuse_byte("type 255", typed[i], 2, 255);
     }
 }

@@ -24,8 +24,8 @@ static void save(const char *name, size_t room, uint32_t want)
     for (size_t i = 0; i < room; i++)
         old[i] = (uint8_t)(7 * i + 3);
     uint8_t *out = lent(old, room);
-    uint32_t got = screen_save(s.table, sent.table_len, s.records, sent.records_len, s.pool, sent.pool_len, sent.used,
-                               sent.root, out, room, &length);
+    uint32_t got = screen_save(s.table, sent.table_len, s.records, sent.records_len, s.pool, sent.pool_len, s.text,
+                               sent.text_len, sent.used, sent.root, out, room, &length);
     report(got == want, name, screen_refusal_text(got));
     report(all_kept(&s), name, "saving changed a lent byte");
     if (got == SCREEN_SAVED) {
@@ -44,40 +44,42 @@ static void save(const char *name, size_t room, uint32_t want)
 /* ---------------------------------------------------------------------------------------------------------- loading */
 
 struct rooms {
-    size_t table, records, pool;
+    size_t table, records, pool, text;
 };
 
-static const struct rooms enough = {64, 65536, 65536};
+static const struct rooms enough = {64, 65536, 65536, 8192};
 
 /* Loads `file`; what is loaded must be the screen under construction. */
 static void load(const char *name, struct rooms room, uint32_t want)
 {
-    static uint8_t old[3][17 * 4096 + 64];
-    uint64_t root = MARK, columns = MARK + 1, used = MARK + 2, values = MARK + 3;
+    static uint8_t old[4][17 * 4096 + 64];
+    uint64_t root = MARK, columns = MARK + 1, used = MARK + 2, values = MARK + 3, text_bytes = MARK + 4;
     memset(old, 0xa5, sizeof old);
     uint8_t *bytes = lent(file, file_len);
     uint8_t *table = lent(old[0], room.table);
     uint8_t *records = lent(old[1], room.records);
     uint8_t *pool = lent(old[2], room.pool);
-    uint32_t got = screen_load(bytes, file_len, table, room.table, records, room.records, pool, room.pool, &root,
-                               &columns, &used, &values);
+    uint8_t *text = lent(old[3], room.text);
+    uint32_t got = screen_load(bytes, file_len, table, room.table, records, room.records, pool, room.pool, text,
+                               room.text, &root, &columns, &used, &values, &text_bytes);
     report(got == want, name, screen_refusal_text(got));
     report(kept(bytes, file, file_len), name, "loading changed the file");
     if (got == SCREEN_LOADED) {
         size_t record_bytes = 16 * (size_t)used;
         size_t pool_bytes = 8 * (size_t)values;
-        report(root == sent.root && columns == sent.table_len && used == sent.used && pool_bytes == sent.pool_len, name,
-               "other numbers than were saved");
+        report(root == sent.root && columns == sent.table_len && used == sent.used && pool_bytes == sent.pool_len &&
+                   text_bytes == sent.text_len, name, "other numbers than were saved");
         report(kept(table, sent.table, columns) && kept(records, sent.records, record_bytes) &&
-                   kept(pool, sent.pool, pool_bytes),
+                   kept(pool, sent.pool, pool_bytes) && kept(text, sent.text, text_bytes),
                name, "another screen than was saved");
         report(kept(table + columns, old[0], room.table - (size_t)columns) &&
                    kept(records + record_bytes, old[1], room.records - record_bytes) &&
-                   kept(pool + pool_bytes, old[2], room.pool - pool_bytes),
+                   kept(pool + pool_bytes, old[2], room.pool - pool_bytes) &&
+                   kept(text + text_bytes, old[3], room.text - (size_t)text_bytes),
                name, "a byte behind the screen was written");
     } else {
         report(root == MARK && columns == MARK + 1 && used == MARK + 2 && values == MARK + 3 &&
-                   kept(table, old[0], room.table) && kept(records, old[1], room.records) &&
+                   text_bytes == MARK + 4 && kept(text, old[3], room.text) && kept(table, old[0], room.table) && kept(records, old[1], room.records) &&
                    kept(pool, old[2], room.pool),
                name, "a refusal wrote a byte");
     }
@@ -85,6 +87,7 @@ static void load(const char *name, struct rooms room, uint32_t want)
     free(table);
     free(records);
     free(pool);
+    free(text);
 }
 
 /* RFC 1071, so that a changed block can be given its right checksum. */
@@ -102,8 +105,8 @@ static void repair(size_t block)
 
 /* ------------------------------------------------------------------------------------------------------------ cases */
 
-/* `records` true literals, the last the root; `values` pool values that no list reads. */
-static void make(size_t columns, uint32_t records, size_t values)
+/* `records` true literals, the last the root; `values` pool values that no list reads; a text that no symbol reads. */
+static void make(size_t columns, uint32_t records, size_t values, size_t text)
 {
     uint8_t table[LEND_TABLE];
     memset(table, INT, sizeof table);
@@ -112,13 +115,15 @@ static void make(size_t columns, uint32_t records, size_t values)
         literal(TRUTH, 1);
     for (size_t i = 0; i < values; i++)
         pool_value((int64_t)i - 5);
+    for (size_t i = 0; i < text; i++)
+        sent.text[sent.text_len++] = (uint8_t)(31 * i + 7);
 }
 
-static void round_trip(const char *name, size_t columns, uint32_t records, size_t values)
+static void round_trip(const char *name, size_t columns, uint32_t records, size_t values, size_t text)
 {
-    size_t blocks = 2 + (records + 30) / 31 + (values + 61) / 62;
-    struct rooms exact = {columns, 16 * (size_t)records, 8 * values};
-    make(columns, records, values);
+    size_t blocks = 2 + (records + 30) / 31 + (values + 61) / 62 + (text + 495) / 496;
+    struct rooms exact = {columns, 16 * (size_t)records, 8 * values, text};
+    make(columns, records, values, text);
     save(name, 512 * blocks, SCREEN_SAVED);
     report(file_len == 512 * blocks, name, "another length than its blocks");
     load(name, exact, SCREEN_LOADED);
@@ -136,27 +141,34 @@ static void round_trip(const char *name, size_t columns, uint32_t records, size_
     if (values > 0) {
         exact.pool--;
         load(name, exact, SCREEN_REFUSED_SHORT);
+        exact.pool++;
+    }
+    if (text > 0) {
+        exact.text--;
+        load(name, exact, SCREEN_REFUSED_SHORT);
     }
 }
 
 /* On a thread with as much stack as the header asks for. */
 static void *largest(void *unused)
 {
-    round_trip("the largest screen", 64, 4096, 8192);
+    round_trip("the largest screen", 64, 4096, 8192, 8192);
     return unused;
 }
 
 static void test_largest(void)
 {
-    on_stack(largest, NULL, (size_t)3 << 16);
+    on_stack(largest, NULL, (size_t)7 << 15);
 }
 
 static void test_round_trips(void)
 {
-    round_trip("the smallest screen", 0, 1, 0);
-    round_trip("one of each", 1, 1, 1);
-    round_trip("one full block of each", 64, 31, 62);
-    round_trip("one more than a full block", 64, 32, 63);
+    round_trip("the smallest screen", 0, 1, 0, 0);
+    round_trip("one of each", 1, 1, 1, 1);
+    round_trip("a text and no pool", 1, 1, 0, 5);
+    round_trip("one full block of each", 64, 31, 62, 496);
+    round_trip("one more than a full block", 64, 32, 63, 497);
+    round_trip("a block of text counted in two bytes", 1, 1, 0, 256);
     test_largest();
     report(file_len == SCREEN_MAX_FILE_BYTES, "the largest screen", "another length than SCREEN_MAX_FILE_BYTES");
     begin_mixed();
@@ -185,17 +197,17 @@ static void test_round_trips(void)
 static void test_damage(void)
 {
     static uint8_t whole[1536];
-    make(2, 1, 0);
+    make(2, 1, 0, 0);
     save("a file to damage", 1536, SCREEN_SAVED);
     memcpy(whole, file, sizeof whole);
     unsigned told = 0;
     for (size_t at = 0; at < sizeof whole; at++) {
-        uint64_t n[4];
+        uint64_t n[5];
         file[at] ^= 0x10;
         uint8_t *bytes = lent(file, file_len);
         uint8_t table[64], records[64], pool[64];
-        told += screen_load(bytes, file_len, table, 64, records, 64, pool, 64, n, n + 1, n + 2, n + 3) ==
-                SCREEN_REFUSED_FILE;
+        told += screen_load(bytes, file_len, table, 64, records, 64, pool, 64, NULL, 0, n, n + 1, n + 2, n + 3,
+                            n + 4) == SCREEN_REFUSED_FILE;
         free(bytes);
         file[at] = whole[at];
     }
@@ -207,12 +219,13 @@ static void test_damage(void)
         uint32_t want;
     } changes[] = {
         {"a number that is not the block's", 512 + 2, 2, SCREEN_REFUSED_FILE},
-        {"an unknown kind", 512 + 4, 5, SCREEN_REFUSED_FILE},
+        {"an unknown kind", 512 + 4, 6, SCREEN_REFUSED_FILE},
         {"the table's kind again", 512 + 4, 1, SCREEN_REFUSED_FILE},
         {"a count of none", 512 + 5, 0, SCREEN_REFUSED_FILE},
         {"a count that the block cannot hold", 512 + 5, 32, SCREEN_REFUSED_FILE},
         {"an end that counts two", 1024 + 5, 2, SCREEN_REFUSED_FILE},
         {"a header byte that is not zero", 15, 1, SCREEN_REFUSED_FILE},
+        {"a second byte of the count", 512 + 6, 1, SCREEN_REFUSED_FILE},
         {"an unused byte that is not zero", 511, 1, SCREEN_REFUSED_FILE},
         {"an unused byte behind the end", 1024 + 24, 1, SCREEN_REFUSED_FILE},
         {"a used that is not the records held", 1024 + 16, 2, SCREEN_REFUSED_FILE},
@@ -244,8 +257,8 @@ static void test_damage(void)
 /* Over 64 columns are number 1 where there is room for them. */
 static void test_wide(void)
 {
-    struct rooms room = {255, 65536, 65536};
-    make(1, 1, 0);
+    struct rooms room = {255, 65536, 65536, 8192};
+    make(1, 1, 0, 0);
     save("a file of one column", 1536, SCREEN_SAVED);
     for (unsigned columns = 65; columns <= 255; columns += 38) {
         memset(file + 16, INT, columns);
@@ -256,10 +269,53 @@ static void test_wide(void)
     }
 }
 
+/* Blocks of text: after the pool and before the end, each full before the next, the count in two bytes. */
+static void test_text(void)
+{
+    static uint8_t whole[6 * 512];
+    static const struct {
+        const char *name;
+        size_t at;
+        uint8_t value;
+        uint32_t want;
+    } changes[] = {
+        {"a count of text of none", 4 * 512 + 5, 0, SCREEN_REFUSED_FILE},
+        {"a count of text that the bytes do not have", 4 * 512 + 5, 3, SCREEN_REFUSED_FILE},
+        {"a count of text over the block", 4 * 512 + 6, 2, SCREEN_REFUSED_FILE},
+        {"a first block of text that is not full", 3 * 512 + 5, 0xef, SCREEN_REFUSED_FILE},
+        {"a byte behind the count", 4 * 512 + 7, 1, SCREEN_REFUSED_FILE},
+        {"text where the pool is due", 2 * 512 + 4, 5, SCREEN_REFUSED_FILE},
+        {"a pool behind the text", 4 * 512 + 4, 3, SCREEN_REFUSED_FILE},
+        {"another text", 4 * 512 + 16, 200, SCREEN_LOADED},
+    };
+    make(1, 1, 1, 500);
+    save("a file with a text", sizeof whole, SCREEN_SAVED);
+    report(file_len == sizeof whole, "a file with a text", "another length");
+    memcpy(whole, file, sizeof whole);
+    for (size_t i = 0; i < sizeof changes / sizeof changes[0]; i++) {
+        memcpy(file, whole, sizeof whole);
+        file[changes[i].at] = changes[i].value;
+        repair(changes[i].at / 512);
+        if (changes[i].want == SCREEN_LOADED)
+            sent.text[496] = changes[i].value;
+        load(changes[i].name, enough, changes[i].want);
+    }
+    begin((const uint8_t[]){SCREEN_TYPE_TEXT}, 1);
+    uint32_t left = column(0);
+    binary(SCREEN_OP_EQ, left, symbol("SPX", 3));
+    save("a screen with a symbol", 4096, SCREEN_SAVED);
+    load("a screen with a symbol", enough, SCREEN_LOADED);
+    sent.text_len = 2;
+    save("a symbol past the text", 4096, SCREEN_REFUSED_RECORD);
+    make(1, 1, 0, 8193);
+    save("a text of 8,193 bytes", 65536, SCREEN_REFUSED_SIZE);
+}
+
 int main(void)
 {
     test_round_trips();
     test_damage();
+    test_text();
     test_wide();
     return finish();
 }

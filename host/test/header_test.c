@@ -13,20 +13,22 @@ static int calls_refuse(void)
     uint64_t count = 0;
     uint64_t root = 0;
     uint64_t used = 0;
+    uint64_t text_bytes = 0;
     struct screen_tally tally = {0, 0, 0};
-    uint32_t answer = screen_check(NONE, 0, NONE, 0, NONE, 0, 0, 0);
+    uint32_t answer = screen_check(NONE, 0, NONE, 0, NONE, 0, NONE, 0, 0, 0);
     return answer == SCREEN_REFUSED_ROOT && screen_refused(answer) && screen_refusal_text(answer)[0] == 'T' &&
-           screen_test_row(NONE, 0, NONE, 0, NONE, 0, 0, 0, NONE, 0, 0) == SCREEN_REFUSED_ROOT &&
-           screen_rewrite(NONE, 0, NONE, 0, NONE, 0, 0, 0, NONE, 0, &root, &used, &count, &columns) ==
+           screen_test_row(NONE, 0, NONE, 0, NONE, 0, NONE, 0, 0, 0, NONE, 0, 0) == SCREEN_REFUSED_ROOT &&
+           screen_rewrite(NONE, 0, NONE, 0, NONE, 0, NONE, 0, 0, 0, NONE, 0, &root, &used, &count, &columns) ==
                SCREEN_REFUSED_ROOT &&
-           screen_line_in_the_way(NONE, 0, NONE, 0, NONE, 0, 0, 0, &count) == SCREEN_REFUSED_ROOT &&
-           screen_show_row(NONE, 0, NONE, 0, NONE, 0, 0, 0, NONE, 0, &count) == SCREEN_REFUSED_ROOT &&
-           screen_check_row(NONE, 0, NONE, 0, NONE, 0, 0, 0, NONE, 0, 0) == SCREEN_REFUSED_ROOT &&
+           screen_line_in_the_way(NONE, 0, NONE, 0, NONE, 0, NONE, 0, 0, 0, &count) == SCREEN_REFUSED_ROOT &&
+           screen_show_row(NONE, 0, NONE, 0, NONE, 0, NONE, 0, 0, 0, NONE, 0, &count) == SCREEN_REFUSED_ROOT &&
+           screen_check_row(NONE, 0, NONE, 0, NONE, 0, NONE, 0, 0, 0, NONE, 0, 0) == SCREEN_REFUSED_ROOT &&
            screen_slowest(1, NONE, 0, NONE, 0, &root, &used) == SCREEN_REFUSED_COLUMNS &&
-           screen_save(NONE, 0, NONE, 0, NONE, 0, 0, 0, NONE, 0, &count) == SCREEN_REFUSED_ROOT &&
-           screen_load(NONE, 0, NONE, 0, NONE, 0, NONE, 0, &root, &columns, &used, &count) == SCREEN_REFUSED_FILE &&
-           screen_columns_read(NONE, 0, NONE, 0, NONE, 0, 0, 0, &columns, &count) == SCREEN_REFUSED_ROOT &&
-           screen_hedge_list(NONE, 0, NONE, 0, NONE, 0, 0, 0, NONE, 0, NONE, 0, NONE, 0, &tally, &count) ==
+           screen_save(NONE, 0, NONE, 0, NONE, 0, NONE, 0, 0, 0, NONE, 0, &count) == SCREEN_REFUSED_ROOT &&
+           screen_load(NONE, 0, NONE, 0, NONE, 0, NONE, 0, NONE, 0, &root, &columns, &used, &count, &text_bytes) ==
+               SCREEN_REFUSED_FILE &&
+           screen_columns_read(NONE, 0, NONE, 0, NONE, 0, NONE, 0, 0, 0, &columns, &count) == SCREEN_REFUSED_ROOT &&
+           screen_hedge_list(NONE, 0, NONE, 0, NONE, 0, NONE, 0, 0, 0, NONE, 0, NONE, 0, NONE, 0, &tally, &count) ==
                SCREEN_REFUSED_ROOT &&
            screen_trader_view(&tally, &columns, &count) == SCREEN_VIEWED && columns == 0 && count == 0 &&
            screen_risk_view(&tally, &columns, &count, &used) == SCREEN_VIEWED && used == 0;
@@ -51,14 +53,14 @@ static uint32_t put_screen(struct screen_lent *s)
 
 static int wrappers_answer(void)
 {
-    uint8_t table[2], records[16 * 40], reached[16 * 40], pool[16], file[5 * SCREEN_BLOCK_BYTES];
+    uint8_t table[2], records[16 * 40], reached[16 * 40], pool[16], text[8], file[5 * SCREEN_BLOCK_BYTES];
     uint8_t row[16] = {0}, cells[2 * SCREEN_CELL_BYTES] = {0}, list[2] = {1, 1}, reasons[SCREEN_MAX_REASONS_BYTES];
     uint64_t columns = 0, count = 0, length = 0, marks = 0;
     struct screen_reason reason;
     size_t at = 0;
     struct screen_tally tally = {7, 0, 0};
     struct screen_lent s;
-    screen_begin(&s, table, sizeof table, records, sizeof records, pool, sizeof pool);
+    screen_begin(&s, table, sizeof table, records, sizeof records, pool, sizeof pool, text, sizeof text);
     if (put_screen(&s) != s.root || screen_is_full(&s) || screen_lent_check(&s) != SCREEN_ACCEPTED)
         return 0;
     screen_store_value(row, 1);

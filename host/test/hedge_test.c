@@ -58,6 +58,7 @@ static void expect(const char *name, uint32_t want)
     exact.table = s.table;
     exact.records = s.records;
     exact.pool = s.pool;
+    exact.text = s.text;
     if (rows)
         memcpy(lent_nulls, nulls, 8 * rows);
     if (list_len)

@@ -13,13 +13,14 @@
 #include <stdlib.h>
 #include <string.h>
 
-enum { LEND_TABLE = 128, LEND_RECORDS = 5000 * 16, LEND_POOL = 8200 * 8 };
+enum { LEND_TABLE = 128, LEND_RECORDS = 5000 * 16, LEND_POOL = 8200 * 8, LEND_TEXT = 8200 };
 
 /* The bytes of a screen. */
 struct store {
     uint8_t table[LEND_TABLE];
     uint8_t records[LEND_RECORDS];
     uint8_t pool[LEND_POOL];
+    uint8_t text[LEND_TEXT];
 };
 
 /*
@@ -52,7 +53,7 @@ static inline void begin_in(struct screen_lent *s, struct store *bytes)
 {
     memset(bytes, 0, sizeof *bytes);
     screen_begin(s, bytes->table, sizeof bytes->table, bytes->records, sizeof bytes->records, bytes->pool,
-                 sizeof bytes->pool);
+                 sizeof bytes->pool, bytes->text, sizeof bytes->text);
     s->records_len = 0;
 }
 
@@ -129,6 +130,17 @@ static inline uint32_t is_in(unsigned nulls_equal, uint32_t value, uint32_t list
     return screen_put(&sent, SCREEN_KIND_IS_IN, nulls_equal, 0, value, list_record, 0);
 }
 
+/* A symbol of these bytes, which may lie in the text already; and one at any start and of any length. */
+static inline uint32_t symbol(const char *bytes, uint32_t length)
+{
+    return screen_put_symbol(&sent, bytes, length);
+}
+
+static inline uint32_t symbol_at(uint32_t start, uint32_t length)
+{
+    return screen_put_literal(&sent, SCREEN_TYPE_TEXT, screen_symbol(start, length));
+}
+
 static inline uint32_t pool_value(int64_t value)
 {
     return screen_put_pool(&sent, value);
@@ -159,24 +171,25 @@ static inline int kept(const uint8_t *copy, const uint8_t *bytes, size_t len)
     return len == 0 || memcmp(copy, bytes, len) == 0;
 }
 
-/* The three slices that every call takes. */
+/* The four slices that every call takes. */
 struct slices {
     uint8_t *table;
     uint8_t *records;
     uint8_t *pool;
+    uint8_t *text;
 };
 
 static inline struct slices lend(void)
 {
     struct slices s = {lent(sent.table, sent.table_len), lent(sent.records, sent.records_len),
-                       lent(sent.pool, sent.pool_len)};
+                       lent(sent.pool, sent.pool_len), lent(sent.text, sent.text_len)};
     return s;
 }
 
 static inline int all_kept(const struct slices *s)
 {
     return kept(s->table, sent.table, sent.table_len) && kept(s->records, sent.records, sent.records_len) &&
-           kept(s->pool, sent.pool, sent.pool_len);
+           kept(s->pool, sent.pool, sent.pool_len) && kept(s->text, sent.text, sent.text_len);
 }
 
 static inline void give_back(struct slices *s)
@@ -184,6 +197,7 @@ static inline void give_back(struct slices *s)
     free(s->table);
     free(s->records);
     free(s->pool);
+    free(s->text);
 }
 
 #endif

@@ -275,6 +275,7 @@ def test_files():
     s.add(s.c63.is_in(range(8192)))
     while s.used < screen.MAX_RECORDS:
         s.part(1)
+    s.text += bytes(screen.MAX_TEXT_BYTES)
     report(len(s.save()) == screen.MAX_FILE_BYTES and screen.Screen.load(s.save()).save() == s.save(), "the largest")
 
 
@@ -288,7 +289,7 @@ def test_python():
     raises(TypeError, "a number with a point", lambda: s.c0 > 1.5)
     raises(OverflowError, "a number beyond 64 bits", lambda: s.test_row({"c0": 1 << 63}))
     raises(ValueError, "a part of another screen", lambda: s.c0 == screen.Screen(c0="Int").c0)
-    raises(KeyError, "an unknown type", lambda: screen.Screen(c0="Text"))
+    raises(KeyError, "an unknown type", lambda: screen.Screen(c0="Float"))
     raises(screen.Full, "too many records", lambda: [s.c0 for _ in range(4097)])
     raises(screen.Full, "too many values", lambda: screen.Screen(c0="Int").c0.is_in(range(8193)))
 
@@ -305,6 +306,33 @@ def test_divisions():
             report(s.test_row(row) is True, f"{a} by {b}")
             report(s.test_row({**row, "q": 77}) is (row["q"] == 77), f"another quotient of {a} by {b}")
             report(s.test_row({**row, "r": 77}) is (row["r"] == 77), f"another remainder of {a} by {b}")
+
+
+def test_symbols():
+    """Symbols as str and bytes: compared, listed, merged with their reasons, run on a chain, saved."""
+    s = screen.Screen(u="Text", k="Int")
+    s.add(s.u >= "NDX", s.u >= b"SP", s.u != "SPY", s.u.is_in(["SPX", "SPY", "SP"]), s.k > 3)
+    report(s.check() == "accepted" and s.text == b"NDXSPSPYSPX", "a screen with symbols")
+    rows = [{"u": "SPX", "k": 4}, {"u": "SPY", "k": 4}, {"u": "SP", "k": 4}, {"k": 4}, {"u": "ZZZ", "k": 4}]
+    want = [True, False, True, None, False]
+    report([s.test_row(row) for row in rows] == want and s.text == b"NDXSPSPYSPX", "rows with symbols")
+    tally = screen.Tally()
+    report(s.hedge_list(rows, tally) == [0, 2] and tally.risk_view() == (2, 2, 1), "a chain with symbols")
+    report(s.rewrite() == "rewritten" and ("u", "GtEq", b"SP", 1) in s.reasons, "reasons with symbols")
+    report([s.test_row(row) for row in rows] == want, "rows with symbols after rewriting")
+    again = screen.Screen.load(s.save(), s.names)
+    report(again.text == s.text and [again.test_row(row) for row in rows] == want, "a saved screen with symbols")
+    for wrong, error in ((7, TypeError), ("x" * 17, ValueError)):
+        try:
+            s.test_row({"u": wrong})
+        except error:
+            report(True, "")
+        else:
+            report(False, f"{wrong!r} as a symbol")
+    try:
+        s.line_in_the_way()
+    except screen.Refused as refused:
+        report(refused.number == 17, "a screen with symbols is not plain")
 
 
 def test_random():
@@ -346,7 +374,7 @@ def test_told():
                  "MODULUS", "AND", "OR", "XOR"):
         report(getattr(screen, name) == numbers[f"OP_{name}"], f"the operator {name}")
     for name in ("MAX_RECORDS", "MAX_POOL_VALUES", "RECORD_BYTES", "VALUE_BYTES", "MAX_FILE_BYTES", "MAX_ROWS",
-                 "PLACE_BYTES", "CELL_BYTES", "MAX_REASONS_BYTES"):
+                 "PLACE_BYTES", "CELL_BYTES", "MAX_REASONS_BYTES", "MAX_TEXT_BYTES", "MAX_SYMBOL_BYTES"):
         report(getattr(screen, name) == numbers[name], name)
     version = tuple(int(re.search(rf"SCREEN_VERSION_{part} (\d+)", header)[1]) for part in ("MAJOR", "MINOR"))
     report(screen.VERSION == version, "the version")
@@ -356,7 +384,7 @@ def test_told():
 
 
 for test in (test_cases, test_types, test_reasons, test_slowest, test_line_in_the_way, test_rows, test_refusals,
-             test_hedge_list, test_files, test_python, test_divisions, test_random, test_told):
+             test_hedge_list, test_files, test_python, test_divisions, test_symbols, test_random, test_told):
     test()
 print(f"{counts[True]} passed, {counts[False]} failed")
 sys.exit(counts[False] != 0)

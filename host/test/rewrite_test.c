@@ -142,18 +142,21 @@ static void run(void)
     before.table = before_store.table;
     before.records = before_store.records;
     before.pool = before_store.pool;
+    before.text = before_store.text;
     new_root = MARK_ROOT;
     new_used = MARK_USED;
     new_passes = MARK_PASSES;
     text_used = MARK_TEXT;
-    answer = screen_rewrite(s.table, sent.table_len, s.records, sent.records_len, s.pool, sent.pool_len, sent.used,
-                            sent.root, text, text_room, &new_root, &new_used, &text_used, &new_passes);
+    answer = screen_rewrite(s.table, sent.table_len, s.records, sent.records_len, s.pool, sent.pool_len, s.text,
+                            sent.text_len, sent.used, sent.root, text, text_room, &new_root, &new_used, &text_used,
+                            &new_passes);
     if (text_room > 0)
         memcpy(text_after, text, text_room);
     free(text);
     if (sent.records_len > 0)
         memcpy(records_after, s.records, sent.records_len);
-    others_kept = kept(s.table, sent.table, sent.table_len) && kept(s.pool, sent.pool, sent.pool_len);
+    others_kept = kept(s.table, sent.table, sent.table_len) && kept(s.pool, sent.pool, sent.pool_len) &&
+                  kept(s.text, sent.text, sent.text_len);
     give_back(&s);
 }
 
@@ -207,7 +210,7 @@ static uint64_t make_row(uint8_t *row, size_t even, size_t odd)
 static int passes(const uint8_t *records, uint64_t used, uint64_t root, const uint8_t *row, uint64_t nulls)
 {
     return screen_test_row(before.table, before.table_len, records, before.records_len, before.pool, before.pool_len,
-                           used, root, row, 8 * before.table_len, nulls) == SCREEN_TRUE;
+                           before.text, before.text_len, used, root, row, 8 * before.table_len, nulls) == SCREEN_TRUE;
 }
 
 /* Each row passes the screen returned exactly if it passes the screen sent. Answers how many passed. */
@@ -276,7 +279,7 @@ static void added_these(const char *name, uint32_t want, uint64_t added)
     report((text_used > 0) == (want == SCREEN_REWRITTEN) && text_kept(text_used), name, "another length of the text");
     if (new_used <= SCREEN_MAX_RECORDS)
         report(screen_check(before.table, before.table_len, records_after, before.records_len, before.pool,
-                            before.pool_len, new_used, new_root) == SCREEN_ACCEPTED, name, "no well-formed screen");
+                            before.pool_len, before.text, before.text_len, new_used, new_root) == SCREEN_ACCEPTED, name, "no well-formed screen");
 }
 
 /* After run() and the records expected. Some of the rows must pass, so that the comparison says something. */
@@ -799,11 +802,11 @@ static void test_slowest(void)
         report(screen_slowest(n, table, n - 1, records, sizeof records, &root, &used) == SCREEN_REFUSED_ROOM &&
                    screen_slowest(n, table, n, records, 48 * n - 1, &root, &used) == SCREEN_REFUSED_ROOM &&
                    screen_slowest(n, table, n, records, 48 * n, &root, &used) == SCREEN_BUILT, "slowest", "not 11");
-        report(screen_rewrite(table, n, records, 16 * (8 * n - 3), NULL, 0, used, root, NULL, 0, &new_at, &new_end, &told,
-                              &passes) == SCREEN_REFUSED_ROOM && passes == MARK_PASSES, "slowest",
+        report(screen_rewrite(table, n, records, 16 * (8 * n - 3), NULL, 0, NULL, 0, used, root, NULL, 0, &new_at,
+                              &new_end, &told, &passes) == SCREEN_REFUSED_ROOM && passes == MARK_PASSES, "slowest",
                "served with a record less");
-        report(screen_rewrite(table, n, records, 16 * (8 * n - 2), NULL, 0, used, root, text_after, sizeof text_after,
-                              &new_at, &new_end, &told, &passes) == SCREEN_REWRITTEN && passes == n &&
+        report(screen_rewrite(table, n, records, 16 * (8 * n - 2), NULL, 0, NULL, 0, used, root, text_after,
+                              sizeof text_after, &new_at, &new_end, &told, &passes) == SCREEN_REWRITTEN && passes == n &&
                    new_end == 8 * n - 2, "slowest", "another number of passes");
     }
 }
@@ -816,16 +819,16 @@ static void test_empty_slices(void)
     uint64_t used = MARK_USED;
     uint64_t passes = MARK_PASSES;
     uint64_t told = MARK_TEXT;
-    report(screen_rewrite(NULL, 0, NULL, 0, NULL, 0, 0, 0, NULL, 0, &root, &used, &told, &passes) == SCREEN_REFUSED_ROOT,
+    report(screen_rewrite(NULL, 0, NULL, 0, NULL, 0, NULL, 0, 0, 0, NULL, 0, &root, &used, &told, &passes) == SCREEN_REFUSED_ROOT,
            "all NULL", "not 3");
-    report(screen_rewrite(odd, 0, odd, 0, odd, 0, 0, 0, odd, 0, &root, &used, &told, &passes) == SCREEN_REFUSED_ROOT,
+    report(screen_rewrite(odd, 0, odd, 0, odd, 0, odd, 0, 0, 0, odd, 0, &root, &used, &told, &passes) == SCREEN_REFUSED_ROOT,
            "address 1", "not 3");
-    report(screen_rewrite(NULL, 0, NULL, 0, NULL, 0, 1, 0, NULL, 0, &root, &used, &told, &passes) == SCREEN_REFUSED_SIZE,
+    report(screen_rewrite(NULL, 0, NULL, 0, NULL, 0, NULL, 0, 1, 0, NULL, 0, &root, &used, &told, &passes) == SCREEN_REFUSED_SIZE,
            "all NULL", "not 2");
     report(told == MARK_TEXT, "empty slices", "a refusal wrote the text's length");
-    report(screen_rewrite(NULL, 0, one, 16, NULL, 0, 1, 0, NULL, 0, &root, &used, &told, &passes) == SCREEN_UNCHANGED,
+    report(screen_rewrite(NULL, 0, one, 16, NULL, 0, NULL, 0, 1, 0, NULL, 0, &root, &used, &told, &passes) == SCREEN_UNCHANGED,
            "a null alone", "not unchanged");
-    report(screen_rewrite(odd, 0, one, 32, odd, 0, 1, 0, odd, 0, &root, &used, &told, &passes) == SCREEN_UNCHANGED,
+    report(screen_rewrite(odd, 0, one, 32, odd, 0, odd, 0, 1, 0, odd, 0, &root, &used, &told, &passes) == SCREEN_UNCHANGED,
            "a null alone", "not unchanged");
     report(told == 0, "empty slices", "the text is not empty");
     report(root == MARK_ROOT && used == MARK_USED, "empty slices", "an out-parameter was written");

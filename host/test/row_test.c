@@ -35,7 +35,7 @@ static void expect(const char *name, uint32_t want)
     struct slices s = lend();
     uint8_t *lent_row = lent(row, row_len);
     uint32_t got = screen_test_row(s.table, sent.table_len, s.records, sent.records_len, s.pool, sent.pool_len,
-                                   sent.used, sent.root, lent_row, row_len, nulls);
+                                   s.text, sent.text_len, sent.used, sent.root, lent_row, row_len, nulls);
     report(got == want, name, got < 256 ? screen_refusal_text(got) : "another truth");
     report(all_kept(&s) && kept(lent_row, row, row_len), name, "a lent byte changed");
     free(lent_row);
@@ -250,8 +250,8 @@ static void test_column_counts(void)
     cell(63, INT64_MIN);
     expect("64 columns, all null but the last", F);
     uint8_t one[16] = {SCREEN_KIND_NULL, 0, TRUTH};
-    report(screen_test_row(NULL, 0, one, 16, NULL, 0, 1, 0, NULL, 0, 0) == U, "all NULL but the records", "not U");
-    report(screen_test_row(NULL, 0, NULL, 0, NULL, 0, 0, 0, NULL, 0, 0) == SCREEN_REFUSED_ROOT, "all NULL", "not 3");
+    report(screen_test_row(NULL, 0, one, 16, NULL, 0, NULL, 0, 1, 0, NULL, 0, 0) == U, "all NULL but the records", "not U");
+    report(screen_test_row(NULL, 0, NULL, 0, NULL, 0, NULL, 0, 0, 0, NULL, 0, 0) == SCREEN_REFUSED_ROOT, "all NULL", "not 3");
 }
 
 /* ------------------------------------------------------------------------------------------------------ the truths */

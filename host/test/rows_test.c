@@ -39,8 +39,8 @@ static uint32_t show(const char *name, size_t row_len, uint8_t *row, uint64_t *n
     uint64_t marks = MARK;
     for (size_t i = 0; i < row_len; i++)
         buffer[i] = filler(i);
-    uint32_t got = screen_show_row(s.table, sent.table_len, s.records, sent.records_len, s.pool, sent.pool_len, sent.used,
-                                   sent.root, buffer, row_len, &marks);
+    uint32_t got = screen_show_row(s.table, sent.table_len, s.records, sent.records_len, s.pool, sent.pool_len,
+                                   s.text, sent.text_len, sent.used, sent.root, buffer, row_len, &marks);
     report(all_kept(&s), name, "a lent byte changed");
     if (got == SHOWN) {
         report(row_len >= written && filled(buffer, written, row_len), name, "a byte behind the row changed");
@@ -59,8 +59,8 @@ static uint32_t check(const char *name, const uint8_t *row, size_t row_len, uint
 {
     struct slices s = lend();
     uint8_t *copy = lent(row, row_len);
-    uint32_t got = screen_check_row(s.table, sent.table_len, s.records, sent.records_len, s.pool, sent.pool_len, sent.used,
-                                    sent.root, copy, row_len, nulls);
+    uint32_t got = screen_check_row(s.table, sent.table_len, s.records, sent.records_len, s.pool, sent.pool_len,
+                                    s.text, sent.text_len, sent.used, sent.root, copy, row_len, nulls);
     report(all_kept(&s) && kept(copy, row, row_len), name, "a lent byte changed");
     free(copy);
     give_back(&s);

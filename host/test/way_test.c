@@ -12,7 +12,7 @@ static uint32_t ask(const char *name, uint64_t *found)
     struct slices s = lend();
     uint64_t at = MARK;
     uint32_t got = screen_line_in_the_way(s.table, sent.table_len, s.records, sent.records_len, s.pool, sent.pool_len,
-                                          sent.used, sent.root, &at);
+                                          s.text, sent.text_len, sent.used, sent.root, &at);
     report(all_kept(&s), name, "a lent byte changed");
     report(got == SCREEN_LINE_FOUND || at == MARK, name, "line was written");
     give_back(&s);

@@ -8,6 +8,7 @@ void build_free(struct build *build)
     free(build->lent.table);
     free(build->lent.records);
     free(build->lent.pool);
+    free(build->lent.text);
     free(build->columns);
     free(build->lines);
     text_free(&build->printed);
@@ -19,6 +20,7 @@ void build_room(struct build *build, size_t line_len)
     size_t records = (size_t)s->used + line_len + 2, values = s->pool_len / SCREEN_VALUE_BYTES + line_len;
     s->records = grown(s->records, &s->records_room, SCREEN_RECORD_BYTES * records, 1);
     s->pool = grown(s->pool, &s->pool_room, SCREEN_VALUE_BYTES * values + 1, 1);
+    s->text = grown(s->text, &s->text_room, s->text_len + line_len + 1, 1);
     s->table = grown(s->table, &s->table_room, s->table_len + 1, 1);
 }
 
@@ -107,7 +109,7 @@ bool fit_types(struct build *build, const uint32_t *inputs, size_t count, uint8_
 void add_line(struct build *build, size_t number, struct slice text, uint32_t root)
 {
     struct screen_lent *s = &build->lent;
-    struct typed_line line = {number, text, root, s->used, s->pool_len};
+    struct typed_line line = {number, text, root, s->used, s->pool_len, s->text_len};
     build->top = build->line_count == 0 ? root : screen_put_and(s, build->top, root);
     s->root = build->top;
     build->lines = grown(build->lines, &build->lines_room, build->line_count + 1, sizeof *build->lines);

@@ -21,6 +21,7 @@ struct typed_line {
     uint32_t root;
     uint64_t used;   /* records up to the end of this line */
     size_t pool_len; /* bytes of the pool up to there */
+    size_t text_len; /* bytes of symbols up to there */
 };
 
 struct build {

@@ -12,6 +12,7 @@ struct cells {
     size_t number;
     size_t at;
     bool ended;
+    bool quoted; /* the cell read last */
     struct faults *faults;
     bool faulty;
 };
@@ -47,7 +48,8 @@ static struct slice next_cell(struct cells *cells)
     while (cells->at < line.len && is_blank(line.at[cells->at]))
         cells->at++;
     struct slice cell = {line.at + cells->at, 0};
-    if (cells->at < line.len && line.at[cells->at] == '"') {
+    cells->quoted = cells->at < line.len && line.at[cells->at] == '"';
+    if (cells->quoted) {
         cell = quoted_cell(cells);
     } else {
         const char *comma = memchr(cell.at, ',', line.len - cells->at);
@@ -64,10 +66,32 @@ static size_t place_of(const struct cells *cells, struct slice cell)
     return (size_t)(cell.at - cells->line.at) + 1;
 }
 
+/* A symbol's bytes go to the chain's text where they are not in it. In a quoted cell a quote stands for two. */
+static bool read_symbol(struct chain *chain, struct slice cell, bool quoted, int64_t *value)
+{
+    char bytes[SCREEN_MAX_SYMBOL_BYTES];
+    uint32_t length = 0;
+    for (size_t i = 0; i < cell.len; i++) {
+        if (length == SCREEN_MAX_SYMBOL_BYTES)
+            return false;
+        bytes[length++] = cell.at[i];
+        i += quoted && cell.at[i] == '"';
+    }
+    chain->text = grown(chain->text, &chain->text_room, chain->text_len + SCREEN_MAX_SYMBOL_BYTES, 1);
+    struct screen_lent s;
+    screen_begin(&s, NULL, 0, NULL, 0, NULL, 0, chain->text, chain->text_room);
+    s.text_len = chain->text_len;
+    *value = screen_symbol(screen_put_text(&s, bytes, length), length);
+    chain->text_len = s.text_len;
+    return true;
+}
+
 /* A cell's value by its column's type. */
-static bool read_value(struct slice cell, unsigned type, int64_t *value)
+static bool read_value(struct chain *chain, struct slice cell, bool quoted, unsigned type, int64_t *value)
 {
     long long number = 0;
+    if (type == SCREEN_TYPE_TEXT)
+        return read_symbol(chain, cell, quoted, value);
     if (type == SCREEN_TYPE_DAY)
         return day_read(cell, value);
     bool good =
@@ -79,13 +103,14 @@ static bool read_value(struct slice cell, unsigned type, int64_t *value)
 static void put_cell(struct chain *chain, const struct build *build, size_t column, struct cells *cells,
                      struct slice cell)
 {
-    static const char *const EXPECTED[] = {"", "a whole number within 64 bits", "a day (YYYY-MM-DD)", "true or false"};
+    static const char *const EXPECTED[] = {"", "a whole number within 64 bits", "a day (YYYY-MM-DD)", "true or false",
+                                           "a symbol of at most 16 bytes"};
     int64_t value = 0;
     unsigned type = build->lent.table[column];
     size_t at = chain->rows * chain->columns + column;
     if (cell.len == 0)
         return;
-    if (!read_value(cell, type, &value)) {
+    if (!read_value(chain, cell, cells->quoted, type, &value)) {
         fault_add(cells->faults, cells->number, place_of(cells, cell), "expected %s or nothing for %s, found '%.*s'",
                   EXPECTED[type], build->columns[column].name, cell.len > 60 ? 60 : (int)cell.len, cell.at);
         cells->faulty = true;
@@ -175,8 +200,12 @@ bool chain_read(struct slice text, const struct build *build, uint64_t read, str
     struct slice line;
     size_t number = 0;
     chain->columns = build->lent.table_len;
+    chain->text = grown(chain->text, &chain->text_room, build->lent.text_len + 1, 1);
+    chain->text_len = build->lent.text_len;
+    if (chain->text_len > 0)
+        memcpy(chain->text, build->lent.text, chain->text_len);
     while (next_line(&text, &line)) {
-        struct cells cells = {line, ++number, 0, false, faults, false};
+        struct cells cells = {line, ++number, 0, false, false, faults, false};
         faults->text = line;
         if (trimmed(line).len == 0)
             continue;
@@ -189,6 +218,8 @@ bool chain_read(struct slice text, const struct build *build, uint64_t read, str
     }
     if (header.count == 0 && faults->count == 0)
         fault_add(faults, number, 0, "expected a line of column names, found the end of the file");
+    if (chain->text_len > SCREEN_MAX_TEXT_BYTES && faults->count == 0)
+        fault_add(faults, number, 0, "the symbols of the screen and of the chain have more than 8,192 bytes together");
     free(header.columns);
     text_free(&header.names);
     return faults->count == 0;
@@ -199,6 +230,16 @@ void chain_free(struct chain *chain)
     free(chain->values);
     free(chain->nulls);
     free(chain->lines);
+    free(chain->text);
+}
+
+struct screen_lent chain_screen(const struct chain *chain, const struct screen_lent *screen)
+{
+    struct screen_lent lent = *screen;
+    lent.text = chain->text;
+    lent.text_len = chain->text_len;
+    lent.text_room = chain->text_len;
+    return lent;
 }
 
 const uint8_t *chain_row(const struct chain *chain, size_t row)
@@ -215,7 +256,8 @@ size_t chain_row_len(const struct chain *chain)
 
 static uint32_t test(const struct chain *chain, size_t row, const struct screen_lent *screen)
 {
-    return screen_lent_test_row(screen, chain_row(chain, row), chain_row_len(chain), chain->nulls[row]);
+    struct screen_lent lent = chain_screen(chain, screen);
+    return screen_lent_test_row(&lent, chain_row(chain, row), chain_row_len(chain), chain->nulls[row]);
 }
 
 static void run_screen(struct run *run, const struct chain *chain, const struct screen_lent *screen)

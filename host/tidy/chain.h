@@ -17,12 +17,18 @@ struct chain {
     size_t *lines; /* where a row stands in the file */
     size_t lines_room;
     size_t rows;
+    uint8_t *text; /* the screen's text, and behind it the bytes of those of the rows' symbols that are not in it */
+    size_t text_room;
+    size_t text_len;
 };
 
 bool chain_read(struct slice text, const struct build *build, uint64_t read, struct chain *chain,
                 struct faults *faults);
 
 void chain_free(struct chain *chain);
+
+/* The screen with the chain's text, as it is lent with the chain's rows. */
+struct screen_lent chain_screen(const struct chain *chain, const struct screen_lent *screen);
 
 /* The bytes of a row, and how many. */
 const uint8_t *chain_row(const struct chain *chain, size_t row);

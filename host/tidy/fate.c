@@ -16,7 +16,7 @@ static uint64_t columns_of(const struct screen_lent *screen, uint64_t record)
 
 static bool same(struct comparison a, struct comparison b)
 {
-    return a.column == b.column && a.code == b.code && a.value == b.value;
+    return a.column == b.column && a.code == b.code && value_order(a, b) == 0;
 }
 
 /* ------------------------------------------------------------------------------------- one conjunct, one typed line */
@@ -40,7 +40,7 @@ static bool trace_comparison(const struct tidied *t, struct comparison typed, bo
             found = true;
             numbers_add(&line->lines, i + 1);
             add_fate(line, first, same(tidied[j], typed)               ? FATE_KEPT
-                                  : tidied[j].value == typed.value ? FATE_MERGED
+                                  : value_order(tidied[j], typed) == 0 ? FATE_MERGED
                                                                    : FATE_DROPPED);
         }
     }

@@ -11,7 +11,8 @@ static void run_block(struct hedged *hedged, const struct chain *chain, const st
 {
     uint8_t list[SCREEN_PLACE_BYTES * SCREEN_MAX_ROWS];
     uint64_t count = 0;
-    uint32_t answer = screen_lent_hedge_list(screen, chain_row(chain, first), chain_row_len(chain) * rows,
+    struct screen_lent lent = chain_screen(chain, screen);
+    uint32_t answer = screen_lent_hedge_list(&lent, chain_row(chain, first), chain_row_len(chain) * rows,
                                              chain->nulls + first, rows, list, sizeof list, &hedged->tally, &count);
     if (screen_refused(answer)) {
         hedged->refusal = answer;

@@ -59,11 +59,28 @@ static bool is_letter(char c)
     return (c >= 'a' && c <= 'z') || (c >= 'A' && c <= 'Z') || c == '_';
 }
 
+/* How long a symbol in quotes is, with them; to the end of the line if none closes it. A backslash hides a quote. */
+static size_t quoted_length(struct slice rest)
+{
+    size_t at = 1;
+    while (at < rest.len && rest.at[at] != rest.at[0])
+        at += rest.at[at] == '\\' && at + 1 < rest.len ? 2 : 1;
+    return at < rest.len ? at + 1 : rest.len;
+}
+
+static bool is_quote(char c)
+{
+    return c == '\'' || c == '"';
+}
+
 struct slice without_comment(struct slice line)
 {
-    const char *comment = line.len > 0 ? memchr(line.at, '#', line.len) : NULL;
-    if (comment != NULL)
-        line.len = (size_t)(comment - line.at);
+    size_t at = 0;
+    while (at < line.len && line.at[at] != '#') {
+        struct slice rest = {line.at + at, line.len - at};
+        at += is_quote(line.at[at]) ? quoted_length(rest) : 1;
+    }
+    line.len = at;
     return trimmed(line);
 }
 
@@ -109,6 +126,57 @@ static void read_number(struct lexer *lexer, struct token *token)
               token->text.len > 60 ? 60 : (int)token->text.len, token->text.at);
 }
 
+static int hex_digit(char c)
+{
+    if (is_digit(c))
+        return c - '0';
+    if (c >= 'a' && c <= 'f')
+        return c - 'a' + 10;
+    return c >= 'A' && c <= 'F' ? c - 'A' + 10 : -1;
+}
+
+/* The byte at *at of a symbol's text, and *at behind it: a letter, or behind a backslash a letter or x and two digits. */
+static bool symbol_byte(struct slice text, size_t *at, char *byte)
+{
+    *byte = text.at[(*at)++];
+    if (*byte != '\\')
+        return true;
+    if (*at >= text.len)
+        return false;
+    *byte = text.at[(*at)++];
+    if (*byte != 'x')
+        return *byte == '\\' || is_quote(*byte);
+    if (*at + 2 > text.len || hex_digit(text.at[*at]) < 0 || hex_digit(text.at[*at + 1]) < 0)
+        return false;
+    *byte = (char)(16 * hex_digit(text.at[*at]) + hex_digit(text.at[*at + 1]));
+    *at += 2;
+    return true;
+}
+
+static void read_symbol(struct lexer *lexer, struct token *token)
+{
+    struct slice inside = {token->text.at + 1, token->text.len - 2};
+    const char *wrong = NULL;
+    size_t at = 0;
+    token->kind = TOKEN_SYMBOL;
+    if (token->text.len < 2 || token->text.at[token->text.len - 1] != token->text.at[0])
+        wrong = "a closing quote before the end of the line";
+    while (wrong == NULL && at < inside.len) {
+        char byte;
+        if (!symbol_byte(inside, &at, &byte))
+            wrong = "\\\\, \\' or \\x and two hexadecimal digits behind a backslash";
+        else if (token->value == (int64_t)sizeof token->symbol)
+            wrong = "a symbol of at most 16 bytes";
+        else
+            token->symbol[token->value++] = byte;
+    }
+    if (wrong == NULL)
+        return;
+    token->kind = TOKEN_FAULT;
+    fault_add(lexer->faults, lexer->number, token->place, "expected %s, found %.*s", wrong,
+              token->text.len > 60 ? 60 : (int)token->text.len, token->text.at);
+}
+
 static void read_sign(struct lexer *lexer, struct slice rest, struct token *token)
 {
     for (size_t i = 0; i < sizeof SIGNS / sizeof *SIGNS; i++) {
@@ -123,7 +191,7 @@ static void read_sign(struct lexer *lexer, struct slice rest, struct token *toke
     token->kind = TOKEN_FAULT;
     token->text.len = 1;
     unsigned char c = (unsigned char)rest.at[0];
-    const char *expected = c == '/' ? "//, which divides whole numbers" : "a name, a number, a day or a sign";
+    const char *expected = c == '/' ? "//, which divides whole numbers" : "a name, a number, a day, a symbol in quotes or a sign";
     if (c > ' ' && c < 127)
         fault_add(lexer->faults, lexer->number, token->place, "expected %s, found '%c'", expected, c);
     else
@@ -135,7 +203,7 @@ struct token lex_next(struct lexer *lexer)
     struct slice line = lexer->line;
     while (lexer->at < line.len && is_blank(line.at[lexer->at]))
         lexer->at++;
-    struct token token = {TOKEN_END, {line.at + lexer->at, 0}, lexer->at + 1, 0, 0};
+    struct token token = {TOKEN_END, {line.at + lexer->at, 0}, lexer->at + 1, 0, 0, {0}};
     struct slice rest = {line.at + lexer->at, line.len - lexer->at};
     if (rest.len == 0 || rest.at[0] == '#')
         return token;
@@ -146,6 +214,9 @@ struct token lex_next(struct lexer *lexer)
     } else if (is_digit(rest.at[0]) || negative) {
         token.text.len = run_length(rest, true);
         read_number(lexer, &token);
+    } else if (is_quote(rest.at[0])) {
+        token.text.len = quoted_length(rest);
+        read_symbol(lexer, &token);
     } else {
         read_sign(lexer, rest, &token);
     }

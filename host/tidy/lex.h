@@ -13,6 +13,7 @@ enum token_kind {
     TOKEN_INT,
     TOKEN_DAY,
     TOKEN_TRUTH,
+    TOKEN_SYMBOL, /* in quotes */
     TOKEN_NULL,
     TOKEN_COMPARISON,
     TOKEN_DIVISION,
@@ -35,7 +36,8 @@ struct token {
     struct slice text;
     size_t place;
     unsigned code; /* SCREEN_OP_.. of a comparison, a division or of logic */
-    int64_t value; /* of a number, a day or a truth */
+    int64_t value; /* of a number, a day or a truth; of a symbol how many bytes it has */
+    char symbol[16]; /* its bytes */
 };
 
 struct lexer {

@@ -81,10 +81,11 @@ static void expect_word(struct parser *p, const char *word, const char *expected
 
 /* ----------------------------------------------------------------------------------- what fits, in the desk's words */
 
-static const char *const A_TYPE[4] = {"", "an Int", "a Day", "a Truth"};
+static const char *const A_TYPE[5] = {"", "an Int", "a Day", "a Truth", "a Text"};
 
 /* What is written for a value of the type. */
-static const char *const EXAMPLE[4] = {"", "a whole number, as 100", "a day, as 2026-12-18", "true or false"};
+static const char *const EXAMPLE[5] = {"", "a whole number, as 100", "a day, as 2026-12-18", "true or false",
+                                       "a symbol in quotes, as 'SPX'"};
 
 static unsigned kind_of(const struct parser *p, struct operand operand)
 {
@@ -172,9 +173,19 @@ static uint8_t literal_type(enum token_kind kind)
         return SCREEN_TYPE_DAY;
     case TOKEN_TRUTH:
         return SCREEN_TYPE_TRUTH;
+    case TOKEN_SYMBOL:
+        return SCREEN_TYPE_TEXT;
     default:
         return 0;
     }
+}
+
+/* A token's value as the library takes it; the bytes of a symbol go to the screen's text, where they are not there yet. */
+static int64_t token_value(struct parser *p, struct token token)
+{
+    if (token.kind != TOKEN_SYMBOL)
+        return token.value;
+    return screen_symbol(screen_put_text(&p->build->lent, token.symbol, (uint32_t)token.value), (uint32_t)token.value);
 }
 
 static void refuse_name(struct parser *p)
@@ -226,11 +237,12 @@ static struct operand parse_value(struct parser *p)
     case TOKEN_INT:
     case TOKEN_DAY:
     case TOKEN_TRUTH:
+    case TOKEN_SYMBOL:
         take(p);
-        operand.record = screen_put_literal(&p->build->lent, literal_type(operand.at.kind), operand.at.value);
+        operand.record = screen_put_literal(&p->build->lent, literal_type(operand.at.kind), token_value(p, operand.at));
         break;
     default:
-        refuse(p, p->token, "a column, a whole number, a day, true, false, null or '('");
+        refuse(p, p->token, "a column, a whole number, a day, a symbol in quotes, true, false, null or '('");
     }
     return operand;
 }
@@ -335,8 +347,9 @@ struct list {
 /* One entry of a list: a value goes to the pool, a null is marked in the list's code. */
 static void parse_entry(struct parser *p, struct list *list)
 {
-    static const char *const EXPECTED[4] = {"a value of the list, or ')'", "a whole number, as the list began",
-                                            "a day, as the list began", "true or false, as the list began"};
+    static const char *const EXPECTED[5] = {"a value of the list, or ')'", "a whole number, as the list began",
+                                            "a day, as the list began", "true or false, as the list began",
+                                            "a symbol in quotes, as the list began"};
     unsigned type = literal_type(p->token.kind);
     if (p->token.kind == TOKEN_NULL) {
         list->holds_null = 1;
@@ -345,7 +358,7 @@ static void parse_entry(struct parser *p, struct list *list)
     } else {
         list->type = type;
         list->count++;
-        screen_put_pool(&p->build->lent, p->token.value);
+        screen_put_pool(&p->build->lent, token_value(p, p->token));
     }
     take(p);
 }
@@ -470,13 +483,13 @@ static struct operand parse_logic(struct parser *p)
 
 static uint8_t parse_type(struct parser *p)
 {
-    static const char *const NAMES[4] = {"", "int", "day", "truth"};
-    for (uint8_t type = SCREEN_TYPE_INT; type <= SCREEN_TYPE_TRUTH; type++)
+    static const char *const NAMES[5] = {"", "int", "day", "truth", "text"};
+    for (uint8_t type = SCREEN_TYPE_INT; type <= SCREEN_TYPE_TEXT; type++)
         if (at_word(p, NAMES[type])) {
             take(p);
             return type;
         }
-    refuse(p, p->token, "a type: Int, Day or Truth");
+    refuse(p, p->token, "a type: Int, Day, Truth or Text");
     return 0;
 }
 
@@ -511,7 +524,7 @@ bool parse_screen(struct slice text, struct build *build, struct faults *faults)
     struct slice line;
     size_t number = 0;
     while (next_line(&text, &line)) {
-        struct parser p = {{line, ++number, 0, faults}, {TOKEN_END, {NULL, 0}, 0, 0, 0}, build, faults, 0};
+        struct parser p = {{line, ++number, 0, faults}, {TOKEN_END, {NULL, 0}, 0, 0, 0, {0}}, build, faults, 0};
         faults->text = line;
         build_room(build, line.len);
         take(&p);

@@ -162,7 +162,7 @@ static void add_axis(struct text *out, const struct scale *scale, unsigned type,
         if (value < scale->low || value > scale->high || value < -9.2e18 || value > 9.2e18 ||
             (type == SCREEN_TYPE_TRUTH && value != 0 && value != 1))
             continue;
-        add_value(&label, type, (int64_t)value);
+        add_value(&label, NULL, type, (int64_t)value); /* never a symbol: their columns have no picture */
         text_add(out, "<line class=\"axis\" x1=\"%.1f\" x2=\"%.1f\" y1=\"%.0f\" y2=\"%.0f\"/>", place(scale, value),
                  place(scale, value), y, y + 4);
         text_add(out, "<text class=\"mark\" x=\"%.1f\" y=\"%.0f\" text-anchor=\"middle\">%s</text>",
@@ -294,7 +294,8 @@ void undrawn_lines(struct numbers *numbers, const struct tidied *tidied, size_t 
 
 bool has_picture(const struct tidied *tidied, const struct run_files *files, size_t column)
 {
-    return (tidied->columns >> column & 1) && (drawn_lines(tidied, column) > 0 || files->chain != NULL);
+    bool number = tidied->build->lent.table[column] != SCREEN_TYPE_TEXT; /* symbols have no scale */
+    return number && (tidied->columns >> column & 1) && (drawn_lines(tidied, column) > 0 || files->chain != NULL);
 }
 
 static void add_typed(struct text *out, const struct tidied *tidied, const struct scale *scale, size_t column,

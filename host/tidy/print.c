@@ -2,9 +2,24 @@
 
 #include "day.h"
 
-void add_value(struct text *text, unsigned type, int64_t value)
+/* In quotes, as it is typed: a quote and a backslash behind a backslash, a byte that is no letter by its number. */
+static void add_symbol(struct text *text, const uint8_t *bytes, size_t length)
 {
-    if (type == SCREEN_TYPE_DAY)
+    text_add(text, "'");
+    for (size_t i = 0; i < length; i++) {
+        if (bytes[i] < ' ' || bytes[i] > '~')
+            text_add(text, "\\x%02x", bytes[i]);
+        else
+            text_add(text, "%s%c", bytes[i] == '\'' || bytes[i] == '\\' ? "\\" : "", bytes[i]);
+    }
+    text_add(text, "'");
+}
+
+void add_value(struct text *text, const struct screen_lent *screen, unsigned type, int64_t value)
+{
+    if (type == SCREEN_TYPE_TEXT)
+        add_symbol(text, screen->text + ((uint64_t)value & UINT32_MAX), (size_t)((uint64_t)value >> 32));
+    else if (type == SCREEN_TYPE_DAY)
         day_add(text, value);
     else if (type == SCREEN_TYPE_TRUTH)
         text_add(text, "%s", value != 0 ? "true" : "false");
@@ -111,7 +126,7 @@ static void add_list(struct text *text, const struct build *build, struct screen
     text_add(text, "(");
     for (uint32_t i = 0; i < list.b; i++) {
         text_add(text, "%s", i > 0 ? ", " : "");
-        add_value(text, list.type, screen_fetch_value(build->lent.pool + SCREEN_VALUE_BYTES * ((size_t)list.a + i)));
+        add_value(text, &build->lent, list.type, screen_fetch_value(build->lent.pool + SCREEN_VALUE_BYTES * ((size_t)list.a + i)));
     }
     if (list.code == 1)
         text_add(text, "%snull", list.b > 0 ? ", " : "");
@@ -134,7 +149,7 @@ void add_test(struct text *text, const struct build *build, uint64_t record)
         text_add(text, "%s", build->columns[fields.a].name);
         break;
     case SCREEN_KIND_LITERAL:
-        add_value(text, fields.type, screen_literal_at(&build->lent, record));
+        add_value(text, &build->lent, fields.type, screen_literal_at(&build->lent, record));
         break;
     case SCREEN_KIND_NULL:
         text_add(text, "null");

@@ -7,7 +7,7 @@
 /* One record's text. */
 void add_test(struct text *text, const struct build *build, uint64_t record);
 
-void add_value(struct text *text, unsigned type, int64_t value);
+void add_value(struct text *text, const struct screen_lent *screen, unsigned type, int64_t value);
 
 /* The sign of a comparison or a division, or the word of logic. */
 const char *operator_text(unsigned code);

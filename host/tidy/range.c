@@ -1,5 +1,7 @@
 #include "range.h"
 
+#include <string.h>
+
 bool is_lower(struct comparison comparison)
 {
     return comparison.code == SCREEN_OP_GT || comparison.code == SCREEN_OP_GT_EQ;
@@ -58,7 +60,12 @@ static bool is_kind(const struct screen_lent *screen, uint64_t record, unsigned 
 
 static struct comparison compared(const struct screen_lent *screen, uint64_t column, unsigned code, uint64_t literal)
 {
-    struct comparison comparison = {screen_record_at(screen, column).a, code, screen_literal_at(screen, literal)};
+    struct screen_record fields = screen_record_at(screen, literal);
+    struct comparison comparison = {screen_record_at(screen, column).a, code, screen_literal_at(screen, literal), NULL, 0};
+    if (fields.type == SCREEN_TYPE_TEXT) {
+        comparison.symbol = screen->text + fields.b;
+        comparison.length = fields.c;
+    }
     return comparison;
 }
 
@@ -96,30 +103,42 @@ size_t comparisons_of(const struct screen_lent *screen, uint64_t record, struct 
     return 2;
 }
 
-static bool holds(struct comparison comparison, int64_t value)
+int value_order(struct comparison a, struct comparison b)
 {
+    if (a.symbol == NULL || b.symbol == NULL)
+        return (a.value > b.value) - (a.value < b.value);
+    size_t common = a.length < b.length ? a.length : b.length;
+    int order = common > 0 ? memcmp(a.symbol, b.symbol, common) : 0;
+    return order != 0 ? order : (a.length > b.length) - (a.length < b.length);
+}
+
+/* Is the comparison true of the other one's value? */
+static bool holds(struct comparison comparison, struct comparison other)
+{
+    int order = value_order(other, comparison);
     switch (comparison.code) {
     case SCREEN_OP_EQ:
-        return value == comparison.value;
+        return order == 0;
     case SCREEN_OP_NOT_EQ:
-        return value != comparison.value;
+        return order != 0;
     case SCREEN_OP_LT:
-        return value < comparison.value;
+        return order < 0;
     case SCREEN_OP_LT_EQ:
-        return value <= comparison.value;
+        return order <= 0;
     case SCREEN_OP_GT:
-        return value > comparison.value;
+        return order > 0;
     default:
-        return value >= comparison.value;
+        return order >= 0;
     }
 }
 
 /* Both bound the same side: the strong one is further in, or at the same value and not the wider one. */
 static bool tighter(struct comparison strong, struct comparison weak)
 {
-    bool further = is_lower(strong) ? strong.value > weak.value : strong.value < weak.value;
+    int order = value_order(strong, weak);
+    bool further = is_lower(strong) ? order > 0 : order < 0;
     bool open = strong.code == SCREEN_OP_GT || strong.code == SCREEN_OP_LT;
-    return further || (strong.value == weak.value && (open || strong.code == weak.code));
+    return further || (order == 0 && (open || strong.code == weak.code));
 }
 
 bool implies(struct comparison strong, struct comparison weak)
@@ -127,9 +146,9 @@ bool implies(struct comparison strong, struct comparison weak)
     if (strong.column != weak.column)
         return false;
     if (strong.code == SCREEN_OP_EQ)
-        return holds(weak, strong.value);
+        return holds(weak, strong);
     if (weak.code == SCREEN_OP_NOT_EQ)
-        return strong.code == SCREEN_OP_NOT_EQ ? strong.value == weak.value : !holds(strong, weak.value);
+        return strong.code == SCREEN_OP_NOT_EQ ? value_order(strong, weak) == 0 : !holds(strong, weak);
     if ((is_lower(strong) && is_lower(weak)) || (is_upper(strong) && is_upper(weak)))
         return tighter(strong, weak);
     return false;

@@ -11,6 +11,8 @@ struct comparison {
     size_t column;
     unsigned code;
     int64_t value;
+    const uint8_t *symbol; /* of a Text column, in the screen's text; else NULL */
+    size_t length;
 };
 
 /* The comparisons that a conjunct stands for: one, or the two of a between; 0 if it is of another kind. */
@@ -18,6 +20,9 @@ size_t comparisons_of(const struct screen_lent *screen, uint64_t record, struct 
 
 /* Is `weak` true of every value of which `strong` is? Values between two whole numbers count too. */
 bool implies(struct comparison strong, struct comparison weak);
+
+/* Which value is the greater one: below 0, 0 or above 0, of two comparisons of one column. */
+int value_order(struct comparison a, struct comparison b);
 
 bool is_lower(struct comparison comparison);
 bool is_upper(struct comparison comparison);

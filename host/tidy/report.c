@@ -31,7 +31,7 @@ void add_origin_text(struct text *text, const struct build *build, const struct 
 
 const char *type_text(unsigned type)
 {
-    static const char *const NAMES[] = {"", "Int", "Day", "Truth"};
+    static const char *const NAMES[] = {"", "Int", "Day", "Truth", "Text"};
     return NAMES[type];
 }
 

@@ -52,7 +52,7 @@ void add_cell_text(struct text *text, const struct tidied *tidied, const struct 
     if (row->nulls >> column & 1)
         text_add(text, "null%s", tidied->columns >> column & 1 ? "" : ", not read");
     else if (half == 0)
-        add_value(text, type, whole);
+        add_value(text, &tidied->typed, type, whole);
     else if (type == SCREEN_TYPE_DAY) {
         day_add(text, whole);
         text_add(text, ", half a day %s", half > 0 ? "later" : "earlier");

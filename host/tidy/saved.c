@@ -25,6 +25,7 @@ bool saved_load(struct slice bytes, struct build *build, struct faults *faults)
     s->table = grown(s->table, &s->table_room, bytes.len, 1);
     s->records = grown(s->records, &s->records_room, bytes.len, 1);
     s->pool = grown(s->pool, &s->pool_room, bytes.len, 1);
+    s->text = grown(s->text, &s->text_room, bytes.len, 1);
     uint32_t answer = screen_lent_load(s, (const uint8_t *)bytes.at, bytes.len);
     if (screen_refused(answer)) {
         fault_add(faults, 0, 0, "refused, number %u: %s", (unsigned)answer, screen_refusal_text(answer));

@@ -42,7 +42,7 @@ static void add_loaded_lines(struct build *build)
     build->lines = grown(build->lines, &build->lines_room, conjuncts.count, sizeof *build->lines);
     for (size_t i = 0; i < conjuncts.count; i++) {
         struct typed_line line = {i + 1, {NULL, 0}, (uint32_t)conjuncts.records[i], build->lent.used,
-                                  build->lent.pool_len};
+                                  build->lent.pool_len, build->lent.text_len};
         build->lines[build->line_count++] = line;
         add_test(&build->printed, build, line.root);
         text_add(&build->printed, "\n");
@@ -132,7 +132,8 @@ static size_t line_too_many(const struct build *build, uint32_t answer)
         part.used = line->used;
         part.root = line->root;
         if (answer == SCREEN_REFUSED_SIZE && (line->used > SCREEN_MAX_RECORDS ||
-                                              line->pool_len > SCREEN_VALUE_BYTES * SCREEN_MAX_POOL_VALUES))
+                                              line->pool_len > SCREEN_VALUE_BYTES * SCREEN_MAX_POOL_VALUES ||
+                                              line->text_len > SCREEN_MAX_TEXT_BYTES))
             break;
         if (answer == SCREEN_REFUSED_CONJUNCTS &&
             (conjuncts += conjunct_count(build, line->root)) > SCREEN_MAX_CONJUNCTS)
@@ -149,12 +150,14 @@ static const char *sentence(const struct tidied *tidied)
     if (tidied->build->loaded)
         return screen_refusal_text(tidied->answer);
     bool pool = tidied->typed.pool_len > SCREEN_VALUE_BYTES * SCREEN_MAX_POOL_VALUES;
+    bool text = tidied->typed.text_len > SCREEN_MAX_TEXT_BYTES;
     switch (tidied->answer) {
     case SCREEN_REFUSED_TABLE:
         return "more than 64 columns: this is the 65th";
     case SCREEN_REFUSED_SIZE:
-        return pool ? "the lists have more than 8,192 values together, from this line on"
-                    : "the lines have more than 4,096 columns, values and operators together, from this line on";
+        return text   ? "the symbols have more than 8,192 bytes together, from this line on"
+               : pool ? "the lists have more than 8,192 values together, from this line on"
+                      : "the lines have more than 4,096 columns, values and operators together, from this line on";
     case SCREEN_REFUSED_CONJUNCTS:
         return "more than 128 conditions, from this line on; those joined by and count each";
     case SCREEN_REFUSED_ROOM:

@@ -8,7 +8,9 @@ ghost use Rattle.checking.specs.Check.{checkAnswerIn};
 ghost use Rattle.checking.specs.Tree.{Counted};
 ghost use Rattle.checking.specs.declared.check.CheckAnswer.the-variants.{Accepted};
 use checking::check::CheckAnswer;
+use checking::check::check_counted;
 use checking::check::check_with_text;
+use symbol_free::has_symbols;
 
 // Past the limit every length is refused as the first past it.
 fn lent_as(text: usize) -> u32
@@ -40,7 +42,8 @@ pub fn check_lent_counted(
     check_with_text(t, rs, p, lent_as(text), used, root, types, trees)
 }
 
-/// The answer alone. Most screens have few records, and small tables cost less to clear.
+/// The answer alone. Most screens have few records, and small tables cost less to clear. A long screen without symbols needs no
+/// count of the pool's values that are none.
 pub fn check_lent(t: &[u8], rs: &[u8], p: &[u8], text: usize, used: u64, root: u64) -> CheckAnswer
     ensures { λ a. ⌜ a ≡ checkAnswerIn (suc text) (now (t .entry)) (now (rs .entry)) (now (p .entry)) used root ⌝ }
 {
@@ -51,5 +54,11 @@ pub fn check_lent(t: &[u8], rs: &[u8], p: &[u8], text: usize, used: u64, root: u
     }
     let mut types = [0u8; 4096];
     let mut trees = [0u16; 4096];
-    check_lent_counted(t, rs, p, text, used, root, &mut types, &mut trees)
+    if 8192 < text {
+        return check_lent_counted(t, rs, p, text, used, root, &mut types, &mut trees);
+    }
+    if has_symbols(t, rs, used) {
+        return check_lent_counted(t, rs, p, text, used, root, &mut types, &mut trees);
+    }
+    check_counted(t, rs, p, used, root, &mut types, &mut trees)
 }

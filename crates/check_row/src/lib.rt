@@ -1,5 +1,6 @@
 // The check of a proposed row (02, 2.7): the checks in their order, 8, 9, 17 and 18 among them, then each line of the plain
-// screen on the row. A row passes if every line is true of it; a line that is unknown is not.
+// screen on the row. A row passes if every line is true of it; a line that is unknown is not. All of a screen without symbols: the
+// C call stands in crate `check_symbols`.
 ghost use mathlib.Core.Path.{_≡_};
 ghost use mathlib.Core.Bool.{true};
 ghost use Prim.Native.Nat.{ℕ, _<_, _≤_};
@@ -44,8 +45,7 @@ fn judge_row(
 }
 
 // Below 256: the refusal's number. 256: the row does not pass. 257: it passes. Nothing is written.
-#[no_mangle]
-pub extern "C" fn screen_check_row(
+pub fn check_of_screen(
     table: &[u8],
     records: &[u8],
     pool: &[u8],

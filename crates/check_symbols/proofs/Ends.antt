@@ -1,5 +1,5 @@
--- The ends of the call: a refusal, and what the screen's numbers answer.
-use mathlib.Core.Path.{_≡_, refl, sym, _∙_, ap}
+-- The ends of the call: a refusal, what the screen's numbers answer, and what a screen without symbols does.
+use mathlib.Core.Path.{_≡_, refl, sym, _∙_, ap, subst}
 use mathlib.Core.Bool.{true}
 use mathlib.Core.List.{List}
 use mathlib.Core.Option.{Option, none, some}
@@ -13,6 +13,8 @@ use Rattle.check_row.specs.Answer.{refusedOr, rowAnswer, checkRowAnswer, rowLis
 use Rattle.numbered_screen.specs.Numbered.{Numbered}
 use Rattle.numbered_screen.proofs.Checking.{numbers-checked}
 use Rattle.symbol_screens.specs.Rewriting.{lent}
+use Rattle.symbol_screens.proofs.NumbersChecked.{NoText}
+use Rattle.own_numbers.proofs.Own.{refusal-as-ever, own-or-refused}
 use Rattle.symbol_screens.specs.Rows.{passesWith}
 use Rattle.plain_rows.proofs.Rows.{passes-true}
 use Rattle.plain_symbols.specs.Refusal.{refusalNumber, plainRefusalWith}
@@ -61,3 +63,14 @@ module _ (text t rs p : List ℕ) (used root : ℕ) (row : List ℕ) (nulls : �
 
       ok : CheckedIn (lent text) t rs p used root
       ok = checked-in (lent text) t rs p used root (q .accepted)
+
+  pub end-as-ever : NoText t rs used → length text ≤ 8192 → (r : ℕ) → r ≡ checkRowAnswer t rs p used root row nulls
+      → rowListed r ≡ true → Told r
+  unfolding checkRowAnswer
+  end-as-ever free h r e l =
+      own-or-refused t rs used free text p root (Told r) (λ z are. end-told t rs are z r e l)
+      (λ k g n. subst Told (refused-or (plainRefusalWith text t rs p used root) k answer g n
+      ∙ ap (λ x. refusedOr x answer) (refusal-as-ever t rs used free text p root h) ∙ sym e) (end-refused k g n))
+    where
+      answer : ℕ
+      answer = rowAnswer (length t) row nulls (passes rs p used root (placesRow row nulls))

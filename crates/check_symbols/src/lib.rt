@@ -6,8 +6,9 @@ ghost use Prim.Native.Nat.{_*_, _≤_};
 ghost use lib.ListN.{length};
 ghost use Rattle.check_row.specs.Answer.{rowListed};
 ghost use Rattle.check_symbols.specs.Answer.{checkRowAnswerWith};
-use check_row::screen_check_row;
+use check_row::check_of_screen;
 use plain_symbols::plain_numbers;
+use symbol_free::has_symbols;
 
 // `columns` and `numbers` are room for the screen's numbers.
 fn check_of_numbers(
@@ -32,7 +33,7 @@ fn check_of_numbers(
     if k != 0 {
         return k;
     }
-    screen_check_row(
+    check_of_screen(
         &columns[..table.len()],
         numbers,
         pool,
@@ -43,8 +44,8 @@ fn check_of_numbers(
     )
 }
 
-/// As `screen_check_row`, beside a text pool. Most screens have few records, and small tables cost less to clear.
-pub fn check_row_with(
+// It has two callers, so that its copies stand in a frame of their own, which a screen without symbols does not pay for.
+fn check_beside_text(
     table: &[u8],
     records: &[u8],
     pool: &[u8],
@@ -59,21 +60,6 @@ pub fn check_row_with(
     ensures listed { λ r. ⌜ rowListed r ≡ true ⌝ }
 {
     let mut columns = [0u8; 64];
-    if used <= 64 {
-        let mut few = [0u8; 1024];
-        return check_of_numbers(
-            table,
-            records,
-            pool,
-            text,
-            used,
-            root,
-            row,
-            nulls,
-            &mut columns,
-            &mut few,
-        );
-    }
     let mut numbers = [0u8; 65536];
     check_of_numbers(
         table,
@@ -87,4 +73,30 @@ pub fn check_row_with(
         &mut columns,
         &mut numbers,
     )
+}
+
+// Below 256: the refusal's number. 256: the row does not pass. 257: it passes. Nothing is written. A screen without symbols goes
+// past the copies: it is its own numbers.
+#[no_mangle]
+pub extern "C" fn screen_check_row(
+    table: &[u8],
+    records: &[u8],
+    pool: &[u8],
+    text: &[u8],
+    used: u64,
+    root: u64,
+    row: &[u8],
+    nulls: u64,
+) -> u32
+    ensures answer { λ r. ⌜ r ≡ checkRowAnswerWith (now (text .entry)) (now (table .entry)) (now (records .entry))
+        (now (pool .entry)) used root (now (row .entry)) nulls ⌝ }
+    ensures listed { λ r. ⌜ rowListed r ≡ true ⌝ }
+{
+    if 8192 < text.len() {
+        return check_beside_text(table, records, pool, text, used, root, row, nulls);
+    }
+    if has_symbols(table, records, used) {
+        return check_beside_text(table, records, pool, text, used, root, row, nulls);
+    }
+    check_of_screen(table, records, pool, used, root, row, nulls)
 }

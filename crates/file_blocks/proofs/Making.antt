@@ -26,7 +26,7 @@ zeros-with content h =
 
 -- its header written, byte by byte, and the checksum behind it
 abbrev headed : List ℕ → ℕ → ℕ → ℕ → List ℕ
-headed z n k count = set (set (set (set z 2 (n % 256)) 3 (n / 256)) 4 k) 5 count
+headed z n k count = set (set (set (set (set z 2 (n % 256)) 3 (n / 256)) 4 k) 5 (count % 256)) 6 (count / 256)
 
 pub block-made : (z content : List ℕ) (n k count sum : ℕ) → length content ≤ 496
     → z ≡ overwrite (replicate 512 0) 16 content → count ≡ length content / itemSize k

@@ -7,23 +7,24 @@ use crate::copy::put;
 use checksum::block_checksum;
 
 // What a block of kind `kind` counts that has `bytes` bytes of content.
-fn item_count(kind: u8, bytes: usize) -> u8
+fn item_count(kind: u8, bytes: usize) -> u16
     requires { ⌜ bytes ≤ 496 ⌝ }
-    requires { ⌜ (kind ≡ 1 → bytes ≤ 255) ⌝ }
     ensures { λ r. ⌜ r ≡ bytes / itemSize kind ⌝ }
 {
     if kind == 1 {
-        return bytes as u8;
+        return bytes as u16;
     }
     if kind == 2 {
-        return (bytes / 16) as u8;
+        return (bytes / 16) as u16;
     }
-    (bytes / 8) as u8
+    if kind == 5 {
+        return bytes as u16;
+    }
+    (bytes / 8) as u16
 }
 
 fn block_bytes(number: u16, kind: u8, content: &[u8]) -> [u8; 512]
     requires { ⌜ length (now content) ≤ 496 ⌝ }
-    requires { ⌜ (kind ≡ 1 → length (now content) ≤ 255) ⌝ }
     ensures { λ r. ⌜ r ≡ block number kind (now (content .entry)) ⌝ }
 {
     let mut b = [0u8; 512];
@@ -31,7 +32,9 @@ fn block_bytes(number: u16, kind: u8, content: &[u8]) -> [u8; 512]
     b[2] = (number % 256) as u8;
     b[3] = (number / 256) as u8;
     b[4] = kind;
-    b[5] = item_count(kind, content.len());
+    let count = item_count(kind, content.len());
+    b[5] = (count % 256) as u8;
+    b[6] = (count / 256) as u8;
     let sum = block_checksum(&b);
     b[0] = (sum / 256) as u8;
     b[1] = (sum % 256) as u8;
@@ -43,7 +46,6 @@ pub fn write_block(file: &mut [u8], number: usize, kind: u8, content: &[u8])
     requires { ⌜ number < 65536 ⌝ }
     requires { ⌜ 512 * number + 512 ≤ length (now file) ⌝ }
     requires { ⌜ length (now content) ≤ 496 ⌝ }
-    requires { ⌜ (kind ≡ 1 → length (now content) ≤ 255) ⌝ }
     ensures { λ _. ⌜ now (file .exit) ≡ overwrite (now (file .entry)) (512 * number) (block number kind (now (content .entry))) ⌝ }
 {
     let b = block_bytes(number as u16, kind, content);
@@ -64,7 +66,6 @@ fn piece_end(start: usize, length: usize) -> usize
 pub fn write_blocks(file: &mut [u8], first: usize, kind: u8, content: &[u8])
     requires { ⌜ first + blocksFor (now content) < 65536 ⌝ }
     requires { ⌜ 512 * (first + blocksFor (now content)) ≤ length (now file) ⌝ }
-    requires { ⌜ 2 ≤ kind ⌝ }
     ensures { λ _. ⌜ now (file .exit) ≡ overwrite (now (file .entry)) (512 * first)
         (blocksTo first kind (now (content .entry)) (blocksFor (now (content .entry)))) ⌝ }
 {

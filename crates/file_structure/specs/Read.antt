@@ -1,4 +1,4 @@
--- What a file holds, and number 15 of 02, 2.3: "a wrong checksum, block order, kind or count, a nonzero unused byte, a
+-- What a file holds, and number 15 of 02, 2.3 and 2.10: "a wrong checksum, block order, kind or count, a nonzero unused byte, a
 -- used that is not the number of records held, a missing end or a trailing byte". f is a file, b a block of 512 bytes.
 use Prim.Native.Nat.{ℕ, zero, suc, _+_, _-_, _*_, _/_, _%_}
 use mathlib.Core.List.{List, [], _++_}
@@ -7,7 +7,7 @@ use lib.ListN.{length, getD, take, drop}
 use lib.Dec.{ltb, leb, eqb}
 use Rattle.records.specs.Bytes.{word, all}
 use Rattle.checksum.specs.Checksum.{checksum, cleared}
-use Rattle.file_blocks.specs.Format.{itemSize, capacity, repeats}
+use Rattle.file_blocks.specs.Format.{itemSize, capacity, repeats, place}
 
 -- ---- a block
 
@@ -18,7 +18,7 @@ unfoldable pub kindOf : List ℕ → ℕ
 kindOf b = getD b 4 0
 
 unfoldable pub countOf : List ℕ → ℕ
-countOf b = getD b 5 0
+countOf b = getD b 5 0 + 256 * getD b 6 0
 
 -- the bytes that its count says
 unfoldable pub contentSize : List ℕ → ℕ
@@ -37,7 +37,7 @@ numberOk b i = eqb (getD b 2 0 + 256 * getD b 3 0) i
 
 -- no wrong kind
 unfoldable pub kindOk : List ℕ → Bool
-kindOk b = leb 1 (kindOf b) && leb (kindOf b) 4
+kindOk b = leb 1 (kindOf b) && leb (kindOf b) 5
 
 -- no wrong count: no block is empty but that of a table without columns, and none counts more than it can hold
 unfoldable pub countOk : List ℕ → Bool
@@ -47,19 +47,19 @@ countOk b = (eqb (kindOf b) 1 || ltb 0 (countOf b)) && leb (countOf b) (capacity
 unfoldable pub zerosFrom : List ℕ → ℕ → ℕ → Bool
 zerosFrom b at n = all (λ (j : ℕ). eqb (getD b (at + j) 0) 0) n
 
--- no nonzero unused byte
+-- no nonzero unused byte; byte 6 is a count's, which is below 256 but in blocks of text
 unfoldable pub unusedOk : List ℕ → Bool
-unusedOk b = zerosFrom b 6 10 && zerosFrom b (16 + contentSize b) (496 - contentSize b)
+unusedOk b = zerosFrom b 7 9 && zerosFrom b (16 + contentSize b) (496 - contentSize b)
 
 unfoldable pub blockOk : List ℕ → ℕ → Bool
 blockOk b i = checksumOk b && (numberOk b i && (kindOk b && (countOk b && unusedOk b)))
 
--- kinds rise; only records and pool have several blocks, each full before the next begins
+-- kinds rise; only records, pool and text have several blocks, each full before the next begins
 unfoldable pub followsOk : List ℕ → List ℕ → Bool
 followsOk b next =
     cond (eqb (kindOf b) (kindOf next))
     (repeats (kindOf b) && eqb (countOf b) (capacity (kindOf b)))
-    (ltb (kindOf b) (kindOf next))
+    (ltb (place (kindOf b)) (place (kindOf next)))
 
 -- ---- a file
 

@@ -5,7 +5,7 @@ ghost use mathlib.Core.Bool.{true};
 ghost use lib.Dec.{eqb};
 ghost use lib.ListN.{length, getD};
 ghost use Rattle.records.specs.Bytes.{word};
-ghost use Rattle.file_blocks.specs.Format.{itemSize, capacity, repeats};
+ghost use Rattle.file_blocks.specs.Format.{itemSize, capacity, repeats, place};
 ghost use Rattle.file_structure.specs.Read.{kindOf, countOf, contentSize, checksumOk, numberOk, kindOk, countOk, zerosFrom};
 ghost use Rattle.file_structure.specs.Read.{unusedOk, blockOk, followsOk, blockAt, blocksIn, blocksOk, orderOk, endsOk, endOf};
 ghost use Rattle.file_structure.specs.Read.{wholeOk, usedOk, rootOf, structureOk, countIf, totalTo, total};
@@ -22,10 +22,13 @@ pub fn item_size(kind: u8) -> usize
     if kind == 2 {
         return 16;
     }
+    if kind == 5 {
+        return 1;
+    }
     8
 }
 
-fn capacity_of(kind: u8) -> u8
+fn capacity_of(kind: u8) -> u16
     ensures { λ r. ⌜ r ≡ capacity kind ⌝ }
 {
     if kind == 1 {
@@ -37,21 +40,38 @@ fn capacity_of(kind: u8) -> u8
     if kind == 3 {
         return 62;
     }
+    if kind == 5 {
+        return 496;
+    }
     1
 }
 
-fn items_size(kind: u8, count: u8) -> usize
+fn items_size(kind: u8, count: u16) -> usize
     ensures { λ r. ⌜ r ≡ itemSize kind * count ⌝ }
 {
     let size = item_size(kind);
     size * count as usize
 }
 
+fn two_bytes(low: u8, high: u8) -> u16
+    ensures { λ r. ⌜ r ≡ low + 256 * high ⌝ }
+{
+    low as u16 + 256 * high as u16
+}
+
+fn count_in(b: &[u8]) -> u16
+    requires { ⌜ length (now b) ≡ 512 ⌝ }
+    ensures { λ r. ⌜ r ≡ countOf (now (b .entry)) ⌝ }
+{
+    two_bytes(b[5], b[6])
+}
+
 pub fn content_size(b: &[u8]) -> usize
     requires { ⌜ length (now b) ≡ 512 ⌝ }
     ensures { λ r. ⌜ r ≡ contentSize (now (b .entry)) ⌝ }
 {
-    items_size(b[4], b[5])
+    let count = count_in(b);
+    items_size(b[4], count)
 }
 
 fn same_sum(high: u8, low: u8, sum: u16) -> bool
@@ -85,7 +105,7 @@ fn kind_ok(b: &[u8]) -> bool
     requires { ⌜ length (now b) ≡ 512 ⌝ }
     ensures { λ r. ⌜ r ≡ kindOk (now (b .entry)) ⌝ }
 {
-    (1 <= b[4]) & (b[4] <= 4)
+    (1 <= b[4]) & (b[4] <= 5)
 }
 
 fn count_ok(b: &[u8]) -> bool
@@ -93,7 +113,8 @@ fn count_ok(b: &[u8]) -> bool
     ensures { λ r. ⌜ r ≡ countOk (now (b .entry)) ⌝ }
 {
     let most = capacity_of(b[4]);
-    ((b[4] == 1) | (0 < b[5])) & (b[5] <= most)
+    let count = count_in(b);
+    ((b[4] == 1) | (0 < count)) & (count <= most)
 }
 
 fn zeros_from(b: &[u8], at: usize, n: usize) -> bool
@@ -116,7 +137,7 @@ fn unused_ok(b: &[u8]) -> bool
     requires { ⌜ contentSize (now b) ≤ 496 ⌝ }
     ensures { λ r. ⌜ r ≡ unusedOk (now (b .entry)) ⌝ }
 {
-    if !zeros_from(b, 6, 10) {
+    if !zeros_from(b, 7, 9) {
         return false;
     }
     let size = content_size(b);
@@ -161,7 +182,20 @@ fn blocks_ok(f: &[u8]) -> bool
 fn repeats_kind(kind: u8) -> bool
     ensures { λ r. ⌜ r ≡ repeats kind ⌝ }
 {
-    (kind == 2) | (kind == 3)
+    (kind == 2) | ((kind == 3) | (kind == 5))
+}
+
+// Text stands after the pool and before the end.
+fn place_of(kind: u8) -> u8
+    ensures { λ r. ⌜ r ≡ place kind ⌝ }
+{
+    if kind == 5 {
+        return 4;
+    }
+    if kind == 4 {
+        return 5;
+    }
+    kind
 }
 
 fn follows_ok(b: &[u8], next: &[u8]) -> bool
@@ -170,9 +204,9 @@ fn follows_ok(b: &[u8], next: &[u8]) -> bool
     ensures { λ r. ⌜ r ≡ followsOk (now (b .entry)) (now (next .entry)) ⌝ }
 {
     if b[4] == next[4] {
-        return repeats_kind(b[4]) & (b[5] == capacity_of(b[4]));
+        return repeats_kind(b[4]) & (count_in(b) == capacity_of(b[4]));
     }
-    b[4] < next[4]
+    place_of(b[4]) < place_of(next[4])
 }
 
 fn order_ok(f: &[u8]) -> bool
@@ -212,26 +246,22 @@ fn ends_ok(f: &[u8]) -> bool
     (f[4] == 1) & (f[start + 4] == 4)
 }
 
-fn wide(count: u8) -> usize
-    ensures { λ r. ⌜ r ≡ count ⌝ }
-    ensures { λ r. ⌜ r ≤ 255 ⌝ }
-{
-    count as usize
-}
-
+// A block that has passed `block_ok`.
 fn count_if(kind: u8, b: &[u8]) -> usize
     requires { ⌜ length (now b) ≡ 512 ⌝ }
+    requires { ⌜ countOf (now b) ≤ 496 ⌝ }
     ensures { λ r. ⌜ r ≡ countIf kind (now (b .entry)) ⌝ }
-    ensures { λ r. ⌜ r ≤ 255 ⌝ }
+    ensures { λ r. ⌜ r ≤ 496 ⌝ }
 {
     if b[4] == kind {
-        return wide(b[5]);
+        return count_in(b) as usize;
     }
     0
 }
 
-// The total of the counts of a kind.
+// The total of the counts of a kind, of blocks that have passed `blocks_ok`.
 pub fn total_of(kind: u8, f: &[u8]) -> usize
+    requires { ⌜ blocksOk (now f) ≡ true ⌝ }
     ensures { λ r. ⌜ r ≡ total kind (now (f .entry)) ⌝ }
 {
     let n = f.len() / 512;
@@ -248,6 +278,7 @@ pub fn total_of(kind: u8, f: &[u8]) -> usize
 
 fn used_ok(f: &[u8]) -> bool
     requires { ⌜ 512 ≤ length (now f) ⌝ }
+    requires { ⌜ blocksOk (now f) ≡ true ⌝ }
     ensures { λ r. ⌜ r ≡ usedOk (now (f .entry)) ⌝ }
 {
     end_word(f, 16) as usize == total_of(2, f)

@@ -10,10 +10,10 @@ use lib.ListN.{length, getD, take, drop}
 use lib.Seq.{length-take-le, drop-at, take-all}
 use borrow.Author.Tests.{leb-true, le-leb}
 use Rattle.records.proofs.Laws.{by-test}
-use Rattle.checking.specs.Check.{checkAnswer}
+use Rattle.checking.specs.Check.{checkAnswerIn}
 use Rattle.checking.specs.declared.check.CheckAnswer.{CheckAnswer}
 use Rattle.checking.specs.declared.check.CheckAnswer.the-variants as check
-use Rattle.checking.proofs.Answers.{refused-numbered}
+use Rattle.checking.proofs.Answers.{refused-numbered-in}
 use Rattle.files.specs.declared.save.SaveAnswer.{SaveAnswer}
 use Rattle.files.specs.declared.save.SaveAnswer.the-variants as save
 use Rattle.files.specs.declared.load.LoadAnswer.{LoadAnswer}
@@ -24,10 +24,11 @@ use Rattle.files.specs.Answers.{saveIf, saveAnswer, savedBytes, saveByte
 use Rattle.files.specs.Answers.{loadedBytes}
 use Rattle.files.specs.RoundTrip.{Survives}
 use Rattle.files.specs.Calls.{saveNumber, savedLength, loadNumber, loadedRoot, loadedColumns, loadedUsed, loadedValues}
+use Rattle.files.specs.Calls.{loadedText}
 use Rattle.files.specs.Calls.{SavePromise, LoadPromise}
 use Rattle.file_blocks.proofs.Lists.{overwrite-front}
 use Rattle.files.proofs.Saving.{limits, file-length}
-use Rattle.files.proofs.Loading.{columns-held, records-held, values-held}
+use Rattle.files.proofs.Loading.{columns-held, records-held, values-held, text-held}
 use Rattle.files.proofs.Survival.{screens-survive}
 use Rattle.files.proofs.Unique.{files-are-written}
 
@@ -39,63 +40,64 @@ behind-front l vs n e =
     drop-at vs (drop (0 + length vs) l) n e ∙ ap (λ (m : ℕ). drop m l) z
 
 held-checked : (f : List ℕ) → heldAnswer f ≡ check.Accepted
-    → checkAnswer (held 1 f) (held 2 f) (held 3 f) (total 2 f) (rootOf f) ≡ check.Accepted
+    → checkAnswerIn (suc (length (held 5 f))) (held 1 f) (held 2 f) (held 3 f) (total 2 f) (rootOf f) ≡ check.Accepted
 unfolding heldAnswer
 held-checked f q = q
 
 -- a file that is the one of an accepted screen is what saving it answers
-save-room : (t rs p : List ℕ) (used root room : ℕ) (f : List ℕ) → checkAnswer t rs p used root ≡ check.Accepted
-    → f ≡ fileOf t rs p used root → length f ≤ room → saveAnswer t rs p used root room ≡ save.Saved (length f)
+save-room : (t rs p text : List ℕ) (used root room : ℕ) (f : List ℕ) → checkAnswerIn (suc (length text)) t rs p used root ≡ check.Accepted
+    → f ≡ fileOf t rs p text used root → length f ≤ room → saveAnswer t rs p text used root room ≡ save.Saved (length f)
 unfolding saveAnswer
-save-room t rs p used root room f ok w h =
-    let l : length f ≡ fileLength p used = ap length w ∙ file-length t rs p used root ok in
+save-room t rs p text used root room f ok w h =
+    let l : length f ≡ fileLength p text used = ap length w ∙ file-length t rs p text used root ok in
     rw (ok, ← l, le-leb (length f) room h)
 
 -- ---- saving
 
-record Saved (t rs p : List ℕ) (used root room n : ℕ) : Type 0 where
-  pub accepted : checkAnswer t rs p used root ≡ check.Accepted
-  pub length-is : n ≡ fileLength p used
-  pub fits : fileLength p used ≤ room
+record Saved (t rs p text : List ℕ) (used root room n : ℕ) : Type 0 where
+  pub accepted : checkAnswerIn (suc (length text)) t rs p used root ≡ check.Accepted
+  pub length-is : n ≡ fileLength p text used
+  pub fits : fileLength p text used ≤ room
 
-saved-is : (t rs p : List ℕ) (used root room n : ℕ) → saveAnswer t rs p used root room ≡ save.Saved n
-    → Saved t rs p used root room n
+saved-is : (t rs p text : List ℕ) (used root room n : ℕ) → saveAnswer t rs p text used root room ≡ save.Saved n
+    → Saved t rs p text used root room n
 unfolding saveAnswer
-saved-is t rs p used root room n e = go (checkAnswer t rs p used root) refl e
+saved-is t rs p text used root room n e = go (checkAnswerIn (suc (length text)) t rs p used root) refl e
   where
-    go : (c : CheckAnswer) → checkAnswer t rs p used root ≡ c → saveIf c (fileLength p used) room ≡ save.Saved n
-        → Saved t rs p used root room n
+    go : (c : CheckAnswer) → checkAnswerIn (suc (length text)) t rs p used root ≡ c → saveIf c (fileLength p text used) room ≡ save.Saved n
+        → Saved t rs p text used root room n
     go (check.Refused k) q e = absurd (let z : _≡_ {A = ℕ} 0 1 = cc in omega arith)
     go check.Accepted q e =
-        by-test (leb (fileLength p used) room)
-        (λ y. let s : save.Saved (fileLength p used) ≡ save.Saved n = rw y at e in
+        by-test (leb (fileLength p text used) room)
+        (λ y. let s : save.Saved (fileLength p text used) ≡ save.Saved n = rw y at e in
         record {
           accepted = q;
           length-is = cc;
-          fits = leb-true (fileLength p used) room y;
+          fits = leb-true (fileLength p text used) room y;
         })
         (λ m. absurd (let s : save.Refused 14 ≡ save.Saved n = rw m at e in
         let z : _≡_ {A = ℕ} 0 1 = cc in omega arith))
 
-save-small : (t rs p : List ℕ) (used root room k : ℕ) → saveAnswer t rs p used root room ≡ save.Refused k → k < 256
+save-small : (t rs p text : List ℕ) (used root room k : ℕ) → saveAnswer t rs p text used root room ≡ save.Refused k → k < 256
 unfolding saveAnswer
-save-small t rs p used root room k e = go (checkAnswer t rs p used root) refl e
+save-small t rs p text used root room k e = go (checkAnswerIn (suc (length text)) t rs p used root) refl e
   where
-    go : (c : CheckAnswer) → checkAnswer t rs p used root ≡ c → saveIf c (fileLength p used) room ≡ save.Refused k → k < 256
+    go : (c : CheckAnswer) → checkAnswerIn (suc (length text)) t rs p used root ≡ c
+        → saveIf c (fileLength p text used) room ≡ save.Refused k → k < 256
     go (check.Refused j) q e =
-        let h : j ≡ k = cc in let s = refused-numbered t rs p used root j q .1 in omega (arith, h, s)
+        let h : j ≡ k = cc in let s = refused-numbered-in (suc (length text)) t rs p used root j q .1 in omega (arith, h, s)
     go check.Accepted q e =
-        by-test (leb (fileLength p used) room)
-        (λ y. absurd (let s : save.Saved (fileLength p used) ≡ save.Refused k = rw y at e in
+        by-test (leb (fileLength p text used) room)
+        (λ y. absurd (let s : save.Saved (fileLength p text used) ≡ save.Refused k = rw y at e in
         let z : _≡_ {A = ℕ} 0 1 = cc in omega arith))
         (λ m. let s : save.Refused 14 ≡ save.Refused k = rw m at e in let h : 14 ≡ k = cc in omega (arith, h))
 
-module _ (t rs p : List ℕ) (used root : ℕ) (old out : List ℕ) (oldLength : ℕ) where
-  save-promise : (a : SaveAnswer) → saveAnswer t rs p used root (length old) ≡ a
-      → out ≡ savedBytes a old (fileOf t rs p used root)
-      → SavePromise t rs p used root (saveNumber a) old out (savedLength a oldLength)
+module _ (t rs p text : List ℕ) (used root : ℕ) (old out : List ℕ) (oldLength : ℕ) where
+  save-promise : (a : SaveAnswer) → saveAnswer t rs p text used root (length old) ≡ a
+      → out ≡ savedBytes a old (fileOf t rs p text used root)
+      → SavePromise t rs p text used root (saveNumber a) old out (savedLength a oldLength)
   save-promise (save.Refused k) e b =
-      let s = save-small t rs p used root (length old) k e in
+      let s = save-small t rs p text used root (length old) k e in
       record {
         written = λ q. absurd (omega (arith, q, s));
         behind = λ q. absurd (omega (arith, q, s));
@@ -103,24 +105,24 @@ module _ (t rs p : List ℕ) (used root : ℕ) (old out : List ℕ) (oldLength :
         refused = λ q. b;
       }
   save-promise (save.Saved n) e b =
-      let s = saved-is t rs p used root (length old) n e in
-      let l : length (fileOf t rs p used root) ≡ n =
-      file-length t rs p used root (s .accepted) ∙ sym (s .length-is) in
-      let w : take n out ≡ fileOf t rs p used root = rw b (overwrite-front old (fileOf t rs p used root) n l) in
+      let s = saved-is t rs p text used root (length old) n e in
+      let l : length (fileOf t rs p text used root) ≡ n =
+      file-length t rs p text used root (s .accepted) ∙ sym (s .length-is) in
+      let w : take n out ≡ fileOf t rs p text used root = rw b (overwrite-front old (fileOf t rs p text used root) n l) in
       record {
         written = λ q. w;
-        behind = λ q. rw b (behind-front old (fileOf t rs p used root) n l);
-        survives = λ q. rw w (screens-survive t rs p used root (s .accepted));
+        behind = λ q. rw b (behind-front old (fileOf t rs p text used root) n l);
+        survives = λ q. rw w (screens-survive t rs p text used root (s .accepted));
         refused = λ q. absurd (omega (arith, q));
       }
 
   -- all that the call ensures
-  pub save-ensures : (a : SaveAnswer) → a ≡ saveAnswer t rs p used root (length old)
-      → out ≡ saveBytes t rs p used root old
-      → (saveNumber a ≡ saveNumber (saveAnswer t rs p used root (length old)))
-      × ((savedLength a oldLength ≡ savedLength (saveAnswer t rs p used root (length old)) oldLength)
-      × ((out ≡ saveBytes t rs p used root old)
-      × SavePromise t rs p used root (saveNumber a) old out (savedLength a oldLength)))
+  pub save-ensures : (a : SaveAnswer) → a ≡ saveAnswer t rs p text used root (length old)
+      → out ≡ saveBytes t rs p text used root old
+      → (saveNumber a ≡ saveNumber (saveAnswer t rs p text used root (length old)))
+      × ((savedLength a oldLength ≡ savedLength (saveAnswer t rs p text used root (length old)) oldLength)
+      × ((out ≡ saveBytes t rs p text used root old)
+      × SavePromise t rs p text used root (saveNumber a) old out (savedLength a oldLength)))
   unfolding saveBytes
   save-ensures a e b = (
     ap saveNumber e,
@@ -128,35 +130,36 @@ module _ (t rs p : List ℕ) (used root : ℕ) (old out : List ℕ) (oldLength :
       ap (λ (x : SaveAnswer). savedLength x oldLength) e,
       (
         b,
-        save-promise a (sym e) (b ∙ ap (λ (x : SaveAnswer). savedBytes x old (fileOf t rs p used root)) (sym e)),
+        save-promise a (sym e) (b ∙ ap (λ (x : SaveAnswer). savedBytes x old (fileOf t rs p text used root)) (sym e)),
       ),
     ),
   )
 
 -- ---- loading
 
-record Loaded (f : List ℕ) (root columns used values : ℕ) : Type 0 where
+record Loaded (f : List ℕ) (root columns used values bytes : ℕ) : Type 0 where
   pub structure : structureOk f ≡ true
   pub accepted : heldAnswer f ≡ check.Accepted
   pub root-is : root ≡ rootOf f
   pub columns-are : columns ≡ total 1 f
   pub used-is : used ≡ total 2 f
   pub values-are : values ≡ total 3 f
+  pub bytes-are : bytes ≡ total 5 f
 
-module _ (f : List ℕ) (t rs p : ℕ) where
-  loaded-is : (root columns used values : ℕ) → loadAnswer f t rs p ≡ load.Loaded root columns used values
-      → Loaded f root columns used values
+module _ (f : List ℕ) (t rs p x : ℕ) where
+  loaded-is : (root columns used values bytes : ℕ) → loadAnswer f t rs p x ≡ load.Loaded root columns used values bytes
+      → Loaded f root columns used values bytes
   unfolding loadAnswer
-  loaded-is root columns used values e =
+  loaded-is root columns used values bytes e =
       by-test (structureOk f)
-      (λ y. by-test (roomOk f t rs p) (λ r. go (heldAnswer f) refl y (rw (y, r) at e))
-      (λ m. absurd (let s : load.Refused 14 ≡ load.Loaded root columns used values = rw (y, m) at e in
+      (λ y. by-test (roomOk f t rs p x) (λ r. go (heldAnswer f) refl y (rw (y, r) at e))
+      (λ m. absurd (let s : load.Refused 14 ≡ load.Loaded root columns used values bytes = rw (y, m) at e in
       let z : _≡_ {A = ℕ} 0 1 = cc in omega arith)))
-      (λ m. absurd (let s : load.Refused 15 ≡ load.Loaded root columns used values = rw m at e in
+      (λ m. absurd (let s : load.Refused 15 ≡ load.Loaded root columns used values bytes = rw m at e in
       let z : _≡_ {A = ℕ} 0 1 = cc in omega arith))
     where
-      go : (c : CheckAnswer) → heldAnswer f ≡ c → structureOk f ≡ true → loadIf c f ≡ load.Loaded root columns used values
-          → Loaded f root columns used values
+      go : (c : CheckAnswer) → heldAnswer f ≡ c → structureOk f ≡ true
+          → loadIf c f ≡ load.Loaded root columns used values bytes → Loaded f root columns used values bytes
       go (check.Refused k) q y e = absurd (let z : _≡_ {A = ℕ} 0 1 = cc in omega arith)
       go check.Accepted q y e =
           record {
@@ -166,36 +169,40 @@ module _ (f : List ℕ) (t rs p : ℕ) where
             columns-are = cc;
             used-is = cc;
             values-are = cc;
+            bytes-are = cc;
           }
 
-  load-small : (k : ℕ) → loadAnswer f t rs p ≡ load.Refused k → k < 256
+  load-small : (k : ℕ) → loadAnswer f t rs p x ≡ load.Refused k → k < 256
   unfolding loadAnswer heldAnswer
   load-small k e =
       by-test (structureOk f)
-      (λ y. by-test (roomOk f t rs p) (λ r. go (heldAnswer f) refl (rw (y, r) at e))
+      (λ y. by-test (roomOk f t rs p x) (λ r. go (heldAnswer f) refl (rw (y, r) at e))
       (λ m. let s : load.Refused 14 ≡ load.Refused k = rw (y, m) at e in let h : 14 ≡ k = cc in omega (arith, h)))
       (λ m. let s : load.Refused 15 ≡ load.Refused k = rw m at e in let h : 15 ≡ k = cc in omega (arith, h))
     where
       go : (c : CheckAnswer) → heldAnswer f ≡ c → loadIf c f ≡ load.Refused k → k < 256
       go (check.Refused j) q e =
           let h : j ≡ k = cc in
-          let s = refused-numbered (held 1 f) (held 2 f) (held 3 f) (total 2 f) (rootOf f) j q .1 in omega (arith, h, s)
+          let s = refused-numbered-in (suc (length (held 5 f))) (held 1 f) (held 2 f) (held 3 f) (total 2 f) (rootOf f) j q .1 in
+          omega (arith, h, s)
       go check.Accepted q e = absurd (let z : _≡_ {A = ℕ} 0 1 = cc in omega arith)
 
-module _ (f t rs p t′ rs′ p′ : List ℕ) (bytes : (i : ℕ) → getD f i 0 < 256) (oldRoot oldColumns oldUsed oldValues : ℕ) where
-  load-promise : (a : LoadAnswer) → loadAnswer f (length t) (length rs) (length p) ≡ a
+module _ (f t rs p x t′ rs′ p′ x′ : List ℕ) (bytes : (i : ℕ) → getD f i 0 < 256)
+    (oldRoot oldColumns oldUsed oldValues oldText : ℕ) where
+  load-promise : (a : LoadAnswer) → loadAnswer f (length t) (length rs) (length p) (length x) ≡ a
       → t′ ≡ loadedBytes a t (held 1 f) → rs′ ≡ loadedBytes a rs (held 2 f) → p′ ≡ loadedBytes a p (held 3 f)
-      → LoadPromise f (loadNumber a) t′ rs′ p′ (loadedRoot a oldRoot) (loadedColumns a oldColumns) (loadedUsed a oldUsed)
-      (loadedValues a oldValues)
-  load-promise (load.Refused k) e bt br bp =
-      let s = load-small f (length t) (length rs) (length p) k e in
+      → x′ ≡ loadedBytes a x (held 5 f)
+      → LoadPromise f (loadNumber a) t′ rs′ p′ x′ (loadedRoot a oldRoot) (loadedColumns a oldColumns) (loadedUsed a oldUsed)
+      (loadedValues a oldValues) (loadedText a oldText)
+  load-promise (load.Refused k) e bt br bp bx =
+      let s = load-small f (length t) (length rs) (length p) (length x) k e in
       record {
         accepted = λ q. absurd (omega (arith, q, s));
         written = λ q. absurd (omega (arith, q, s));
         saved = λ q. absurd (omega (arith, q, s));
       }
-  load-promise (load.Loaded root columns used values) e bt br bp =
-      let s = loaded-is f (length t) (length rs) (length p) root columns used values e in
+  load-promise (load.Loaded root columns used values text) e bt br bp bx =
+      let s = loaded-is f (length t) (length rs) (length p) (length x) root columns used values text e in
       let ft : take columns t′ ≡ held 1 f =
       rw bt (overwrite-front t (held 1 f) columns (columns-held f (s .structure) ∙ sym (s .columns-are))) in
       let fr : take (16 * used) rs′ ≡ held 2 f =
@@ -204,20 +211,24 @@ module _ (f t rs p t′ rs′ p′ : List ℕ) (bytes : (i : ℕ) → getD f i 0
       let fp : take (8 * values) p′ ≡ held 3 f =
       rw bp (overwrite-front p (held 3 f) (8 * values)
       (values-held f (s .structure) ∙ ap (λ (n : ℕ). 8 * n) (sym (s .values-are)))) in
-      let ok : checkAnswer (take columns t′) (take (16 * used) rs′) (take (8 * values) p′) used root ≡ check.Accepted =
-      rw (ft, fr, fp, s .used-is, s .root-is) (held-checked f (s .accepted)) in
-      let w : f ≡ fileOf (take columns t′) (take (16 * used) rs′) (take (8 * values) p′) used root =
-      rw (ft, fr, fp, s .used-is, s .root-is) (files-are-written f bytes (s .structure)) in
+      let fx : take text x′ ≡ held 5 f =
+      rw bx (overwrite-front x (held 5 f) text (text-held f (s .structure) ∙ sym (s .bytes-are))) in
+      let ok : checkAnswerIn (suc (length (take text x′))) (take columns t′) (take (16 * used) rs′) (take (8 * values) p′) used
+      root ≡ check.Accepted = rw (ft, fr, fp, fx, s .used-is, s .root-is) (held-checked f (s .accepted)) in
+      let w : f ≡ fileOf (take columns t′) (take (16 * used) rs′) (take (8 * values) p′) (take text x′) used root =
+      rw (ft, fr, fp, fx, s .used-is, s .root-is) (files-are-written f bytes (s .structure)) in
       record {
         accepted = λ q. ok;
         written = λ q. w;
         saved =
-            λ q room h. save-room (take columns t′) (take (16 * used) rs′) (take (8 * values) p′) used root room f ok w h;
+            λ q room h. save-room (take columns t′) (take (16 * used) rs′) (take (8 * values) p′) (take text x′) used root room f
+            ok w h;
       }
 
   -- all that the call ensures
-  pub load-ensures : (a : LoadAnswer) → a ≡ loadAnswer f (length t) (length rs) (length p)
+  pub load-ensures : (a : LoadAnswer) → a ≡ loadAnswer f (length t) (length rs) (length p) (length x)
       → t′ ≡ loadedBytes a t (held 1 f) → rs′ ≡ loadedBytes a rs (held 2 f) → p′ ≡ loadedBytes a p (held 3 f)
-      → LoadPromise f (loadNumber a) t′ rs′ p′ (loadedRoot a oldRoot) (loadedColumns a oldColumns) (loadedUsed a oldUsed)
-      (loadedValues a oldValues)
-  load-ensures a e bt br bp = load-promise a (sym e) bt br bp
+      → x′ ≡ loadedBytes a x (held 5 f)
+      → LoadPromise f (loadNumber a) t′ rs′ p′ x′ (loadedRoot a oldRoot) (loadedColumns a oldColumns) (loadedUsed a oldUsed)
+      (loadedValues a oldValues) (loadedText a oldText)
+  load-ensures a e bt br bp bx = load-promise a (sym e) bt br bp bx

@@ -2,7 +2,7 @@
 -- Assumes nothing.
 use Prim.Native.Nat.{ℕ, _+_, _*_, _/_, _%_, _≤_, _<_}
 use mathlib.Core.Path.{_≡_, refl, sym, _∙_, ap}
-use mathlib.Core.Bool.{Bool, true, not, _&&_}
+use mathlib.Core.Bool.{Bool, true, false, cond, not, _&&_}
 use mathlib.Core.List.{List}
 use native.Mathlib.Omega.{arith}
 use lib.Dec.{leb, eqb}
@@ -11,16 +11,15 @@ use lib.Seq.{getD-take, length-take-le}
 use borrow.Author.Tests.{le-leb}
 use Rattle.records.specs.Bytes.{word}
 use Rattle.records.specs.Record.{node, fieldsAt, decode, recordAt, inputs}
-use Rattle.records.specs.Shape.{shapeOk}
 use Rattle.records.specs.declared.record.Node.{Node}
 use Rattle.records.specs.declared.record.Record.{Record}
 use Rattle.records.specs.declared.record.Record.the-variants as kind
 use Rattle.records.proofs.Laws.{and-right}
 use Rattle.record_check.specs.Fit.{typeOf, typeAt, typesOk}
-use Rattle.checking.specs.Check.{sizesOk, sizesOkIn, checkAnswer}
-use Rattle.checking.specs.Checked.{CheckedRecord, Checked}
+use Rattle.checking.specs.Check.{sizesOkIn, checkAnswerIn}
+use Rattle.checking.specs.Checked.{CheckedRecordIn, CheckedIn}
 use Rattle.checking.specs.declared.check.CheckAnswer.the-variants as check
-use Rattle.checking.proofs.Accepted.{Below, checked, checked-accepted, checked-used, checked-lent, inputs-below}
+use Rattle.checking.proofs.Accepted.{Below, checked-in, checked-accepted-in, checked-used-in, checked-lent-in, inputs-below-in}
 
 module _ (t rs out p : List ℕ) (n : ℕ) (same : (m : ℕ) → m < n → recordAt out (node m) ≡ recordAt rs (node m)) where
   type-same : (x : Node) → x .0 < n → typeAt t out x ≡ typeAt t rs x
@@ -66,7 +65,7 @@ fields-front rs m n h =
       g (16 * n + 12 + 3) (omega arith),
     )
 
-module _ (t rs p : List ℕ) (used root : ℕ) (ok : Checked t rs p used root) where
+module _ (text : ℕ) (t rs p : List ℕ) (used root : ℕ) (ok : CheckedIn text t rs p used root) where
   abbrev front : List ℕ
   front = take (16 * used) rs
 
@@ -74,23 +73,25 @@ module _ (t rs p : List ℕ) (used root : ℕ) (ok : Checked t rs p used root) w
   unfolding recordAt
   record-front n h = ap decode (fields-front rs (16 * used) n (omega arith))
 
-  sizes-front : sizesOk front p used ≡ true
+  sizes-front : sizesOkIn text front p used ≡ true
   unfolding sizesOkIn
   sizes-front =
       let l : length front ≡ 16 * used =
-      length-take-le (16 * used) rs (checked-lent t rs p used root ok) in
-      let a = and-right (leb used 4096) (leb used (length rs / 16) && (eqb (length p % 8) 0 && leb (length p / 8) 8192))
+      length-take-le (16 * used) rs (checked-lent-in text t rs p used root ok) in
+      let a = and-right (leb used 4096)
+      (leb used (length rs / 16) && (eqb (length p % 8) 0 && cond (leb text 8193) (leb (length p / 8) 8192) false))
       (ok .sizes) in
-      let b = and-right (leb used (length rs / 16)) (eqb (length p % 8) 0 && leb (length p / 8) 8192) a in
+      let b = and-right (leb used (length rs / 16))
+      (eqb (length p % 8) 0 && cond (leb text 8193) (leb (length p / 8) 8192) false) a in
       let c : used ≤ length front / 16 = omega (arith, l) in
-      rw (le-leb used 4096 (checked-used t rs p used root ok), le-leb used (length front / 16) c, b)
+      rw (le-leb used 4096 (checked-used-in text t rs p used root ok), le-leb used (length front / 16) c, b)
 
-  checked-record : (n : ℕ) → n < used → CheckedRecord t front p n
+  checked-record : (n : ℕ) → n < used → CheckedRecordIn text t front p n
   checked-record n h =
       let k = ok .records n h in
       let e = record-front n h in
       let same : (m : ℕ) → m < n → recordAt front (node m) ≡ recordAt rs (node m) = λ m l. record-front m (omega arith) in
-      let b = inputs-below t rs p used root ok n h in
+      let b = inputs-below-in text t rs p used root ok n h in
       record {
         shape = rw (fields-front rs (16 * used) n (omega arith)) (k .shape);
         reach = rw e (k .reach);
@@ -98,7 +99,7 @@ module _ (t rs p : List ℕ) (used root : ℕ) (ok : Checked t rs p used root) w
         types = rw e (types-same t rs front p n same (recordAt rs (node n)) b ∙ k .types);
       }
 
-  checked-front : Checked t front p used root
+  checked-front : CheckedIn text t front p used root
   unfolding typeAt
   checked-front =
       record {
@@ -109,7 +110,8 @@ module _ (t rs p : List ℕ) (used root : ℕ) (ok : Checked t rs p used root) w
         root-truth = ap (typeOf t) (record-front root (ok .root-used)) ∙ ok .root-truth;
       }
 
-pub accepted-front : (t rs p : List ℕ) (used root : ℕ) → checkAnswer t rs p used root ≡ check.Accepted
-    → checkAnswer t (take (16 * used) rs) p used root ≡ check.Accepted
-accepted-front t rs p used root e =
-    checked-accepted t (take (16 * used) rs) p used root (checked-front t rs p used root (checked t rs p used root e))
+pub accepted-front : (text : ℕ) (t rs p : List ℕ) (used root : ℕ) → checkAnswerIn text t rs p used root ≡ check.Accepted
+    → checkAnswerIn text t (take (16 * used) rs) p used root ≡ check.Accepted
+accepted-front text t rs p used root e =
+    checked-accepted-in text t (take (16 * used) rs) p used root
+    (checked-front text t rs p used root (checked-in text t rs p used root e))

@@ -34,8 +34,11 @@ zeros-list l n e h =
 split-sum : (s : ℕ) → eqb (256 * (s / 256) + s % 256) s ≡ true
 split-sum s = eq-eqb (256 * (s / 256) + s % 256) s (omega arith)
 
+digits : (n : ℕ) → n % 256 + 256 * (n / 256) ≡ n
+digits n = omega arith
+
 split-number : (n : ℕ) → eqb (n % 256 + 256 * (n / 256)) n ≡ true
-split-number n = eq-eqb (n % 256 + 256 * (n / 256)) n (omega arith)
+split-number n = eq-eqb (n % 256 + 256 * (n / 256)) n (digits n)
 
 -- ---- written, then read
 
@@ -46,7 +49,7 @@ module _ (n k : ℕ) (c : List ℕ) where
 
   pub block-count : countOf (block n k c) ≡ length c / itemSize k
   unfolding block sealed unsealed countOf
-  block-count = refl
+  block-count = digits (length c / itemSize k)
 
   block-behind : drop 16 (block n k c) ≡ c ++ replicate (496 - length c) 0
   unfolding block sealed unsealed
@@ -80,7 +83,7 @@ module _ (n k : ℕ) (c : List ℕ) where
             ∙ getD-append-add c (replicate (496 - length c) 0) j 0
             ∙ zeros-read (496 - length c) j
 
-    header-unused : zerosFrom (block n k c) 6 10 ≡ true
+    header-unused : zerosFrom (block n k c) 7 9 ≡ true
     unfolding zerosFrom all block sealed unsealed
     header-unused = refl
 
@@ -96,7 +99,7 @@ module _ (n k : ℕ) (c : List ℕ) where
     unfolding unusedOk
     unused-ok = rw (header-unused, unused-behind)
 
-    pub block-ok : 1 ≤ k → k ≤ 4 → (eqb k 1 || ltb 0 (length c / itemSize k)) ≡ true
+    pub block-ok : 1 ≤ k → k ≤ 5 → (eqb k 1 || ltb 0 (length c / itemSize k)) ≡ true
         → length c / itemSize k ≤ capacity k → blockOk (block n k c) n ≡ true
     unfolding blockOk kindOk countOk
     block-ok low high some most =
@@ -106,7 +109,7 @@ module _ (n k : ℕ) (c : List ℕ) where
           block-kind,
           block-count,
           le-leb 1 k low,
-          le-leb k 4 high,
+          le-leb k 5 high,
           some,
           le-leb (length c / itemSize k) (capacity k) most,
           unused-ok,
@@ -118,10 +121,11 @@ module _ (n k : ℕ) (c : List ℕ) where
 
 -- ---- read, then written
 
-items-back : (k n : ℕ) → 1 ≤ k → k ≤ 4 → (itemSize k * n) / itemSize k ≡ n
+items-back : (k n : ℕ) → 1 ≤ k → k ≤ 5 → (itemSize k * n) / itemSize k ≡ n
 unfolding itemSize
 items-back k n low high =
-    by-kind (λ k. (itemSize k * n) / itemSize k ≡ n) (omega arith) (omega arith) (omega arith) (omega arith) k low high
+    by-kind (λ k. (itemSize k * n) / itemSize k ≡ n) (omega arith) (omega arith) (omega arith) (omega arith) (omega arith) k low
+    high
 
 module _ (b : List ℕ) (i : ℕ) (long : length b ≡ 512) (bytes : (j : ℕ) → getD b j 0 < 256) (e : blockOk b i ≡ true) where
   head-split : b ≡ getD b 0 0 ∷ getD b 1 0 ∷ drop 2 b
@@ -149,11 +153,11 @@ module _ (b : List ℕ) (i : ℕ) (long : length b ≡ 512) (bytes : (j : ℕ) �
         drop-cons b 15 0 (omega arith),
       )
 
-  head-zero : (j : ℕ) → j < 10 → getD b (6 + j) 0 ≡ 0
+  head-zero : (j : ℕ) → j < 9 → getD b (7 + j) 0 ≡ 0
   unfolding unusedOk zerosFrom
   head-zero j h =
-      eqb-true (getD b (6 + j) 0) 0
-      (all-holds (λ j. eqb (getD b (6 + j) 0) 0) j 10 h (and-left (zerosFrom b 6 10)
+      eqb-true (getD b (7 + j) 0) 0
+      (all-holds (λ j. eqb (getD b (7 + j) 0) 0) j 9 h (and-left (zerosFrom b 7 9)
       (zerosFrom b (16 + contentSize b) (496 - contentSize b)) (ok-unused b i e)))
 
   tail-zero : (j : ℕ) → j < 496 - contentSize b → getD b (16 + contentSize b + j) 0 ≡ 0
@@ -161,7 +165,7 @@ module _ (b : List ℕ) (i : ℕ) (long : length b ≡ 512) (bytes : (j : ℕ) �
   tail-zero j h =
       eqb-true (getD b (16 + contentSize b + j) 0) 0
       (all-holds (λ j. eqb (getD b (16 + contentSize b + j) 0) 0) j (496 - contentSize b) h
-      (and-right (zerosFrom b 6 10) (zerosFrom b (16 + contentSize b) (496 - contentSize b)) (ok-unused b i e)))
+      (and-right (zerosFrom b 7 9) (zerosFrom b (16 + contentSize b) (496 - contentSize b)) (ok-unused b i e)))
 
   fits : contentSize b ≤ 496
   fits = block-fits b i e
@@ -183,19 +187,28 @@ module _ (b : List ℕ) (i : ℕ) (long : length b ≡ 512) (bytes : (j : ℕ) �
       ap (λ (n : ℕ). n / itemSize (kindOf b)) (length-content b long fits)
       ∙ items-back (kindOf b) (countOf b) (kind-low b (ok-kind b i e)) (kind-high b (ok-kind b i e))
 
+  count-low : length (contentOf b) / itemSize (kindOf b) % 256 ≡ getD b 5 0
+  unfolding countOf
+  count-low = let s = bytes 5 in ap (λ (n : ℕ). n % 256) count-back ∙ omega (arith, s)
+
+  count-high : length (contentOf b) / itemSize (kindOf b) / 256 ≡ getD b 6 0
+  unfolding countOf
+  count-high = let s = bytes 5 in ap (λ (n : ℕ). n / 256) count-back ∙ omega (arith, s)
+
   number-is : getD b 2 0 + 256 * getD b 3 0 ≡ i
   unfolding numberOk
   number-is = eqb-true (getD b 2 0 + 256 * getD b 3 0) i (ok-number b i e)
 
   unsealed-is : unsealed i (kindOf b) (contentOf b) ≡ cleared b
-  unfolding unsealed cleared kindOf countOf
+  unfolding unsealed cleared kindOf
   unsealed-is =
       let n = number-is in
       let s = bytes 2 in
       let n2 : i % 256 ≡ getD b 2 0 = omega (arith, n, s) in
       let n3 : i / 256 ≡ getD b 3 0 = omega (arith, n, s) in
       rw (
-        count-back,
+        count-low,
+        count-high,
         length-content b long fits,
         n2,
         n3,
@@ -210,7 +223,6 @@ module _ (b : List ℕ) (i : ℕ) (long : length b ≡ 512) (bytes : (j : ℕ) �
         head-zero 6 (omega arith),
         head-zero 7 (omega arith),
         head-zero 8 (omega arith),
-        head-zero 9 (omega arith),
       )
 
   resealed : sealed (cleared b) ≡ b

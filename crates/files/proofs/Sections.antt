@@ -1,4 +1,4 @@
--- The blocks of one kind, one after the other.
+-- The order of kinds, and the blocks of one kind, one after the other.
 -- Assumes nothing.
 use Prim.Native.Nat.{ℕ, zero, suc, _+_, _-_, _*_, _/_, _%_, _≤_, _<_}
 use mathlib.Core.Path.{_≡_, refl, sym, _∙_, ap, ap₂}
@@ -6,8 +6,14 @@ use mathlib.Core.List.{List, [], _∷_, _++_, append-assoc, append-nil}
 use native.Mathlib.Omega.{arith}
 use lib.ListN.{length, take, drop, length-append, length-drop}
 use lib.Seq.{take-append-le, drop-append-le, take-all, take-at, drop-at, drop-drop, take-add, length-take-le}
-use Rattle.file_blocks.specs.Format.{block, piece, blocksFor, blocksTo}
+use Rattle.file_blocks.specs.Format.{place, block, piece, blocksFor, blocksTo}
 use Rattle.file_structure.specs.Read.{blockAt}
+
+-- ---- kinds in the order of a file
+
+pub places : (place 1 ≡ 1) × (place 2 ≡ 2) × (place 3 ≡ 3) × (place 5 ≡ 4) × (place 4 ≡ 5)
+unfolding place
+places = (refl, refl, refl, refl, refl)
 
 -- ---- blocks of a file
 

@@ -2,7 +2,7 @@
 -- Assumes nothing.
 use Prim.Native.Nat.{ℕ, zero, suc, _+_, _-_, _*_, _/_, _%_, _≤_, _<_}
 use mathlib.Core.Path.{_≡_, refl, sym, _∙_, ap, ap₂, subst}
-use mathlib.Core.Bool.{Bool, true, false, cond, _&&_, _||_}
+use mathlib.Core.Bool.{Bool, true, false, cond, true≢false, _&&_, _||_}
 use mathlib.Core.List.{List, [], _∷_, _++_, append-assoc, append-nil}
 use native.Mathlib.Nat.{le-of-lt, le-refl, div-div-eq-div-mul}
 use native.Mathlib.Numerals.{add-one}
@@ -10,13 +10,13 @@ use native.Mathlib.Omega.{arith}
 use lib.Dec.{ltb, leb, eqb}
 use lib.ListN.{length, getD, take, drop, length-append, length-take, length-drop, drop-of-length-le}
 use lib.Seq.{take-all, take-add, length-take-le}
-use borrow.Author.Tests.{eq-eqb, ne-eqb, lt-ltb, le-leb}
+use borrow.Author.Tests.{eq-eqb, ne-eqb, lt-ltb, le-leb, eqb-true}
 use Rattle.records.specs.Bytes.{word, all}
-use Rattle.records.proofs.Laws.{and-left, and-right, by-test}
-use Rattle.checking.specs.Check.{checkAnswer}
+use Rattle.records.proofs.Laws.{by-test, or-no}
+use Rattle.checking.specs.Check.{checkAnswerIn}
 use Rattle.checking.specs.declared.check.CheckAnswer.the-variants as check
 use Rattle.files.specs.declared.load.LoadAnswer.the-variants as load
-use Rattle.file_blocks.specs.Format.{itemSize, capacity, repeats, block, piece, blocksFor, blocksTo, wordBytes}
+use Rattle.file_blocks.specs.Format.{itemSize, capacity, repeats, place, block, piece, blocksFor, blocksTo, wordBytes}
 use Rattle.file_blocks.specs.Format.{sealed, unsealed, fileBlocks, fileOf}
 use Rattle.file_structure.specs.Read.{blockAt, blocksIn, kindOf, countOf, taken, heldTo, held, totalTo, total, blockOk}
 use Rattle.file_structure.specs.Read.{followsOk, endOf, rootOf, wholeOk, blocksOk, orderOk, endsOk, usedOk, structureOk}
@@ -26,7 +26,7 @@ use Rattle.file_blocks.proofs.Making.{length-block, length-piece}
 use Rattle.files.proofs.Saving.{Limits, limits}
 use Rattle.files.proofs.Loading.{length-held, loaded-all}
 use Rattle.files.proofs.OneBlock.{block-kind, block-count, block-ok, block-taken}
-use Rattle.files.proofs.Sections.{block-before, block-next}
+use Rattle.files.proofs.Sections.{places, block-before, block-next}
 use Rattle.files.proofs.Front.{accepted-front}
 
 all-same : (p q : ℕ → Bool) (n : ℕ) → ((i : ℕ) → i < n → p i ≡ q i) → all p n ≡ all q n
@@ -108,14 +108,21 @@ reads-same x y n m last h g p q s r =
       contents = λ k. rw (← p, ← q) (r .contents k ∙ s k);
     }
 
--- ---- the blocks of records, or of values
+-- ---- the blocks of records, of values, or of text
 
-both-kinds : (P : ℕ → Type 0) → P 2 → P 3 → (k : ℕ) → 2 ≤ k → k ≤ 3 → P k
-both-kinds P a b zero h g = absurd (omega arith)
-both-kinds P a b (suc zero) h g = absurd (omega arith)
-both-kinds P a b (suc (suc zero)) h g = a
-both-kinds P a b (suc (suc (suc zero))) h g = b
-both-kinds P a b (suc (suc (suc (suc k)))) h g = absurd (omega arith)
+-- what holds of each kind that repeats
+by-repeat : (P : ℕ → Type 0) → P 2 → P 3 → P 5 → (k : ℕ) → repeats k ≡ true → P k
+unfolding repeats
+by-repeat P a b c k e =
+    by-test (eqb k 2) (λ y. subst P (sym (eqb-true k 2 y)) a)
+    (λ n. let d = sym (or-no (eqb k 2) (eqb k 3 || eqb k 5) n) ∙ e in
+    by-test (eqb k 3) (λ y. subst P (sym (eqb-true k 3 y)) b)
+    (λ m. subst P (sym (eqb-true k 5 (sym (or-no (eqb k 3) (eqb k 5) m) ∙ d))) c))
+
+-- such a kind lies between the table's and the most there is
+repeat-within : (k : ℕ) → repeats k ≡ true → (2 ≤ k) × (k ≤ 5)
+repeat-within =
+    by-repeat (λ k. (2 ≤ k) × (k ≤ 5)) (omega arith, omega arith) (omega arith, omega arith) (omega arith, omega arith)
 
 -- what a piece of a whole number of items counts
 record Counts (k : ℕ) (l : List ℕ) (j : ℕ) : Type 0 where
@@ -124,12 +131,12 @@ record Counts (k : ℕ) (l : List ℕ) (j : ℕ) : Type 0 where
   pub most : length (piece l j) / itemSize k ≤ capacity k
   pub full : suc j < blocksFor l → length (piece l j) / itemSize k ≡ capacity k
 
-counts : (k : ℕ) (l : List ℕ) (j : ℕ) → 2 ≤ k → k ≤ 3 → itemSize k * (length l / itemSize k) ≡ length l → Counts k l j
+counts : (k : ℕ) (l : List ℕ) (j : ℕ) → repeats k ≡ true → itemSize k * (length l / itemSize k) ≡ length l → Counts k l j
 unfolding itemSize capacity blocksFor piece
-counts k l j low high =
+counts k l j rep =
     let a = length-take 496 (drop (496 * j) l) in
     let d = length-drop (496 * j) l in
-    both-kinds (λ k. itemSize k * (length l / itemSize k) ≡ length l → Counts k l j)
+    by-repeat (λ k. itemSize k * (length l / itemSize k) ≡ length l → Counts k l j)
     (λ w. record {
       whole = omega (arith, a, d, w);
       some = λ h. omega (arith, a, d, w, h);
@@ -141,7 +148,13 @@ counts k l j low high =
       some = λ h. omega (arith, a, d, w, h);
       most = omega (arith, a, d, w);
       full = λ h. omega (arith, a, d, w, h);
-    }) k low high
+    })
+    (λ w. record {
+      whole = omega (arith, a, d, w);
+      some = λ h. omega (arith, a, d, w, h);
+      most = omega (arith, a, d, w);
+      full = λ h. omega (arith, a, d, w, h);
+    }) k rep
 
 -- the bytes l of kind k beside those of the other kinds
 abbrev own : ℕ → List ℕ → ℕ → List ℕ
@@ -150,44 +163,44 @@ own k l i = cond (eqb k i) l []
 own-more : (k i : ℕ) (l a b : List ℕ) → l ≡ a ++ b → own k a i ++ own k b i ≡ own k l i
 own-more k i l a b e = by-test (eqb k i) (λ y. rw (y, e)) (λ n. rw n)
 
-module _ (k : ℕ) (low : 2 ≤ k) (high : k ≤ 3) (l : List ℕ) (whole : itemSize k * (length l / itemSize k) ≡ length l)
-    (x : List ℕ) (n : ℕ) (last : List ℕ) (h : ℕ → List ℕ) (reads : Reads x n last h) (under : kindOf last < k) where
+module _ (k : ℕ) (rep : repeats k ≡ true) (l : List ℕ) (whole : itemSize k * (length l / itemSize k) ≡ length l)
+    (x : List ℕ) (n : ℕ) (last : List ℕ) (h : ℕ → List ℕ) (reads : Reads x n last h)
+    (under : place (kindOf last) < place k) where
   abbrev next : ℕ → List ℕ
   next j = block (suc n + j) k (piece l j)
 
   next-ok : (j : ℕ) → j < blocksFor l → blockOk (next j) (suc n + j) ≡ true
   next-ok j g =
-      let c = counts k l j low high whole in
+      let c = counts k l j rep whole in
       let s = c .some g in
-      block-ok (suc n + j) k (piece l j) (c .whole) (omega arith) (omega arith)
+      let b = repeat-within k rep in
+      let low = b .0 in
+      let high = b .1 in
+      block-ok (suc n + j) k (piece l j) (c .whole) (omega (arith, low)) (omega (arith, high))
       (rw (ne-eqb k 1 (λ q. omega (arith, q, low)), lt-ltb 0 (length (piece l j) / itemSize k) s)) (c .most)
 
   next-taken : (j i : ℕ) → taken i (next j) ≡ own k (piece l j) i
-  next-taken j i = block-taken (suc n + j) k (piece l j) (counts k l j low high whole .whole) i
+  next-taken j i = block-taken (suc n + j) k (piece l j) (counts k l j rep whole .whole) i
 
   rises : followsOk last (next 0) ≡ true
   unfolding followsOk
   rises =
       rw (
         block-kind (suc n + 0) k (piece l 0),
-        ne-eqb (kindOf last) k (λ q. omega (arith, q, under)),
-        lt-ltb (kindOf last) k under,
+        ne-eqb (kindOf last) k (λ q. let z = ap place q in omega (arith, z, under)),
+        lt-ltb (place (kindOf last)) (place k) under,
       )
-
-  repeated : repeats k ≡ true
-  unfolding repeats
-  repeated = both-kinds (λ k. repeats k ≡ true) refl refl k low high
 
   goes-on : (j : ℕ) → suc j < blocksFor l → followsOk (next j) (next (suc j)) ≡ true
   unfolding followsOk
   goes-on j g =
-      let f = counts k l j low high whole .full g in
+      let f = counts k l j rep whole .full g in
       rw (
         block-kind (suc n + j) k (piece l j),
         block-kind (suc n + suc j) k (piece l (suc j)),
         block-count (suc n + j) k (piece l j),
         eq-eqb k k refl,
-        repeated,
+        rep,
         eq-eqb (length (piece l j) / itemSize k) (capacity k) f,
       )
 
@@ -233,7 +246,7 @@ module _ (k : ℕ) (low : 2 ≤ k) (high : k ≤ 3) (l : List ℕ) (whole : item
   all-bytes j q = take-all (496 * suc j) l (omega (arith, q))
 
   -- all of them; there may be none
-  section : (end : List ℕ) × (kindOf end ≤ k)
+  section : (end : List ℕ) × (place (kindOf end) ≤ place k)
       × Reads (x ++ blocksTo (suc n) k l (blocksFor l)) (n + blocksFor l) end (λ i. h i ++ own k l i)
   section = from (blocksFor l) refl
     where
@@ -241,7 +254,7 @@ module _ (k : ℕ) (low : 2 ≤ k) (high : k ≤ 3) (l : List ℕ) (whole : item
       none i q =
           sym (ap (λ (c : List ℕ). h i ++ c) (by-test (eqb k i) (λ y. rw y (no-bytes q)) (λ n. rw n)) ∙ append-nil (h i))
 
-      from : (m : ℕ) → blocksFor l ≡ m → (end : List ℕ) × (kindOf end ≤ k)
+      from : (m : ℕ) → blocksFor l ≡ m → (end : List ℕ) × (place (kindOf end) ≤ place k)
           × Reads (x ++ blocksTo (suc n) k l (blocksFor l)) (n + blocksFor l) end (λ i. h i ++ own k l i)
       from zero q = (
         last,
@@ -251,7 +264,7 @@ module _ (k : ℕ) (low : 2 ≤ k) (high : k ≤ 3) (l : List ℕ) (whole : item
       )
       from (suc j) q = (
         next j,
-        (let e = block-kind (suc n + j) k (piece l j) in omega (arith, e)),
+        (let e = ap place (block-kind (suc n + j) k (piece l j)) in omega (arith, e)),
         reads-same (x ++ blocksTo (suc n) k l (suc j)) (x ++ blocksTo (suc n) k l (blocksFor l)) (n + suc j)
             (n + blocksFor l) (next j) (λ i. h i ++ own k (take (496 * suc j) l) i) (λ i. h i ++ own k l i)
             (ap (λ (m : ℕ). x ++ blocksTo (suc n) k l m) (sym q)) (ap (λ (m : ℕ). n + m) (sym q))
@@ -304,12 +317,19 @@ table-ok : (t : List ℕ) → length t ≤ 64 → blockOk (block 0 1 t) 0 ≡ tr
 unfolding itemSize capacity
 table-ok t h = block-ok 0 1 t (table-whole t) (omega arith) (omega arith) refl (omega arith)
 
+several : (repeats 2 ≡ true) × (repeats 3 ≡ true) × (repeats 5 ≡ true)
+unfolding repeats
+several = (refl, refl, refl)
+
 -- ---- the whole file
 
-module _ (t r p : List ℕ) (used root : ℕ) (columns : length t ≤ 64) (records : length r ≡ 16 * used)
+module _ (t r p text : List ℕ) (used root : ℕ) (columns : length t ≤ 64) (records : length r ≡ 16 * used)
     (values : length p % 8 ≡ 0) (small-used : used < 4294967296) (small-root : root < 4294967296) where
+  abbrev end-bytes : List ℕ
+  end-bytes = wordBytes used ++ wordBytes root
+
   abbrev file : List ℕ
-  file = fileBlocks t r p (wordBytes used ++ wordBytes root)
+  file = fileBlocks t r p text end-bytes
 
   abbrev nr : ℕ
   nr = blocksFor r
@@ -317,8 +337,11 @@ module _ (t r p : List ℕ) (used root : ℕ) (columns : length t ≤ 64) (recor
   abbrev np : ℕ
   np = blocksFor p
 
+  abbrev nx : ℕ
+  nx = blocksFor text
+
   abbrev the-end : List ℕ
-  the-end = block (1 + nr + np) 4 (wordBytes used ++ wordBytes root)
+  the-end = block (1 + nr + np + nx) 4 end-bytes
 
   records-whole : itemSize 2 * (length r / itemSize 2) ≡ length r
   unfolding itemSize
@@ -328,69 +351,99 @@ module _ (t r p : List ℕ) (used root : ℕ) (columns : length t ≤ 64) (recor
   unfolding itemSize
   pool-whole = omega (arith, values)
 
+  text-whole : itemSize 5 * (length text / itemSize 5) ≡ length text
+  unfolding itemSize
+  text-whole = omega arith
+
   abbrev held-table : ℕ → List ℕ
   held-table i = taken i (block 0 1 t)
 
+  abbrev held-records : ℕ → List ℕ
+  held-records i = held-table i ++ own 2 r i
+
+  abbrev held-pool : ℕ → List ℕ
+  held-pool i = held-records i ++ own 3 p i
+
+  abbrev held-text : ℕ → List ℕ
+  held-text i = held-pool i ++ own 5 text i
+
   abbrev held-all : ℕ → List ℕ
-  held-all i = ((held-table i ++ own 2 r i) ++ own 3 p i) ++ taken i the-end
+  held-all i = held-text i ++ taken i the-end
+
+  -- what is written up to each part
+  abbrev to-records : List ℕ
+  to-records = block 0 1 t ++ blocksTo 1 2 r nr
+
+  abbrev to-pool : List ℕ
+  to-pool = to-records ++ blocksTo (1 + nr) 3 p np
+
+  abbrev to-text : List ℕ
+  to-text = to-pool ++ blocksTo (1 + nr + np) 5 text nx
 
   read-table : Reads (block 0 1 t) 0 (block 0 1 t) held-table
   read-table = reads-first (block 0 1 t) (length-block 0 1 t (omega arith)) (table-ok t columns) (block-kind 0 1 t)
 
-  read-records : (end : List ℕ) × (kindOf end ≤ 2)
-      × Reads (block 0 1 t ++ blocksTo 1 2 r nr) (0 + nr) end (λ i. held-table i ++ own 2 r i)
+  read-records : (end : List ℕ) × (place (kindOf end) ≤ place 2) × Reads to-records (0 + nr) end held-records
   read-records =
-      section 2 (omega arith) (omega arith) r records-whole (block 0 1 t) 0 (block 0 1 t) held-table read-table
-      (let k = block-kind 0 1 t in omega (arith, k))
+      section 2 (several .0) r records-whole (block 0 1 t) 0 (block 0 1 t) held-table read-table
+      (let k = ap place (block-kind 0 1 t) in omega (arith, k, places .0, places .1))
 
-  read-pool : (end : List ℕ) × (kindOf end ≤ 3)
-      × Reads (block 0 1 t ++ blocksTo 1 2 r nr ++ blocksTo (1 + nr) 3 p np) (nr + np) end
-      (λ i. (held-table i ++ own 2 r i) ++ own 3 p i)
+  read-pool : (end : List ℕ) × (place (kindOf end) ≤ place 3) × Reads to-pool (nr + np) end held-pool
   read-pool =
       let a = read-records in
       let e : suc (0 + nr) ≡ 1 + nr = omega arith in
-      let s = section 3 (omega arith) (omega arith) p pool-whole (block 0 1 t ++ blocksTo 1 2 r nr) (0 + nr) (a .0)
-      (λ i. held-table i ++ own 2 r i) (a .2) (let k = a .1 in omega (arith, k)) in (
+      let s = section 3 (several .1) p pool-whole to-records (0 + nr) (a .0) held-records (a .2)
+      (let k = a .1 in omega (arith, k, places .1, places .2)) in (
         s .0,
         s .1,
-        reads-same (block 0 1 t ++ blocksTo 1 2 r nr ++ blocksTo (suc (0 + nr)) 3 p np)
-            (block 0 1 t ++ blocksTo 1 2 r nr ++ blocksTo (1 + nr) 3 p np) (0 + nr + np) (nr + np) (s .0)
-            (λ i. (held-table i ++ own 2 r i) ++ own 3 p i) (λ i. (held-table i ++ own 2 r i) ++ own 3 p i)
-            (ap (λ (m : ℕ). block 0 1 t ++ blocksTo 1 2 r nr ++ blocksTo m 3 p np) e) (omega arith) (λ i. refl) (s .2),
+        reads-same (to-records ++ blocksTo (suc (0 + nr)) 3 p np) to-pool (0 + nr + np) (nr + np) (s .0) held-pool held-pool
+            (ap (λ (m : ℕ). to-records ++ blocksTo m 3 p np) e) (omega arith) (λ i. refl) (s .2),
       )
 
-  ends : (b : List ℕ) → kindOf b ≤ 3 → followsOk b the-end ≡ true
+  read-text : (end : List ℕ) × (place (kindOf end) ≤ place 5) × Reads to-text (nr + np + nx) end held-text
+  read-text =
+      let a = read-pool in
+      let e : suc (nr + np) ≡ 1 + nr + np = omega arith in
+      let s = section 5 (several .2) text text-whole to-pool (nr + np) (a .0) held-pool (a .2)
+      (let k = a .1 in omega (arith, k, places .2, places .3)) in (
+        s .0,
+        s .1,
+        reads-same (to-pool ++ blocksTo (suc (nr + np)) 5 text nx) to-text (nr + np + nx) (nr + np + nx) (s .0) held-text
+            held-text (ap (λ (m : ℕ). to-pool ++ blocksTo m 5 text nx) e) refl (λ i. refl) (s .2),
+      )
+
+  ends : (b : List ℕ) → place (kindOf b) ≤ place 5 → followsOk b the-end ≡ true
   unfolding followsOk
   ends b h =
       rw (
-        block-kind (1 + nr + np) 4 (wordBytes used ++ wordBytes root),
-        ne-eqb (kindOf b) 4 (λ q. omega (arith, q, h)),
-        lt-ltb (kindOf b) 4 (omega (arith, h)),
+        block-kind (1 + nr + np + nx) 4 end-bytes,
+        ne-eqb (kindOf b) 4 (λ q. let z = ap place q in omega (arith, z, h, places .3, places .4)),
+        lt-ltb (place (kindOf b)) (place 4) (omega (arith, h, places .3, places .4)),
       )
 
-  read-all : Reads file (1 + nr + np) the-end held-all
+  read-all : Reads file (1 + nr + np + nx) the-end held-all
   unfolding fileBlocks
   read-all =
-      let a = read-pool in
-      let e : suc (nr + np) ≡ 1 + nr + np = omega arith in
-      reads-same ((block 0 1 t ++ blocksTo 1 2 r nr ++ blocksTo (1 + nr) 3 p np) ++ the-end) file (suc (nr + np)) (1 + nr + np)
-      the-end held-all held-all
-      (append-assoc (block 0 1 t ++ blocksTo 1 2 r nr) (blocksTo (1 + nr) 3 p np) the-end
-      ∙ append-assoc (block 0 1 t) (blocksTo 1 2 r nr) (blocksTo (1 + nr) 3 p np ++ the-end)) e (λ i. refl)
-      (reads-more (block 0 1 t ++ blocksTo 1 2 r nr ++ blocksTo (1 + nr) 3 p np) (nr + np) (a .0)
-      (λ i. (held-table i ++ own 2 r i) ++ own 3 p i) (a .2) the-end
-      (length-block (1 + nr + np) 4 (wordBytes used ++ wordBytes root)
-      (let l = end-length (1 + nr + np) used root in omega (arith, l)))
-      (subst (λ (m : ℕ). blockOk the-end m ≡ true) (sym e) (end-ok (1 + nr + np) used root)) (ends (a .0) (a .1)))
+      let a = read-text in
+      let e : suc (nr + np + nx) ≡ 1 + nr + np + nx = omega arith in
+      reads-same (to-text ++ the-end) file (suc (nr + np + nx)) (1 + nr + np + nx) the-end held-all held-all
+      (append-assoc to-pool (blocksTo (1 + nr + np) 5 text nx) the-end
+      ∙ append-assoc to-records (blocksTo (1 + nr) 3 p np) (blocksTo (1 + nr + np) 5 text nx ++ the-end)
+      ∙ append-assoc (block 0 1 t) (blocksTo 1 2 r nr)
+      (blocksTo (1 + nr) 3 p np ++ (blocksTo (1 + nr + np) 5 text nx ++ the-end))) e (λ i. refl)
+      (reads-more to-text (nr + np + nx) (a .0) held-text (a .2) the-end
+      (length-block (1 + nr + np + nx) 4 end-bytes
+      (let l = end-length (1 + nr + np + nx) used root in omega (arith, l)))
+      (subst (λ (m : ℕ). blockOk the-end m ≡ true) (sym e) (end-ok (1 + nr + np + nx) used root)) (ends (a .0) (a .1)))
 
-  block-number : blocksIn file ≡ suc (1 + nr + np)
+  block-number : blocksIn file ≡ suc (1 + nr + np + nx)
   unfolding blocksIn
   block-number = let s = read-all .size in omega (arith, s)
 
   the-end-is : endOf file ≡ the-end
   unfolding endOf
   the-end-is =
-      let q : blocksIn file - 1 ≡ 1 + nr + np = let b = block-number in omega (arith, b) in
+      let q : blocksIn file - 1 ≡ 1 + nr + np + nx = let b = block-number in omega (arith, b) in
       ap (blockAt file) q ∙ read-all .end
 
   file-blocks-ok : blocksOk file ≡ true
@@ -400,29 +453,33 @@ module _ (t r p : List ℕ) (used root : ℕ) (columns : length t ≤ 64) (recor
   file-order-ok : orderOk file ≡ true
   unfolding orderOk
   file-order-ok =
-      let q : blocksIn file - 1 ≡ 1 + nr + np = let b = block-number in omega (arith, b) in rw q (read-all .order)
+      let q : blocksIn file - 1 ≡ 1 + nr + np + nx = let b = block-number in omega (arith, b) in rw q (read-all .order)
 
   held-is : (k : ℕ) → held k file ≡ held-all k
   unfolding held
   held-is k = rw block-number (read-all .contents k)
 
+  table-taken : (k : ℕ) → taken k (block 0 1 t) ≡ own 1 t k
+  table-taken k = block-taken 0 1 t (table-whole t) k
+
+  end-taken : (k : ℕ) → taken k the-end ≡ own 4 end-bytes k
+  end-taken k = block-taken (1 + nr + np + nx) 4 end-bytes (end-whole (1 + nr + np + nx) used root) k
+
   pub table-held : held 1 file ≡ t
   table-held =
       held-is 1
-      ∙ rw (block-taken 0 1 t (table-whole t) 1, block-taken (1 + nr + np) 4 (wordBytes used ++ wordBytes root) (end-whole (1 + nr + np) used root) 1)
-      (append-nil (t ++ [] ++ []) ∙ append-nil (t ++ []) ∙ append-nil t)
+      ∙ rw (table-taken 1, end-taken 1)
+      (append-nil (t ++ [] ++ [] ++ []) ∙ append-nil (t ++ [] ++ []) ∙ append-nil (t ++ []) ∙ append-nil t)
 
   pub records-held : held 2 file ≡ r
   records-held =
-      held-is 2
-      ∙ rw (block-taken 0 1 t (table-whole t) 2, block-taken (1 + nr + np) 4 (wordBytes used ++ wordBytes root) (end-whole (1 + nr + np) used root) 2)
-      (append-nil (r ++ []) ∙ append-nil r)
+      held-is 2 ∙ rw (table-taken 2, end-taken 2) (append-nil (r ++ [] ++ []) ∙ append-nil (r ++ []) ∙ append-nil r)
 
   pub pool-held : held 3 file ≡ p
-  pool-held =
-      held-is 3
-      ∙ rw (block-taken 0 1 t (table-whole t) 3, block-taken (1 + nr + np) 4 (wordBytes used ++ wordBytes root) (end-whole (1 + nr + np) used root) 3)
-      (append-nil p)
+  pool-held = held-is 3 ∙ rw (table-taken 3, end-taken 3) (append-nil (p ++ []) ∙ append-nil p)
+
+  pub text-held : held 5 file ≡ text
+  text-held = held-is 5 ∙ rw (table-taken 5, end-taken 5) (append-nil text)
 
   pub total-columns : total 1 file ≡ length t
   unfolding itemSize
@@ -440,12 +497,17 @@ module _ (t r p : List ℕ) (used root : ℕ) (columns : length t ≤ 64) (recor
   total-values =
       let n = length-held 3 file file-blocks-ok in let h = ap length pool-held in omega (arith, n, h, values)
 
+  pub total-text : total 5 file ≡ length text
+  unfolding itemSize
+  total-text =
+      let n = length-held 5 file file-blocks-ok in let h = ap length text-held in omega (arith, n, h)
+
   pub root-is : rootOf file ≡ root
   unfolding rootOf
-  root-is = ap (λ (b : List ℕ). word b 20) the-end-is ∙ end-root (1 + nr + np) used root small-root
+  root-is = ap (λ (b : List ℕ). word b 20) the-end-is ∙ end-root (1 + nr + np + nx) used root small-root
 
   used-is : word (endOf file) 16 ≡ used
-  used-is = ap (λ (b : List ℕ). word b 16) the-end-is ∙ end-used (1 + nr + np) used root small-used
+  used-is = ap (λ (b : List ℕ). word b 16) the-end-is ∙ end-used (1 + nr + np + nx) used root small-used
 
   pub file-ok : structureOk file ≡ true
   unfolding structureOk wholeOk endsOk usedOk
@@ -457,16 +519,15 @@ module _ (t r p : List ℕ) (used root : ℕ) (columns : length t ≤ 64) (recor
         file-blocks-ok,
         file-order-ok,
         eq-eqb (kindOf (blockAt file 0)) 1 (read-all .first),
-        eq-eqb (kindOf (endOf file)) 4
-            (ap kindOf the-end-is ∙ block-kind (1 + nr + np) 4 (wordBytes used ++ wordBytes root)),
+        eq-eqb (kindOf (endOf file)) 4 (ap kindOf the-end-is ∙ block-kind (1 + nr + np + nx) 4 end-bytes),
         eq-eqb (word (endOf file) 16) (total 2 file) (used-is ∙ sym total-records),
       )
 
 -- ---- the statement
 
-module _ (t rs p : List ℕ) (used root : ℕ) (ok : checkAnswer t rs p used root ≡ check.Accepted) where
-  lim : Limits t rs p used root
-  lim = limits t rs p used root ok
+module _ (t rs p text : List ℕ) (used root : ℕ) (ok : checkAnswerIn (suc (length text)) t rs p used root ≡ check.Accepted) where
+  lim : Limits t rs p text used root
+  lim = limits t rs p text used root ok
 
   abbrev front : List ℕ
   front = take (16 * used) rs
@@ -480,42 +541,47 @@ module _ (t rs p : List ℕ) (used root : ℕ) (ok : checkAnswer t rs p used roo
   low-root : root < 4294967296
   low-root = let u = lim .records in let r = lim .root-used in omega (arith, u, r)
 
-  room : (table records pool : ℕ) → length t ≤ table → 16 * used ≤ records → length p ≤ pool
-      → roomOk (fileOf t rs p used root) table records pool ≡ true
+  room : (table records pool bytes : ℕ) → length t ≤ table → 16 * used ≤ records → length p ≤ pool → length text ≤ bytes
+      → roomOk (fileOf t rs p text used root) table records pool bytes ≡ true
   unfolding roomOk fileOf
-  room table records pool a b c =
+  room table records pool bytes a b c d =
       let w = lim .whole in
       rw (
-        total-columns t front p used root (lim .columns) front-length w low-used low-root,
-        total-records t front p used root (lim .columns) front-length w low-used low-root,
-        total-values t front p used root (lim .columns) front-length w low-used low-root,
+        total-columns t front p text used root (lim .columns) front-length w low-used low-root,
+        total-records t front p text used root (lim .columns) front-length w low-used low-root,
+        total-values t front p text used root (lim .columns) front-length w low-used low-root,
+        total-text t front p text used root (lim .columns) front-length w low-used low-root,
         le-leb (length t) table a,
         le-leb used (records / 16) (omega (arith, b)),
         le-leb (length p / 8) (pool / 8) (omega (arith, c)),
+        le-leb (length text) bytes d,
       )
 
-  pub survives : Survives t rs p used root (fileOf t rs p used root)
+  pub survives : Survives t rs p text used root (fileOf t rs p text used root)
   unfolding fileOf heldAnswer
   survives =
       let w = lim .whole in
-      let ft = table-held t front p used root (lim .columns) front-length w low-used low-root in
-      let fr = records-held t front p used root (lim .columns) front-length w low-used low-root in
-      let fp = pool-held t front p used root (lim .columns) front-length w low-used low-root in
-      let tr = total-records t front p used root (lim .columns) front-length w low-used low-root in
-      let ro = root-is t front p used root (lim .columns) front-length w low-used low-root in
+      let ft = table-held t front p text used root (lim .columns) front-length w low-used low-root in
+      let fr = records-held t front p text used root (lim .columns) front-length w low-used low-root in
+      let fp = pool-held t front p text used root (lim .columns) front-length w low-used low-root in
+      let fx = text-held t front p text used root (lim .columns) front-length w low-used low-root in
+      let tr = total-records t front p text used root (lim .columns) front-length w low-used low-root in
+      let ro = root-is t front p text used root (lim .columns) front-length w low-used low-root in
       record {
         loads =
-            λ table records pool a b c. sym
-            (loaded-all (fileOf t rs p used root) table records pool root (length t) used (length p / 8)
-            (file-ok t front p used root (lim .columns) front-length w low-used low-root)
-            (room table records pool a b c)
-            (rw (ft, fr, fp, tr, ro) (accepted-front t rs p used root ok)) (sym ro)
-            (sym (total-columns t front p used root (lim .columns) front-length w low-used low-root)) (sym tr)
-            (sym (total-values t front p used root (lim .columns) front-length w low-used low-root)));
+            λ table records pool bytes a b c d. sym
+            (loaded-all (fileOf t rs p text used root) table records pool bytes root (length t) used (length p / 8) (length text)
+            (file-ok t front p text used root (lim .columns) front-length w low-used low-root)
+            (room table records pool bytes a b c d)
+            (rw (ft, fr, fp, fx, tr, ro) (accepted-front (suc (length text)) t rs p used root ok)) (sym ro)
+            (sym (total-columns t front p text used root (lim .columns) front-length w low-used low-root)) (sym tr)
+            (sym (total-values t front p text used root (lim .columns) front-length w low-used low-root))
+            (sym (total-text t front p text used root (lim .columns) front-length w low-used low-root)));
         table = ft;
         records = fr;
         pool = fp;
+        symbols = fx;
       }
 
 pub screens-survive : ScreensSurvive
-screens-survive t rs p used root ok = survives t rs p used root ok
+screens-survive t rs p text used root ok = survives t rs p text used root ok

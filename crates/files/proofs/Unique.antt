@@ -17,7 +17,8 @@ use Rattle.records.specs.Bytes.{word, all}
 use Rattle.records.proofs.Laws.{and-left, and-right, by-test, or-no}
 use Rattle.records.proofs.Loops.{all-holds}
 use Rattle.checking.proofs.Bits.{lt-or-le}
-use Rattle.file_blocks.specs.Format.{itemSize, capacity, repeats, block, blocksFor, blocksTo, wordBytes, fileBlocks, fileOf}
+use Rattle.file_blocks.specs.Format.{itemSize, capacity, repeats, place, block, blocksFor, blocksTo, wordBytes}
+use Rattle.file_blocks.specs.Format.{fileBlocks, fileOf}
 use Rattle.file_structure.specs.Read.{blockAt, blocksIn, kindOf, countOf, contentSize, contentOf, taken, heldTo, held, total}
 use Rattle.file_structure.specs.Read.{kindOk, countOk, blockOk, followsOk, orderOk, endOf, endsOk, usedOk, rootOf, structureOk}
 use Rattle.files.specs.RoundTrip.{FilesAreWritten}
@@ -26,19 +27,20 @@ use Rattle.file_structure.proofs.Sizes.{by-kind, kind-low, kind-high, count-hig
 use Rattle.files.proofs.Contents.{taken-none, taken-some, length-content, ok-kind, ok-count, block-fits, block-is-ok}
 use Rattle.files.proofs.Loading.{ok-blocks, ok-order, ok-ends, ok-used, ok-length, ok-multiple, within, records-held}
 use Rattle.files.proofs.OneBlock.{is-block}
-use Rattle.files.proofs.Sections.{take-block, count-more, blocks-snoc}
+use Rattle.files.proofs.Sections.{places, take-block, count-more, blocks-snoc}
 
--- ---- what is written for a table, records, a pool and an end, none of them whole yet
+-- ---- what is written for a table, records, a pool, a text pool s and an end, none of them whole yet
 
-abbrev written : List ℕ → List ℕ → List ℕ → List ℕ → List ℕ
-written t r p e =
+abbrev written : List ℕ → List ℕ → List ℕ → List ℕ → List ℕ → List ℕ
+written t r p s e =
     block 0 1 t
     ++ (blocksTo 1 2 r (blocksFor r)
     ++ (blocksTo (1 + blocksFor r) 3 p (blocksFor p)
-    ++ blocksTo (1 + blocksFor r + blocksFor p) 4 e (blocksFor e)))
+    ++ (blocksTo (1 + blocksFor r + blocksFor p) 5 s (blocksFor s)
+    ++ blocksTo (1 + blocksFor r + blocksFor p + blocksFor s) 4 e (blocksFor e))))
 
-abbrev blockCount : List ℕ → List ℕ → List ℕ → ℕ
-blockCount r p e = 1 + blocksFor r + blocksFor p + blocksFor e
+abbrev blockCount : List ℕ → List ℕ → List ℕ → List ℕ → ℕ
+blockCount r p s e = 1 + blocksFor r + blocksFor p + blocksFor s + blocksFor e
 
 none-for : blocksFor [] ≡ 0
 unfolding blocksFor
@@ -58,42 +60,69 @@ blocks-one n k c g h =
     none-full = sym (ap (λ (m : ℕ). 496 * m) none-for)
 
 more-records : (t r x : List ℕ) → length r ≡ 496 * blocksFor r → 0 < length x → length x ≤ 496
-    → written t (r ++ x) [] [] ≡ written t r [] [] ++ block (1 + blocksFor r) 2 x
+    → written t (r ++ x) [] [] [] ≡ written t r [] [] [] ++ block (1 + blocksFor r) 2 x
 more-records t r x f g h =
     rw (
       blocks-none (1 + blocksFor (r ++ x)) 3,
-      blocks-none (1 + blocksFor (r ++ x) + blocksFor []) 4,
+      blocks-none (1 + blocksFor (r ++ x) + blocksFor []) 5,
+      blocks-none (1 + blocksFor (r ++ x) + blocksFor [] + blocksFor []) 4,
       blocks-none (1 + blocksFor r) 3,
-      blocks-none (1 + blocksFor r + blocksFor []) 4,
+      blocks-none (1 + blocksFor r + blocksFor []) 5,
+      blocks-none (1 + blocksFor r + blocksFor [] + blocksFor []) 4,
       blocks-snoc 1 2 r x f g h,
     )
     (simp (append-assoc, append-nil))
 
 more-pool : (t r p x : List ℕ) → length p ≡ 496 * blocksFor p → 0 < length x → length x ≤ 496
-    → written t r (p ++ x) [] ≡ written t r p [] ++ block (1 + blocksFor r + blocksFor p) 3 x
+    → written t r (p ++ x) [] [] ≡ written t r p [] [] ++ block (1 + blocksFor r + blocksFor p) 3 x
 more-pool t r p x f g h =
     rw (
-      blocks-none (1 + blocksFor r + blocksFor (p ++ x)) 4,
-      blocks-none (1 + blocksFor r + blocksFor p) 4,
+      blocks-none (1 + blocksFor r + blocksFor (p ++ x)) 5,
+      blocks-none (1 + blocksFor r + blocksFor (p ++ x) + blocksFor []) 4,
+      blocks-none (1 + blocksFor r + blocksFor p) 5,
+      blocks-none (1 + blocksFor r + blocksFor p + blocksFor []) 4,
       blocks-snoc (1 + blocksFor r) 3 p x f g h,
     )
     (simp (append-assoc, append-nil))
 
-the-end : (t r p x : List ℕ) → 0 < length x → length x ≤ 496
-    → written t r p x ≡ written t r p [] ++ block (1 + blocksFor r + blocksFor p) 4 x
-the-end t r p x g h =
+more-text : (t r p s x : List ℕ) → length s ≡ 496 * blocksFor s → 0 < length x → length x ≤ 496
+    → written t r p (s ++ x) [] ≡ written t r p s [] ++ block (1 + blocksFor r + blocksFor p + blocksFor s) 5 x
+more-text t r p s x f g h =
     rw (
-      blocks-one (1 + blocksFor r + blocksFor p) 4 x g h,
-      blocks-none (1 + blocksFor r + blocksFor p) 4,
+      blocks-none (1 + blocksFor r + blocksFor p + blocksFor (s ++ x)) 4,
+      blocks-none (1 + blocksFor r + blocksFor p + blocksFor s) 4,
+      blocks-snoc (1 + blocksFor r + blocksFor p) 5 s x f g h,
     )
     (simp (append-assoc, append-nil))
 
+the-end : (t r p s x : List ℕ) → 0 < length x → length x ≤ 496
+    → written t r p s x ≡ written t r p s [] ++ block (1 + blocksFor r + blocksFor p + blocksFor s) 4 x
+the-end t r p s x g h =
+    rw (
+      blocks-one (1 + blocksFor r + blocksFor p + blocksFor s) 4 x g h,
+      blocks-none (1 + blocksFor r + blocksFor p + blocksFor s) 4,
+    )
+    (simp (append-assoc, append-nil))
+
+-- ---- the order of kinds
+
+place-low : (k : ℕ) → 1 ≤ k → k ≤ 5 → 1 ≤ place k
+unfolding place
+place-low k low high =
+    by-kind (λ k. 1 ≤ place k) (omega arith) (omega arith) (omega arith) (omega arith) (omega arith) k low high
+
+behind-table : (j : ℕ) → 1 < place j → 1 < j
+unfolding place
+behind-table zero h = absurd (omega (arith, h))
+behind-table (suc zero) h = absurd (omega (arith, h))
+behind-table (suc (suc j)) h = omega arith
+
 -- ---- a block of a kind that is never empty
 
-items-some : (k n : ℕ) → 1 ≤ k → k ≤ 4 → 0 < n → 0 < itemSize k * n
+items-some : (k n : ℕ) → 1 ≤ k → k ≤ 5 → 0 < n → 0 < itemSize k * n
 unfolding itemSize
 items-some k n low high h =
-    by-kind (λ k. 0 < itemSize k * n) (omega arith) (omega arith) (omega arith) (omega arith) k low high
+    by-kind (λ k. 0 < itemSize k * n) (omega arith) (omega arith) (omega arith) (omega arith) (omega arith) k low high
 
 content-some : (b : List ℕ) (i : ℕ) → length b ≡ 512 → blockOk b i ≡ true → 2 ≤ kindOf b → 0 < length (contentOf b)
 unfolding countOk contentSize
@@ -188,7 +217,7 @@ module _ (f : List ℕ) (bytes : (i : ℕ) → getD f i 0 < 256) (e : structureO
   low : (i : ℕ) → i < blocksIn f → 1 ≤ kindOf (blockAt f i)
   low i h = kind-low (blockAt f i) (ok-kind (blockAt f i) i (ok i h))
 
-  high : (i : ℕ) → i < blocksIn f → kindOf (blockAt f i) ≤ 4
+  high : (i : ℕ) → i < blocksIn f → kindOf (blockAt f i) ≤ 5
   high i h = kind-high (blockAt f i) (ok-kind (blockAt f i) i (ok i h))
 
   held-other : (i j : ℕ) → (kindOf (blockAt f i) ≡ j → ⊥) → heldTo j f (suc i) ≡ heldTo j f i
@@ -200,13 +229,13 @@ module _ (f : List ℕ) (bytes : (i : ℕ) → getD f i 0 < 256) (e : structureO
   unfolding heldTo
   held-own i k h = ap (λ (l : List ℕ). heldTo k f i ++ l) (taken-some k (blockAt f i) h)
 
-  -- The first m + 1 blocks are what is written for what they hold; nothing is held of the kinds above that of block m; and
+  -- The first m + 1 blocks are what is written for what they hold; nothing is held of the kinds behind that of block m; and
   -- if block m is full, so are all of its kind.
   record Built (m : ℕ) : Type 0 where
     pub same : take (512 * suc m) f
-        ≡ written (heldTo 1 f (suc m)) (heldTo 2 f (suc m)) (heldTo 3 f (suc m)) (heldTo 4 f (suc m))
-    pub count : blockCount (heldTo 2 f (suc m)) (heldTo 3 f (suc m)) (heldTo 4 f (suc m)) ≡ suc m
-    pub above : (j : ℕ) → kindOf (blockAt f m) < j → heldTo j f (suc m) ≡ []
+        ≡ written (heldTo 1 f (suc m)) (heldTo 2 f (suc m)) (heldTo 3 f (suc m)) (heldTo 5 f (suc m)) (heldTo 4 f (suc m))
+    pub count : blockCount (heldTo 2 f (suc m)) (heldTo 3 f (suc m)) (heldTo 5 f (suc m)) (heldTo 4 f (suc m)) ≡ suc m
+    pub above : (j : ℕ) → place (kindOf (blockAt f m)) < place j → heldTo j f (suc m) ≡ []
     pub full : repeats (kindOf (blockAt f m)) ≡ true → countOf (blockAt f m) ≡ capacity (kindOf (blockAt f m))
         → length (heldTo (kindOf (blockAt f m)) f (suc m)) ≡ 496 * blocksFor (heldTo (kindOf (blockAt f m)) f (suc m))
     pub end : kindOf (blockAt f m) ≡ 4 → heldTo 4 f (suc m) ≡ contentOf (blockAt f m)
@@ -244,6 +273,7 @@ module _ (f : List ℕ) (bytes : (i : ℕ) → getD f i 0 < 256) (e : structureO
   built-first =
       let n2 = none-first 2 (omega arith) in
       let n3 = none-first 3 (omega arith) in
+      let n5 = none-first 5 (omega arith) in
       let n4 = none-first 4 (omega arith) in
       record {
         same =
@@ -251,15 +281,18 @@ module _ (f : List ℕ) (bytes : (i : ℕ) → getD f i 0 < 256) (e : structureO
             ∙ rw (
               n2,
               n3,
+              n5,
               n4,
               table-first,
               blocks-none 1 2,
               blocks-none (1 + blocksFor []) 3,
-              blocks-none (1 + blocksFor [] + blocksFor []) 4,
+              blocks-none (1 + blocksFor [] + blocksFor []) 5,
+              blocks-none (1 + blocksFor [] + blocksFor [] + blocksFor []) 4,
             )
             (sym (append-nil (block 0 1 (contentOf (blockAt f 0)))));
-        count = rw (n2, n3, n4, none-for);
-        above = λ j h. none-first j (let k = first-kind in omega (arith, k, h));
+        count = rw (n2, n3, n5, n4, none-for);
+        above =
+            λ j h. none-first j (behind-table j (let k = ap place first-kind in let p = places .0 in omega (arith, k, p, h)));
         full = λ r c. absurd (true≢false (sym r ∙ rw first-kind not-again));
         end = λ k. absurd (let q = first-kind in omega (arith, q, k));
       }
@@ -275,8 +308,8 @@ module _ (f : List ℕ) (bytes : (i : ℕ) → getD f i 0 < 256) (e : structureO
 
     ready : (k : ℕ) → kindOf next ≡ k
         → (length (heldTo k f (suc m)) ≡ 496 * blocksFor (heldTo k f (suc m)))
-        × ((j : ℕ) → k < j → heldTo j f (suc m) ≡ [])
-        × (((kindOf last ≡ k) × (repeats k ≡ true)) ⊎ ((kindOf last < k) × (heldTo k f (suc m) ≡ [])))
+        × ((j : ℕ) → place k < place j → heldTo j f (suc m) ≡ [])
+        × (((kindOf last ≡ k) × (repeats k ≡ true)) ⊎ ((place (kindOf last) < place k) × (heldTo k f (suc m) ≡ [])))
     unfolding followsOk
     ready k q =
         by-test (eqb (kindOf last) (kindOf next))
@@ -286,11 +319,12 @@ module _ (f : List ℕ) (bytes : (i : ℕ) → getD f i 0 < 256) (e : structureO
         let c = eqb-true (countOf last) (capacity (kindOf last))
         (and-right (repeats (kindOf last)) (eqb (countOf last) (capacity (kindOf last))) t) in (
           subst (λ (k : ℕ). length (heldTo k f (suc m)) ≡ 496 * blocksFor (heldTo k f (suc m))) s (built .full r c),
-          (λ j l. built .above j (omega (arith, s, l))),
+          (λ j l. built .above j (subst (λ (k : ℕ). place k < place j) (sym s) l)),
           inl (s, subst (λ (k : ℕ). repeats k ≡ true) s r),
         ))
-        (λ n. let t : kindOf last < kindOf next = ltb-true (kindOf last) (kindOf next) (rw n at (follows m h)) in
-        let s : kindOf last < k = omega (arith, t, q) in
+        (λ n. let t : place (kindOf last) < place (kindOf next) =
+        ltb-true (place (kindOf last)) (place (kindOf next)) (rw n at (follows m h)) in
+        let s : place (kindOf last) < place k = subst (λ (k : ℕ). place (kindOf last) < place k) q t in
         let z = built .above k s in (
           rw (z, none-for),
           (λ j l. built .above j (omega (arith, s, l))),
@@ -305,18 +339,18 @@ module _ (f : List ℕ) (bytes : (i : ℕ) → getD f i 0 < 256) (e : structureO
         let n = length-content next (long (suc m) h) (block-fits next (suc m) (ok (suc m) h)) in
         let b = block-fits next (suc m) (ok (suc m) h) in omega (arith, n, b)
 
-    -- block m + 1 behind the first m + 1, which are written for t, r, p and x
+    -- block m + 1 behind the first m + 1, which are written as w
     behind : (k : ℕ) (w : List ℕ) → kindOf next ≡ k → take (512 * suc m) f ≡ w
         → take (512 * suc (suc m)) f ≡ w ++ block (suc m) k content
     behind k w q s =
         take-block f (suc m)
         ∙ ap₂ (λ (a b : List ℕ). a ++ b) s (is-written (suc m) h ∙ ap (λ (k : ℕ). block (suc m) k content) q)
 
-    full-size : (k : ℕ) → 1 ≤ k → k ≤ 4 → repeats k ≡ true → itemSize k * capacity k ≡ 496
+    full-size : (k : ℕ) → 1 ≤ k → k ≤ 5 → repeats k ≡ true → itemSize k * capacity k ≡ 496
     unfolding repeats itemSize capacity
     full-size k l g =
         by-kind (λ k. repeats k ≡ true → itemSize k * capacity k ≡ 496) (λ r. absurd (true≢false (sym r))) (λ r. refl)
-        (λ r. refl) (λ r. absurd (true≢false (sym r))) k l g
+        (λ r. refl) (λ r. absurd (true≢false (sym r))) (λ r. refl) k l g
 
     full-content : (k : ℕ) → kindOf next ≡ k → repeats k ≡ true → countOf next ≡ capacity k → length content ≡ 496
     unfolding contentSize
@@ -327,8 +361,10 @@ module _ (f : List ℕ) (bytes : (i : ℕ) → getD f i 0 < 256) (e : structureO
 
     grow : (k : ℕ) → kindOf next ≡ k → 2 ≤ k
         → take (512 * suc (suc m)) f
-        ≡ written (heldTo 1 f (suc (suc m))) (heldTo 2 f (suc (suc m))) (heldTo 3 f (suc (suc m))) (heldTo 4 f (suc (suc m)))
-        → blockCount (heldTo 2 f (suc (suc m))) (heldTo 3 f (suc (suc m))) (heldTo 4 f (suc (suc m))) ≡ suc (suc m)
+        ≡ written (heldTo 1 f (suc (suc m))) (heldTo 2 f (suc (suc m))) (heldTo 3 f (suc (suc m))) (heldTo 5 f (suc (suc m)))
+        (heldTo 4 f (suc (suc m)))
+        → blockCount (heldTo 2 f (suc (suc m))) (heldTo 3 f (suc (suc m))) (heldTo 5 f (suc (suc m))) (heldTo 4 f (suc (suc m)))
+        ≡ suc (suc m)
         → Built (suc m)
     grow k q g same count =
         let some = content-some next (suc m) (long (suc m) h) (ok (suc m) h) (omega (arith, q, g)) in
@@ -338,7 +374,8 @@ module _ (f : List ℕ) (bytes : (i : ℕ) → getD f i 0 < 256) (e : structureO
           same = same;
           count = count;
           above =
-              λ j l. held-other (suc m) j (λ z. omega (arith, z, l)) ∙ r .1 j (omega (arith, q, l));
+              λ j l. held-other (suc m) j (λ z. let y = ap place z in omega (arith, y, l))
+              ∙ r .1 j (subst (λ (k : ℕ). place k < place j) q l);
           full =
               λ rep c. subst (λ (k : ℕ). length (heldTo k f (suc (suc m))) ≡ 496 * blocksFor (heldTo k f (suc (suc m)))) (sym q)
               (let rk : repeats k ≡ true = rw q at rep in
@@ -353,79 +390,117 @@ module _ (f : List ℕ) (bytes : (i : ℕ) → getD f i 0 < 256) (e : structureO
               (own ∙ ap (λ (l : List ℕ). l ++ content) (no-more (sym q ∙ z) (r .2)));
         }
       where
-        no-more : k ≡ 4 → (((kindOf last ≡ k) × (repeats k ≡ true)) ⊎ ((kindOf last < k) × (heldTo k f (suc m) ≡ [])))
+        no-more : k ≡ 4
+            → (((kindOf last ≡ k) × (repeats k ≡ true)) ⊎ ((place (kindOf last) < place k) × (heldTo k f (suc m) ≡ [])))
             → heldTo k f (suc m) ≡ []
         no-more z (inl p) = absurd (true≢false (sym (p .1) ∙ ap repeats z ∙ no-end-again))
         no-more z (inr p) = p .1
 
-    written-same : (t t′ r r′ p p′ x x′ : List ℕ) → t ≡ t′ → r ≡ r′ → p ≡ p′ → x ≡ x′ → written t r p x ≡ written t′ r′ p′ x′
-    written-same t t′ r r′ p p′ x x′ a b c d = rw (a, b, c, d)
+    written-same : (t t′ r r′ p p′ s s′ x x′ : List ℕ) → t ≡ t′ → r ≡ r′ → p ≡ p′ → s ≡ s′ → x ≡ x′
+        → written t r p s x ≡ written t′ r′ p′ s′ x′
+    written-same t t′ r r′ p p′ s s′ x x′ a b c d e = rw (a, b, c, d, e)
+
+    -- what is held of kind j does not grow
+    other : (j k : ℕ) → kindOf next ≡ k → (k ≡ j → ⊥) → heldTo j f (suc (suc m)) ≡ heldTo j f (suc m)
+    other j k q d = held-other (suc m) j (λ z. d (sym q ∙ z))
+
+    no-blocks : (j : ℕ) → heldTo j f (suc m) ≡ [] → blocksFor (heldTo j f (suc m)) ≡ 0
+    no-blocks j n = ap blocksFor n ∙ none-for
 
     grow-records : kindOf next ≡ 2 → Built (suc m)
     grow-records q =
         let r = ready 2 q in
         let some = content-some next (suc m) (long (suc m) h) (ok (suc m) h) (omega (arith, q)) in
-        let n3 = r .1 3 (omega arith) in
-        let n4 = r .1 4 (omega arith) in
-        let z3 : blocksFor (heldTo 3 f (suc m)) ≡ 0 = ap blocksFor n3 ∙ none-for in
-        let z4 : blocksFor (heldTo 4 f (suc m)) ≡ 0 = ap blocksFor n4 ∙ none-for in
+        let n3 = r .1 3 (omega (arith, places .1, places .2)) in
+        let n5 = r .1 5 (omega (arith, places .1, places .3)) in
+        let n4 = r .1 4 (omega (arith, places .1, places .4)) in
         let c = built .count in
-        let i : suc m ≡ 1 + blocksFor (heldTo 2 f (suc m)) = omega (arith, c, z3, z4) in
-        let o1 = held-other (suc m) 1 (λ z. omega (arith, z, q)) in
+        let i : suc m ≡ 1 + blocksFor (heldTo 2 f (suc m)) =
+        omega (arith, c, no-blocks 3 n3, no-blocks 5 n5, no-blocks 4 n4) in
+        let o1 = other 1 2 q (λ z. omega (arith, z)) in
         let o2 = held-own (suc m) 2 q in
-        let o3 = held-other (suc m) 3 (λ z. omega (arith, z, q)) ∙ n3 in
-        let o4 = held-other (suc m) 4 (λ z. omega (arith, z, q)) ∙ n4 in
-        let s = built .same ∙ written-same _ _ _ _ _ _ _ _ refl refl n3 n4 in
+        let o3 = other 3 2 q (λ z. omega (arith, z)) ∙ n3 in
+        let o5 = other 5 2 q (λ z. omega (arith, z)) ∙ n5 in
+        let o4 = other 4 2 q (λ z. omega (arith, z)) ∙ n4 in
+        let s = built .same ∙ written-same _ _ _ _ _ _ _ _ _ _ refl refl n3 n5 n4 in
         let b = count-more (heldTo 2 f (suc m)) content (r .0) some size in
         grow 2 q (omega arith)
-        (behind 2 (written (heldTo 1 f (suc m)) (heldTo 2 f (suc m)) [] []) q s
-        ∙ ap (λ (n : ℕ). written (heldTo 1 f (suc m)) (heldTo 2 f (suc m)) [] [] ++ block n 2 content) i
+        (behind 2 (written (heldTo 1 f (suc m)) (heldTo 2 f (suc m)) [] [] []) q s
+        ∙ ap (λ (n : ℕ). written (heldTo 1 f (suc m)) (heldTo 2 f (suc m)) [] [] [] ++ block n 2 content) i
         ∙ sym (more-records (heldTo 1 f (suc m)) (heldTo 2 f (suc m)) content (r .0) some size)
-        ∙ sym (written-same _ _ _ _ _ _ _ _ o1 o2 o3 o4))
-        (rw (o2, o3, o4, b, none-for) (omega (arith, i)))
+        ∙ sym (written-same _ _ _ _ _ _ _ _ _ _ o1 o2 o3 o5 o4))
+        (rw (o2, o3, o5, o4, b, none-for) (omega (arith, i)))
 
     grow-pool : kindOf next ≡ 3 → Built (suc m)
     grow-pool q =
         let r = ready 3 q in
         let some = content-some next (suc m) (long (suc m) h) (ok (suc m) h) (omega (arith, q)) in
-        let n4 = r .1 4 (omega arith) in
-        let z4 : blocksFor (heldTo 4 f (suc m)) ≡ 0 = ap blocksFor n4 ∙ none-for in
+        let n5 = r .1 5 (omega (arith, places .2, places .3)) in
+        let n4 = r .1 4 (omega (arith, places .2, places .4)) in
         let c = built .count in
-        let i : suc m ≡ 1 + blocksFor (heldTo 2 f (suc m)) + blocksFor (heldTo 3 f (suc m)) = omega (arith, c, z4) in
-        let o1 = held-other (suc m) 1 (λ z. omega (arith, z, q)) in
-        let o2 = held-other (suc m) 2 (λ z. omega (arith, z, q)) in
+        let i : suc m ≡ 1 + blocksFor (heldTo 2 f (suc m)) + blocksFor (heldTo 3 f (suc m)) =
+        omega (arith, c, no-blocks 5 n5, no-blocks 4 n4) in
+        let o1 = other 1 3 q (λ z. omega (arith, z)) in
+        let o2 = other 2 3 q (λ z. omega (arith, z)) in
         let o3 = held-own (suc m) 3 q in
-        let o4 = held-other (suc m) 4 (λ z. omega (arith, z, q)) ∙ n4 in
-        let s = built .same ∙ written-same _ _ _ _ _ _ _ _ refl refl refl n4 in
+        let o5 = other 5 3 q (λ z. omega (arith, z)) ∙ n5 in
+        let o4 = other 4 3 q (λ z. omega (arith, z)) ∙ n4 in
+        let s = built .same ∙ written-same _ _ _ _ _ _ _ _ _ _ refl refl refl n5 n4 in
         let b = count-more (heldTo 3 f (suc m)) content (r .0) some size in
         grow 3 q (omega arith)
-        (behind 3 (written (heldTo 1 f (suc m)) (heldTo 2 f (suc m)) (heldTo 3 f (suc m)) []) q s
-        ∙ ap (λ (n : ℕ). written (heldTo 1 f (suc m)) (heldTo 2 f (suc m)) (heldTo 3 f (suc m)) [] ++ block n 3 content) i
+        (behind 3 (written (heldTo 1 f (suc m)) (heldTo 2 f (suc m)) (heldTo 3 f (suc m)) [] []) q s
+        ∙ ap (λ (n : ℕ). written (heldTo 1 f (suc m)) (heldTo 2 f (suc m)) (heldTo 3 f (suc m)) [] [] ++ block n 3 content) i
         ∙ sym (more-pool (heldTo 1 f (suc m)) (heldTo 2 f (suc m)) (heldTo 3 f (suc m)) content (r .0) some size)
-        ∙ sym (written-same _ _ _ _ _ _ _ _ o1 o2 o3 o4))
-        (rw (o2, o3, o4, b, none-for) (omega (arith, i)))
+        ∙ sym (written-same _ _ _ _ _ _ _ _ _ _ o1 o2 o3 o5 o4))
+        (rw (o2, o3, o5, o4, b, none-for) (omega (arith, i)))
+
+    grow-text : kindOf next ≡ 5 → Built (suc m)
+    grow-text q =
+        let r = ready 5 q in
+        let some = content-some next (suc m) (long (suc m) h) (ok (suc m) h) (omega (arith, q)) in
+        let n4 = r .1 4 (omega (arith, places .3, places .4)) in
+        let c = built .count in
+        let i : suc m ≡ 1 + blocksFor (heldTo 2 f (suc m)) + blocksFor (heldTo 3 f (suc m)) + blocksFor (heldTo 5 f (suc m)) =
+        omega (arith, c, no-blocks 4 n4) in
+        let o1 = other 1 5 q (λ z. omega (arith, z)) in
+        let o2 = other 2 5 q (λ z. omega (arith, z)) in
+        let o3 = other 3 5 q (λ z. omega (arith, z)) in
+        let o5 = held-own (suc m) 5 q in
+        let o4 = other 4 5 q (λ z. omega (arith, z)) ∙ n4 in
+        let s = built .same ∙ written-same _ _ _ _ _ _ _ _ _ _ refl refl refl refl n4 in
+        let b = count-more (heldTo 5 f (suc m)) content (r .0) some size in
+        grow 5 q (omega arith)
+        (behind 5 (written (heldTo 1 f (suc m)) (heldTo 2 f (suc m)) (heldTo 3 f (suc m)) (heldTo 5 f (suc m)) []) q s
+        ∙ ap (λ (n : ℕ). written (heldTo 1 f (suc m)) (heldTo 2 f (suc m)) (heldTo 3 f (suc m)) (heldTo 5 f (suc m)) []
+        ++ block n 5 content) i
+        ∙ sym (more-text (heldTo 1 f (suc m)) (heldTo 2 f (suc m)) (heldTo 3 f (suc m)) (heldTo 5 f (suc m)) content (r .0) some
+        size)
+        ∙ sym (written-same _ _ _ _ _ _ _ _ _ _ o1 o2 o3 o5 o4))
+        (rw (o2, o3, o5, o4, b, none-for) (omega (arith, i)))
 
     grow-end : kindOf next ≡ 4 → Built (suc m)
     grow-end q =
         let some = content-some next (suc m) (long (suc m) h) (ok (suc m) h) (omega (arith, q)) in
         let n4 = none-yet (ready 4 q .2) in
-        let z4 : blocksFor (heldTo 4 f (suc m)) ≡ 0 = ap blocksFor n4 ∙ none-for in
         let c = built .count in
-        let i : suc m ≡ 1 + blocksFor (heldTo 2 f (suc m)) + blocksFor (heldTo 3 f (suc m)) = omega (arith, c, z4) in
-        let o1 = held-other (suc m) 1 (λ z. omega (arith, z, q)) in
-        let o2 = held-other (suc m) 2 (λ z. omega (arith, z, q)) in
-        let o3 = held-other (suc m) 3 (λ z. omega (arith, z, q)) in
+        let i : suc m ≡ 1 + blocksFor (heldTo 2 f (suc m)) + blocksFor (heldTo 3 f (suc m)) + blocksFor (heldTo 5 f (suc m)) =
+        omega (arith, c, no-blocks 4 n4) in
+        let o1 = other 1 4 q (λ z. omega (arith, z)) in
+        let o2 = other 2 4 q (λ z. omega (arith, z)) in
+        let o3 = other 3 4 q (λ z. omega (arith, z)) in
+        let o5 = other 5 4 q (λ z. omega (arith, z)) in
         let o4 : heldTo 4 f (suc (suc m)) ≡ content = held-own (suc m) 4 q ∙ ap (λ (l : List ℕ). l ++ content) n4 in
-        let s = built .same ∙ written-same _ _ _ _ _ _ _ _ refl refl refl n4 in
+        let s = built .same ∙ written-same _ _ _ _ _ _ _ _ _ _ refl refl refl refl n4 in
         let b : blocksFor content ≡ 1 = one-block content some size in
         grow 4 q (omega arith)
-        (behind 4 (written (heldTo 1 f (suc m)) (heldTo 2 f (suc m)) (heldTo 3 f (suc m)) []) q s
-        ∙ ap (λ (n : ℕ). written (heldTo 1 f (suc m)) (heldTo 2 f (suc m)) (heldTo 3 f (suc m)) [] ++ block n 4 content) i
-        ∙ sym (the-end (heldTo 1 f (suc m)) (heldTo 2 f (suc m)) (heldTo 3 f (suc m)) content some size)
-        ∙ sym (written-same _ _ _ _ _ _ _ _ o1 o2 o3 o4))
-        (rw (o2, o3, o4, b) (omega (arith, i)))
+        (behind 4 (written (heldTo 1 f (suc m)) (heldTo 2 f (suc m)) (heldTo 3 f (suc m)) (heldTo 5 f (suc m)) []) q s
+        ∙ ap (λ (n : ℕ). written (heldTo 1 f (suc m)) (heldTo 2 f (suc m)) (heldTo 3 f (suc m)) (heldTo 5 f (suc m)) []
+        ++ block n 4 content) i
+        ∙ sym (the-end (heldTo 1 f (suc m)) (heldTo 2 f (suc m)) (heldTo 3 f (suc m)) (heldTo 5 f (suc m)) content some size)
+        ∙ sym (written-same _ _ _ _ _ _ _ _ _ _ o1 o2 o3 o5 o4))
+        (rw (o2, o3, o5, o4, b) (omega (arith, i)))
       where
-        none-yet : (((kindOf last ≡ 4) × (repeats 4 ≡ true)) ⊎ ((kindOf last < 4) × (heldTo 4 f (suc m) ≡ [])))
+        none-yet : (((kindOf last ≡ 4) × (repeats 4 ≡ true)) ⊎ ((place (kindOf last) < place 4) × (heldTo 4 f (suc m) ≡ [])))
             → heldTo 4 f (suc m) ≡ []
         none-yet (inl p) = absurd (true≢false (sym (p .1) ∙ no-end-again))
         none-yet (inr p) = p .1
@@ -433,13 +508,16 @@ module _ (f : List ℕ) (bytes : (i : ℕ) → getD f i 0 < 256) (e : structureO
     grow-table : kindOf next ≡ 1 → Built (suc m)
     grow-table q = no-table (ready 1 q .2)
       where
-        no-table : (((kindOf last ≡ 1) × (repeats 1 ≡ true)) ⊎ ((kindOf last < 1) × (heldTo 1 f (suc m) ≡ []))) → Built (suc m)
+        no-table : (((kindOf last ≡ 1) × (repeats 1 ≡ true)) ⊎ ((place (kindOf last) < place 1) × (heldTo 1 f (suc m) ≡ [])))
+            → Built (suc m)
         no-table (inl p) = absurd (true≢false (sym (p .1) ∙ not-again))
-        no-table (inr p) = absurd (let l = low m (le-of-lt h) in let s = p .0 in omega (arith, l, s))
+        no-table (inr p) =
+            absurd (let l = place-low (kindOf last) (low m (le-of-lt h)) (high m (le-of-lt h)) in
+            let s = p .0 in let z = places .0 in omega (arith, l, s, z))
 
     built-next : Built (suc m)
     built-next =
-        by-kind (λ k. kindOf next ≡ k → Built (suc m)) grow-table grow-records grow-pool grow-end (kindOf next)
+        by-kind (λ k. kindOf next ≡ k → Built (suc m)) grow-table grow-records grow-pool grow-end grow-text (kindOf next)
         (low (suc m) h) (high (suc m) h) refl
 
   built-to : (m : ℕ) → m < blocksIn f → Built m
@@ -482,7 +560,7 @@ module _ (f : List ℕ) (bytes : (i : ℕ) → getD f i 0 < 256) (e : structureO
     all-records : take (16 * total 2 f) (held 2 f) ≡ held 2 f
     all-records = take-all (16 * total 2 f) (held 2 f) (let n = records-held f e in omega (arith, n))
 
-    whole-file : f ≡ fileOf (held 1 f) (held 2 f) (held 3 f) (total 2 f) (rootOf f)
+    whole-file : f ≡ fileOf (held 1 f) (held 2 f) (held 3 f) (held 5 f) (total 2 f) (rootOf f)
     unfolding fileOf fileBlocks held
     whole-file =
         let x = wordBytes (total 2 f) ++ wordBytes (rootOf f) in
@@ -491,13 +569,15 @@ module _ (f : List ℕ) (bytes : (i : ℕ) → getD f i 0 < 256) (e : structureO
         ∙ built-to m in-file .same
         ∙ rw (all-records, q, end-held)
         (ap (λ (l : List ℕ). block 0 1 (heldTo 1 f (suc m)) ++ (blocksTo 1 2 (heldTo 2 f (suc m)) (blocksFor (heldTo 2 f (suc m)))
-        ++ (blocksTo (1 + blocksFor (heldTo 2 f (suc m))) 3 (heldTo 3 f (suc m)) (blocksFor (heldTo 3 f (suc m))) ++ l)))
-        (blocks-one (1 + blocksFor (heldTo 2 f (suc m)) + blocksFor (heldTo 3 f (suc m))) 4 x
+        ++ (blocksTo (1 + blocksFor (heldTo 2 f (suc m))) 3 (heldTo 3 f (suc m)) (blocksFor (heldTo 3 f (suc m)))
+        ++ (blocksTo (1 + blocksFor (heldTo 2 f (suc m)) + blocksFor (heldTo 3 f (suc m))) 5 (heldTo 5 f (suc m))
+        (blocksFor (heldTo 5 f (suc m))) ++ l))))
+        (blocks-one (1 + blocksFor (heldTo 2 f (suc m)) + blocksFor (heldTo 3 f (suc m)) + blocksFor (heldTo 5 f (suc m))) 4 x
         (eight (total 2 f) (rootOf f) .0) (eight (total 2 f) (rootOf f) .1)))
 
 pub files-are-written : FilesAreWritten
 files-are-written f bytes e = from (blocksIn f) refl
   where
-    from : (n : ℕ) → blocksIn f ≡ n → f ≡ fileOf (held 1 f) (held 2 f) (held 3 f) (total 2 f) (rootOf f)
+    from : (n : ℕ) → blocksIn f ≡ n → f ≡ fileOf (held 1 f) (held 2 f) (held 3 f) (held 5 f) (total 2 f) (rootOf f)
     from zero q = absurd (let s = some-block f bytes e in omega (arith, s, q))
     from (suc m) q = whole-file f bytes e m q

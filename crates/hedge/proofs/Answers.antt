@@ -1,6 +1,6 @@
 -- The answer of the hedge list, one law for each way it ends.
 -- Assumes nothing.
-use mathlib.Core.Path.{_≡_, refl, sym, _∙_, ap, subst}
+use mathlib.Core.Path.{_≡_, refl, sym, _∙_, ap}
 use mathlib.Core.Bool.{Bool, true, false, cond, _&&_}
 use mathlib.Core.List.{List}
 use Prim.Native.Nat.{ℕ, _*_, _/_, _≤_, _<_, min}
@@ -16,14 +16,11 @@ use Rattle.checking.specs.declared.check.CheckAnswer.{CheckAnswer}
 use Rattle.checking.specs.declared.check.CheckAnswer.the-variants as check
 use Rattle.row_test.specs.declared.test.RowAnswer.{RowAnswer}
 use Rattle.tally.specs.declared.Tally.{Tally}
-use Rattle.tally.specs.Sums.{grown, sumsFit, added}
-use Rattle.tally.proofs.Sums.{added-grown, added-none}
 use Rattle.hedge.specs.declared.list.HedgeAnswer.{HedgeAnswer}
 use Rattle.hedge.specs.declared.list.HedgeAnswer.the-variants.{Refused, Listed}
 use Rattle.chain_rows.specs.Chain.{answerAt, isTested}
-use Rattle.hedge.specs.Hedge.{sumsAnswer, countsAnswer, rowsAnswer, roomOk, checkedAnswer, answerIf}
-use Rattle.hedge.specs.Hedge.{hedgeAnswer, hedgeBytes, listIf, tallyOut}
-use Rattle.hedge.specs.Calls.{passedOf, falseOf, unknownOf}
+use Rattle.hedge.specs.Hedge.{countsAnswer, rowsAnswer, roomOk, checkedAnswer, answerIf}
+use Rattle.hedge.specs.Hedge.{hedgeAnswer, hedgeBytes, listIf}
 
 -- eight bytes a row and column are 64 bits
 pub values-small : (w n : ℕ) → w ≤ 64 → n ≤ 1024 → 8 * w * n ≤ 524288

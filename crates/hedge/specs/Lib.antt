@@ -1,2 +1,1 @@
 pub mod Hedge
-pub mod Calls

@@ -5,8 +5,10 @@ ghost use Prim.Native.Nat.{ℕ, _+_, _*_, _/_, _%_, _≤_, _<_, min};
 ghost use mathlib.Core.List.{List, [], _∷_};
 ghost use lib.Dec.{eqb};
 ghost use lib.ListN.{length, getD};
+ghost use Rattle.checking.specs.Check.{checkAnswer};
 ghost use Rattle.checking.specs.Checked.{Checked};
-ghost use Rattle.checking.specs.Tree.{treeCount};
+ghost use Rattle.checking.specs.Tree.{Counted, treeCount};
+ghost use Rattle.checking.specs.declared.check.CheckAnswer.the-variants.{Accepted};
 ghost use Rattle.file_blocks.specs.Format.{overwrite};
 ghost use Rattle.row_test.specs.declared.test.RowAnswer.{RowAnswer};
 ghost use Rattle.chain_rows.specs.Chain.{answerAt};
@@ -98,7 +100,10 @@ fn list_checked(
     list_rows(classes, nulls.len(), list, tally)
 }
 
-fn list_within(
+// The screen was checked: its refusal, or the list. A function of its own with two callers, so that the tables of judging
+// take no stack while the screen is checked.
+fn list_answered(
+    answer: CheckAnswer,
     table: &[u8],
     records: &[u8],
     pool: &[u8],
@@ -108,11 +113,11 @@ fn list_within(
     nulls: &[u64],
     list: &mut [u8],
     tally: Tally,
-    types: &mut [u8],
-    trees: &mut [u16],
+    trees: &[u16],
     classes: &mut [u8],
 ) -> HedgeAnswer
-    requires { ⌜ (used ≤ 4096 → used ≤ length (now types)) ⌝ }
+    requires { ⌜ answer ≡ checkAnswer (now table) (now records) (now pool) used root ⌝ }
+    requires { ⌜ (answer ≡ Accepted → Counted (now records) (now trees) used) ⌝ }
     requires { ⌜ (used ≤ 4096 → used ≤ length (now trees)) ⌝ }
     requires { ⌜ 1024 ≤ length (now classes) ⌝ }
     ensures { λ r. ⌜ r ≡ hedgeAnswer (now (table .entry)) (now (records .entry)) (now (pool .entry)) used root
@@ -120,7 +125,6 @@ fn list_within(
     ensures { λ _. ⌜ now (list .exit) ≡ hedgeBytes (now (table .entry)) (now (records .entry)) (now (pool .entry)) used root
         (now (values .entry)) (now (nulls .entry)) (now (list .entry)) tally ⌝ }
 {
-    let answer = check_counted(table, records, pool, used, root, types, trees);
     match answer {
         CheckAnswer::Refused(number) => HedgeAnswer::Refused(number),
         CheckAnswer::Accepted => list_checked(
@@ -139,7 +143,8 @@ fn list_within(
     }
 }
 
-// The screen is checked once; then all rows, and only then is the list written.
+// The screen is checked once; then all rows, and only then is the list written. Most screens have few records, and small
+// tables cost less to clear.
 pub fn hedge_list(
     table: &[u8],
     records: &[u8],
@@ -156,10 +161,31 @@ pub fn hedge_list(
     ensures { λ _. ⌜ now (list .exit) ≡ hedgeBytes (now (table .entry)) (now (records .entry)) (now (pool .entry)) used root
         (now (values .entry)) (now (nulls .entry)) (now (list .entry)) tally ⌝ }
 {
+    let mut classes = [0u8; 1024];
+    if used <= 64 {
+        let mut few = [0u8; 64];
+        let mut small = [0u16; 64];
+        let first = check_counted(table, records, pool, used, root, &mut few, &mut small);
+        return list_answered(
+            first,
+            table,
+            records,
+            pool,
+            used,
+            root,
+            values,
+            nulls,
+            list,
+            tally,
+            &small,
+            &mut classes,
+        );
+    }
     let mut types = [0u8; 4096];
     let mut trees = [0u16; 4096];
-    let mut classes = [0u8; 1024];
-    list_within(
+    let answer = check_counted(table, records, pool, used, root, &mut types, &mut trees);
+    list_answered(
+        answer,
         table,
         records,
         pool,
@@ -169,8 +195,7 @@ pub fn hedge_list(
         nulls,
         list,
         tally,
-        &mut types,
-        &mut trees,
+        &trees,
         &mut classes,
     )
 }

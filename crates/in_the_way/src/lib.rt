@@ -1,6 +1,4 @@
-// The one line in the way (02, 2.9), as the C call gives it. The call stands here and not in crate `screen`, so that it is an object
-// of its own: in one object with rewriting the functions of the merging would have a second caller, and the compiler would no
-// longer inline them there.
+// The one line in the way (02, 2.9) of a screen without symbols, as the C call of crate `way_symbols` gives it.
 ghost use mathlib.Core.Path.{_≡_};
 ghost use mathlib.Core.Bool.{true};
 ghost use Rattle.way_answer.specs.Answer.{wayAnswer};
@@ -10,8 +8,7 @@ use way_answer::line_in_the_way;
 
 // Below 256: the refusal's number, and nothing is written. 256: a row passes already. 257: no row passes, and `line` has the first
 // line whose removal makes some row pass. 258: no row passes, whichever single line is removed.
-#[no_mangle]
-pub extern "C" fn screen_line_in_the_way(
+pub fn line_of_screen(
     table: &[u8],
     records: &[u8],
     pool: &[u8],

@@ -66,6 +66,7 @@ pub fn merge_indexed(
         (nodesText (now (t .entry)) (now (rs .entry)) (now (p .entry)) (now (nodes .entry)) n) ⌝ }
 {
     let mut index = [0u64; 24576];
+    let none = [0u8; 0];
     make_index(starts, counts, p, &mut index);
     merge_filter_constraints(
         t,
@@ -86,6 +87,9 @@ pub fn merge_indexed(
         lefts,
         rights,
         equals,
+        values,
+        &none,
+        &none,
         reasons,
     )
 }

@@ -79,6 +79,7 @@ fn merge_few_read(
         );
     }
     let none = [0u64; 1];
+    let empty = [0u8; 0];
     merge_filter_constraints(
         t,
         rs,
@@ -98,6 +99,9 @@ fn merge_few_read(
         lefts,
         rights,
         equals,
+        values,
+        &empty,
+        &empty,
         reasons,
     )
 }
@@ -223,6 +227,7 @@ fn merge_many_read(
         );
     }
     let none = [0u64; 1];
+    let empty = [0u8; 0];
     merge_filter_constraints(
         t,
         rs,
@@ -242,6 +247,9 @@ fn merge_many_read(
         lefts,
         rights,
         equals,
+        values,
+        &empty,
+        &empty,
         reasons,
     )
 }

@@ -1,5 +1,5 @@
 // Runs the recorded screens of standard input and writes the answers, one line a screen; `rt check` holds them to the file
-// stdout beside src/. tools/record wrote both and says in which format: five lines of hex a screen, in blocks of 65,536 bytes.
+// stdout beside src/. tools/record wrote both and says in which format: six lines of hex a screen, in blocks of 65,536 bytes.
 ghost use Prim.Native.Nat.{_+_, _*_, _<_, _≤_};
 ghost use lib.ListN.{length};
 
@@ -107,14 +107,15 @@ fn print_number(x: u64) {
 }
 
 // Checking and columns read, whose out-parameters stand at 7 and 9 before the call.
-fn check_and_columns(table: &[u8], records: &[u8], pool: &[u8], used: u64, root: u64) {
+fn check_and_columns(table: &[u8], records: &[u8], pool: &[u8], text: &[u8], used: u64, root: u64) {
     let mut columns: u64 = 7;
     let mut count: u64 = 9;
-    let checked = screen_rows::screen_check(table, records, pool, used, root);
+    let checked = screen_rows::screen_check(table, records, pool, text, used, root);
     let read = screen_rows::screen_columns_read(
         table,
         records,
         pool,
+        text,
         used,
         root,
         &mut columns,
@@ -127,11 +128,11 @@ fn check_and_columns(table: &[u8], records: &[u8], pool: &[u8], used: u64, root:
     io::write_all(1, b"\n");
 }
 
-fn test_row(table: &[u8], records: &[u8], pool: &[u8], row: &[u8], head: &[u8]) {
+fn test_row(table: &[u8], records: &[u8], pool: &[u8], text: &[u8], row: &[u8], head: &[u8]) {
     let used = number_at(head, 1);
     let root = number_at(head, 9);
     let nulls = number_at(head, 17);
-    let answer = screen_rows::screen_test_row(table, records, pool, used, root, row, nulls);
+    let answer = screen_rows::screen_test_row(table, records, pool, text, used, root, row, nulls);
     io::print_decimal(1, wide(answer));
     io::write_all(1, b"\n");
 }
@@ -159,16 +160,17 @@ fn print_bytes(s: &[u8], from: usize, to: usize) {
 
 // Rewriting, whose out-parameters stand at 7, 9, 11 and 13 before the call; then the records that were added. There is room
 // for every text of reasons, which is held to a model elsewhere (tools/compare).
-fn rewrite(table: &[u8], records: &mut [u8], pool: &[u8], used: u64, root: u64) {
+fn rewrite(table: &[u8], records: &mut [u8], pool: &[u8], text: &[u8], used: u64, root: u64) {
     let mut new_root: u64 = 7;
     let mut new_used: u64 = 9;
     let mut passes: u64 = 11;
     let mut reasons_used: u64 = 13;
-    let mut reasons = [0u8; 34816];
+    let mut reasons = [0u8; 48128];
     let answer = screen::screen_rewrite(
         table,
         records,
         pool,
+        text,
         used,
         root,
         &mut reasons,
@@ -189,17 +191,31 @@ fn rewrite(table: &[u8], records: &mut [u8], pool: &[u8], used: u64, root: u64) 
 }
 
 // The call that the first byte of head names: 1 checking and columns read, 2 the row test, 3 rewriting.
-fn call(table: &[u8], records: &mut [u8], pool: &[u8], row: &[u8], head: &[u8]) {
+fn call(table: &[u8], records: &mut [u8], pool: &[u8], text: &[u8], row: &[u8], head: &[u8]) {
     let name = records::bytes::byte(head, 0);
     if name == 1 {
-        check_and_columns(table, records, pool, number_at(head, 1), number_at(head, 9));
+        check_and_columns(
+            table,
+            records,
+            pool,
+            text,
+            number_at(head, 1),
+            number_at(head, 9),
+        );
         return;
     }
     if name == 2 {
-        test_row(table, records, pool, row, head);
+        test_row(table, records, pool, text, row, head);
         return;
     }
-    rewrite(table, records, pool, number_at(head, 1), number_at(head, 9));
+    rewrite(
+        table,
+        records,
+        pool,
+        text,
+        number_at(head, 1),
+        number_at(head, 9),
+    );
 }
 
 // One screen, whose first line is in head: its answers are written. Answers where the next screen starts.
@@ -210,19 +226,23 @@ fn replay(src: &[u8], from: usize, head: &[u8]) -> usize
     let mut table = [0u8; 80];
     let mut records = [0u8; 2048];
     let mut pool = [0u8; 1024];
+    let mut text = [0u8; 64];
     let mut row = [0u8; 640];
     let t = read_line(src, from, &mut table);
     let r = read_line(src, t.next, &mut records);
     let p = read_line(src, r.next, &mut pool);
-    let w = read_line(src, p.next, &mut row);
+    let x = read_line(src, p.next, &mut text);
+    let w = read_line(src, x.next, &mut row);
     let tn = t.len;
     let rn = r.len;
     let pn = p.len;
+    let xn = x.len;
     let wn = w.len;
     call(
         &table[..tn],
         &mut records[..rn],
         &pool[..pn],
+        &text[..xn],
         &row[..wn],
         head,
     );

@@ -1,6 +1,6 @@
-// Rewriting a screen with symbols (02, 2.10): 8 and 9, then the merging of its screen of ranks.
+// The merging of an accepted screen with symbols (02, 2.10), by its screen of ranks.
 ghost use mathlib.Core.Path.{_≡_};
-ghost use Prim.Native.Nat.{ℕ, _*_, _≤_, _<_, min};
+ghost use Prim.Native.Nat.{ℕ, _*_, _≤_, min};
 ghost use lib.ListN.{length, getD};
 ghost use Rattle.checking.specs.Check.{checkAnswerIn};
 ghost use Rattle.checking.specs.Tree.{treeCount};
@@ -11,10 +11,7 @@ ghost use Rattle.read_operands.specs.Walk.{walked, firstOf};
 ghost use Rattle.symbol_screens.specs.Placed.{placeCount};
 ghost use Rattle.symbol_screens.specs.Rewriting.{lent};
 ghost use Rattle.symbol_merge.specs.Explains.{Explains};
-use filter_constraint::merging::with_passes;
-use merge::answer::RewriteAnswer;
 use merge::answer::Rewriting;
-use minterm_iter::minterms;
 use ranked_screen::rank::rank_screen;
 use records::record::Node;
 use symbol_merge::merge_symbols;
@@ -156,8 +153,8 @@ fn merge_large(
     )
 }
 
-// 9, then the merging, in tables as large as the screen needs.
-fn merge_sized(
+/// The merging of the first n nodes, the conjuncts of an accepted screen with symbols, in tables as large as the screen needs.
+pub fn merge_sized(
     t: &[u8],
     rs: &mut [u8],
     p: &[u8],
@@ -165,48 +162,23 @@ fn merge_sized(
     used: u32,
     root: Node,
     trees: &[u16],
+    nodes: &[u32],
+    n: usize,
     reasons: &mut [u8],
 ) -> Rewriting
     requires accepted { ⌜ checkAnswerIn (lent (now text)) (now t) (now rs) (now p) used (root .0) ≡ check.Accepted ⌝ }
     requires counted { ⌜ ((a : ℕ) → a ≤ root .0 → getD (now trees) a 0 ≡ min (treeCount (now rs) a) 4097) ⌝ }
     requires small { ⌜ treeCount (now rs) (root .0) ≤ 4096 ⌝ }
+    requires walked { ⌜ firstOf (now nodes) n ≡ minterms (walked (now rs)) (root .0) ⌝ }
+    requires there { ⌜ (n ≤ 128) × (n ≤ length (now nodes)) ⌝ }
     ensures explains { λ r. ⌜ (AreBytes (now (text .entry)) → Explains (now (text .entry)) (now (t .entry)) (now (rs .entry))
         (now (p .entry)) used (root .0) (now (reasons .entry)) r (now (rs .exit)) (now (reasons .exit))) ⌝ }
 {
-    let mut nodes = [0u32; 128];
-    let n = minterms(rs, root, &mut nodes);
-    if 128 < n {
-        return with_passes(RewriteAnswer::Refused(9), 0, 0);
-    }
     if 64 < used {
-        return merge_large(t, rs, p, text, used, root, trees, &nodes, n, reasons);
+        return merge_large(t, rs, p, text, used, root, trees, nodes, n, reasons);
     }
     if 512 < p.len() {
-        return merge_large(t, rs, p, text, used, root, trees, &nodes, n, reasons);
+        return merge_large(t, rs, p, text, used, root, trees, nodes, n, reasons);
     }
-    merge_small(t, rs, p, text, used, root, trees, &nodes, n, reasons)
-}
-
-/// An accepted screen with symbols: 8, and the rest. `trees` has the tree counts of its records.
-pub fn rewrite_symbols(
-    t: &[u8],
-    rs: &mut [u8],
-    p: &[u8],
-    text: &[u8],
-    used: u32,
-    root: Node,
-    trees: &[u16],
-    reasons: &mut [u8],
-) -> Rewriting
-    requires accepted { ⌜ checkAnswerIn (lent (now text)) (now t) (now rs) (now p) used (root .0) ≡ check.Accepted ⌝ }
-    requires counted { ⌜ ((a : ℕ) → a ≤ root .0 → getD (now trees) a 0 ≡ min (treeCount (now rs) a) 4097) ⌝ }
-    requires there { ⌜ root .0 < length (now trees) ⌝ }
-    ensures explains { λ r. ⌜ (AreBytes (now (text .entry)) → Explains (now (text .entry)) (now (t .entry)) (now (rs .entry))
-        (now (p .entry)) used (root .0) (now (reasons .entry)) r (now (rs .exit)) (now (reasons .exit))) ⌝ }
-{
-    let top = trees[root.0 as usize];
-    if 4096 < top {
-        return with_passes(RewriteAnswer::Refused(8), 0, 0);
-    }
-    merge_sized(t, rs, p, text, used, root, trees, reasons)
+    merge_small(t, rs, p, text, used, root, trees, nodes, n, reasons)
 }

@@ -1,2 +1,2 @@
-pub mod Promised
+pub mod Called
 pub mod Slowest

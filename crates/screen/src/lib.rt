@@ -4,12 +4,12 @@
 ghost use mathlib.Core.Path.{_≡_};
 ghost use mathlib.Core.Bool.{true};
 ghost use Rattle.rewrite_number.specs.Answers.{rewriteNumber, newRootOut, newUsedOut, passesOut, reasonsUsedOut};
-ghost use Rattle.merge.specs.Passes.{rewritePasses};
-ghost use Rattle.reasons.specs.Explained.{explainedAnswer, explainedBytes, explainedText, textIf};
+ghost use Rattle.reasons.specs.Explained.{textIf};
+ghost use Rattle.symbol_screens.specs.Rewriting.{rewritePassesWith};
+ghost use Rattle.symbol_reasons.specs.Explained.{explainedAnswerWith, explainedBytesWith, explainedTextWith};
 ghost use Rattle.rewrite_promise.specs.Listed.{rewriteListed};
-ghost use Rattle.rewrite_promise.specs.Promises.{returned, BytesKept};
+ghost use Rattle.rewrite_promise.specs.Promises.{returned, BytesKept, RewritePromiseWith};
 ghost use Rattle.screen.specs.Listed.{slowestListed};
-ghost use Rattle.screen.specs.Promises.{RewritePromise};
 ghost use lib.ListN.{length};
 ghost use Rattle.slowest.specs.Answers.{slowestAnswer, tableWritten, recordsWritten};
 ghost use Rattle.slowest.specs.Calls.{slowestNumber, builtRoot, builtUsed, SlowestPromise};
@@ -27,6 +27,7 @@ pub extern "C" fn screen_rewrite(
     table: &[u8],
     records: &mut [u8],
     pool: &[u8],
+    text: &[u8],
     used: u64,
     root: u64,
     reasons: &mut [u8],
@@ -35,30 +36,32 @@ pub extern "C" fn screen_rewrite(
     reasons_used: &mut u64,
     passes: &mut u64,
 ) -> u32
-    ensures answer { λ r. ⌜ r ≡ rewriteNumber (explainedAnswer (now (table .entry)) (now (records .entry))
-        (now (pool .entry)) used root (length (now (reasons .entry)))) ⌝ }
+    ensures answer { λ r. ⌜ r ≡ rewriteNumber (explainedAnswerWith (now (text .entry)) (now (table .entry))
+        (now (records .entry)) (now (pool .entry)) used root (length (now (reasons .entry)))) ⌝ }
     ensures listed { λ r. ⌜ rewriteListed r ≡ true ⌝ }
-    ensures root { λ _. ⌜ now («new_root» .exit) ≡ newRootOut (explainedAnswer (now (table .entry)) (now (records .entry))
-        (now (pool .entry)) used root (length (now (reasons .entry)))) (now («new_root» .entry)) ⌝ }
-    ensures used { λ _. ⌜ now («new_used» .exit) ≡ newUsedOut (explainedAnswer (now (table .entry)) (now (records .entry))
-        (now (pool .entry)) used root (length (now (reasons .entry)))) (now («new_used» .entry)) ⌝ }
-    ensures bytes { λ _. ⌜ now (records .exit) ≡ explainedBytes (now (table .entry)) (now (records .entry))
-        (now (pool .entry)) used root (length (now (reasons .entry))) ⌝ }
+    ensures root { λ _. ⌜ now («new_root» .exit) ≡ newRootOut (explainedAnswerWith (now (text .entry)) (now (table .entry))
+        (now (records .entry)) (now (pool .entry)) used root (length (now (reasons .entry)))) (now («new_root» .entry)) ⌝ }
+    ensures used { λ _. ⌜ now («new_used» .exit) ≡ newUsedOut (explainedAnswerWith (now (text .entry)) (now (table .entry))
+        (now (records .entry)) (now (pool .entry)) used root (length (now (reasons .entry)))) (now («new_used» .entry)) ⌝ }
+    ensures bytes { λ _. ⌜ now (records .exit) ≡ explainedBytesWith (now (text .entry)) (now (table .entry))
+        (now (records .entry)) (now (pool .entry)) used root (length (now (reasons .entry))) ⌝ }
     ensures kept { λ r. ⌜ BytesKept (now (records .entry)) (now (records .exit)) used
         (returned r used (now («new_used» .exit))) ⌝ }
-    ensures text { λ _. ⌜ now (reasons .exit) ≡ textIf (explainedAnswer (now (table .entry)) (now (records .entry))
-        (now (pool .entry)) used root (length (now (reasons .entry)))) (now (reasons .entry))
-        (explainedText (now (records .entry)) (now (pool .entry)) used root) ⌝ }
-    ensures length { λ _. ⌜ now («reasons_used» .exit) ≡ reasonsUsedOut (explainedAnswer (now (table .entry))
-        (now (records .entry)) (now (pool .entry)) used root (length (now (reasons .entry))))
-        (explainedText (now (records .entry)) (now (pool .entry)) used root) (now («reasons_used» .entry)) ⌝ }
-    ensures passes { λ _. ⌜ now (passes .exit) ≡ passesOut (explainedAnswer (now (table .entry)) (now (records .entry))
-        (now (pool .entry)) used root (length (now (reasons .entry)))) (rewritePasses (now (records .entry))
-        (now (pool .entry)) used root) (now (passes .entry)) ⌝ }
-    ensures promise { λ r. ⌜ RewritePromise (now (table .entry)) (now (records .entry)) (now (pool .entry)) used root r
-        (now (records .exit)) (now («new_root» .exit)) (now («new_used» .exit)) (now (passes .exit)) ⌝ }
+    ensures text { λ _. ⌜ now (reasons .exit) ≡ textIf (explainedAnswerWith (now (text .entry)) (now (table .entry))
+        (now (records .entry)) (now (pool .entry)) used root (length (now (reasons .entry)))) (now (reasons .entry))
+        (explainedTextWith (now (text .entry)) (now (records .entry)) (now (pool .entry)) used root) ⌝ }
+    ensures length { λ _. ⌜ now («reasons_used» .exit) ≡ reasonsUsedOut (explainedAnswerWith (now (text .entry))
+        (now (table .entry)) (now (records .entry)) (now (pool .entry)) used root (length (now (reasons .entry))))
+        (explainedTextWith (now (text .entry)) (now (records .entry)) (now (pool .entry)) used root)
+        (now («reasons_used» .entry)) ⌝ }
+    ensures passes { λ _. ⌜ now (passes .exit) ≡ passesOut (explainedAnswerWith (now (text .entry)) (now (table .entry))
+        (now (records .entry)) (now (pool .entry)) used root (length (now (reasons .entry)))) (rewritePassesWith
+        (now (text .entry)) (now (records .entry)) (now (pool .entry)) used root) (now (passes .entry)) ⌝ }
+    ensures promise { λ r. ⌜ RewritePromiseWith (now (text .entry)) (now (table .entry)) (now (records .entry))
+        (now (pool .entry)) used root r (now (records .exit)) (now («new_root» .exit)) (now («new_used» .exit))
+        (now (passes .exit)) ⌝ }
 {
-    let rewriting = rewrite_screen(table, records, pool, used, root, reasons);
+    let rewriting = rewrite_screen(table, records, pool, text, used, root, reasons);
     let answer = rewriting.answer;
     put_answer(
         answer,

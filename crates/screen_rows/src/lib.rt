@@ -3,18 +3,19 @@
 // its arguments.
 ghost use mathlib.Core.Path.{_≡_};
 ghost use mathlib.Core.Bool.{true};
-ghost use Rattle.checking.specs.Check.{checkAnswer};
-ghost use Rattle.checking.specs.Columns.{columnsAnswer};
-ghost use Rattle.row_test.specs.RowTest.{testRowAnswer};
+ghost use Rattle.checking.specs.Check.{checkAnswerIn};
+ghost use Rattle.symbol_screens.specs.Rewriting.{lent};
+ghost use Rattle.symbol_rows.specs.ColumnsWith.{columnsAnswerIn};
+ghost use Rattle.symbol_rows.specs.RowTestWith.{testRowAnswerWith};
 ghost use Rattle.screen_rows.specs.Answers.{checkNumber, columnsNumber, columnsOut, countOut, rowNumber, truthNumber};
 ghost use Rattle.screen_rows.specs.Listed.{checkListed, columnsListed, rowListed};
 ghost use Rattle.screen_rows.specs.Promises.{ColumnsPromise};
+use check_lent::check_lent;
 use checking::check::CheckAnswer;
-use checking::check::check_screen;
 use checking::reads::ColumnsAnswer;
-use checking::reads::columns_read;
 use row_test::test::RowAnswer;
-use row_test::test::test_row;
+use symbol_reads::columns_read_with;
+use symbol_row_test::test_row_with;
 use three_valued::logic::Truth;
 
 // Below 256: the refusal's number. 256: accepted.
@@ -23,13 +24,15 @@ pub extern "C" fn screen_check(
     table: &[u8],
     records: &[u8],
     pool: &[u8],
+    text: &[u8],
     used: u64,
     root: u64,
 ) -> u32
-    ensures answer { λ r. ⌜ r ≡ checkNumber (checkAnswer (now (table .entry)) (now (records .entry)) (now (pool .entry)) used root) ⌝ }
+    ensures answer { λ r. ⌜ r ≡ checkNumber (checkAnswerIn (lent (now (text .entry))) (now (table .entry))
+        (now (records .entry)) (now (pool .entry)) used root) ⌝ }
     ensures listed { λ r. ⌜ checkListed r ≡ true ⌝ }
 {
-    match check_screen(table, records, pool, used, root) {
+    match check_lent(table, records, pool, text.len(), used, root) {
         CheckAnswer::Refused(k) => k,
         CheckAnswer::Accepted => 256,
     }
@@ -42,18 +45,22 @@ pub extern "C" fn screen_columns_read(
     table: &[u8],
     records: &[u8],
     pool: &[u8],
+    text: &[u8],
     used: u64,
     root: u64,
     columns: &mut u64,
     count: &mut u64,
 ) -> u32
-    ensures answer { λ r. ⌜ r ≡ columnsNumber (columnsAnswer (now (table .entry)) (now (records .entry)) (now (pool .entry)) used root) ⌝ }
+    ensures answer { λ r. ⌜ r ≡ columnsNumber (columnsAnswerIn (lent (now (text .entry))) (now (table .entry))
+        (now (records .entry)) (now (pool .entry)) used root) ⌝ }
     ensures listed { λ r. ⌜ columnsListed r ≡ true ⌝ }
-    ensures word { λ _. ⌜ now (columns .exit) ≡ columnsOut (columnsAnswer (now (table .entry)) (now (records .entry)) (now (pool .entry)) used root) (now (columns .entry)) ⌝ }
-    ensures ones { λ _. ⌜ now (count .exit) ≡ countOut (columnsAnswer (now (table .entry)) (now (records .entry)) (now (pool .entry)) used root) (now (count .entry)) ⌝ }
+    ensures word { λ _. ⌜ now (columns .exit) ≡ columnsOut (columnsAnswerIn (lent (now (text .entry)))
+        (now (table .entry)) (now (records .entry)) (now (pool .entry)) used root) (now (columns .entry)) ⌝ }
+    ensures ones { λ _. ⌜ now (count .exit) ≡ countOut (columnsAnswerIn (lent (now (text .entry)))
+        (now (table .entry)) (now (records .entry)) (now (pool .entry)) used root) (now (count .entry)) ⌝ }
     ensures promise { λ r. ⌜ ColumnsPromise (now (records .entry)) root r (now (columns .exit)) (now (count .exit)) ⌝ }
 {
-    match columns_read(table, records, pool, used, root) {
+    match columns_read_with(table, records, pool, text, used, root) {
         ColumnsAnswer::Refused(k) => k,
         ColumnsAnswer::Read(word, number) => {
             *columns = word;
@@ -79,16 +86,17 @@ pub extern "C" fn screen_test_row(
     table: &[u8],
     records: &[u8],
     pool: &[u8],
+    text: &[u8],
     used: u64,
     root: u64,
     row: &[u8],
     nulls: u64,
 ) -> u32
-    ensures answer { λ r. ⌜ r ≡ rowNumber (testRowAnswer (now (table .entry)) (now (records .entry)) (now (pool .entry)) used root
-        (now (row .entry)) nulls) ⌝ }
+    ensures answer { λ r. ⌜ r ≡ rowNumber (testRowAnswerWith (now (text .entry)) (now (table .entry)) (now (records .entry))
+        (now (pool .entry)) used root (now (row .entry)) nulls) ⌝ }
     ensures listed { λ r. ⌜ rowListed r ≡ true ⌝ }
 {
-    match test_row(table, records, pool, used, root, row, nulls) {
+    match test_row_with(table, records, pool, text, used, root, row, nulls) {
         RowAnswer::Refused(k) => k,
         RowAnswer::Tested(t) => truth_number(t),
     }

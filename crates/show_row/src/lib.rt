@@ -1,6 +1,5 @@
 // Show me a row (02, 2.7): the checks in their order, 8, 9, 17 and 14 among them, then the row that the resolved columns
-// give.
-// The call stands in an object of its own, as the line in the way does.
+// give. All of a screen without symbols: the C call stands in crate `show_symbols`.
 ghost use mathlib.Core.Path.{_≡_};
 ghost use mathlib.Core.Bool.{true};
 ghost use Prim.Native.Nat.{ℕ, _/_, _≤_, _<_, min};
@@ -196,8 +195,7 @@ fn show_row(t: &[u8], rs: &[u8], p: &[u8], used: u64, root: u64, row: &mut [u8])
 
 // Below 256: the refusal's number, and nothing is written. 256: no row passes, and nothing is written. 257: the first 16
 // bytes a column of `row`, and `nulls`, are a row that passes.
-#[no_mangle]
-pub extern "C" fn screen_show_row(
+pub fn show_of_screen(
     table: &[u8],
     records: &[u8],
     pool: &[u8],

@@ -3,7 +3,7 @@ use mathlib.Core.Path.{_≡_, refl, sym, _∙_, ap}
 use mathlib.Core.Bool.{Bool, true, false, cond}
 use mathlib.Core.List.{List}
 use mathlib.Core.Option.{Option, none, some}
-use Prim.Native.Nat.{ℕ, _/_}
+use Prim.Native.Nat.{ℕ, _/_, _≤_}
 use lib.Dec.{ltb}
 use lib.ListN.{length}
 use Rattle.checking.specs.Check.{checkAnswerIn}
@@ -27,6 +27,8 @@ use Rattle.numbered_screen.proofs.Checking.{numbers-checked}
 use Rattle.numbered_screen.proofs.Reading.{numbers-read, trees-same}
 use Rattle.plain_symbols.specs.Refusal.{refusalNumber, plainRefusalWith}
 use Rattle.plain_symbols.proofs.Refusals.{plain-numbers, PlainWith}
+use Rattle.symbol_screens.proofs.NumbersChecked.{NoText}
+use Rattle.own_numbers.proofs.Own.{check-as-ever}
 use Rattle.show_symbols.specs.Answer.{showAnswerWith}
 
 -- 8, 9, 17 and the rest.
@@ -57,6 +59,12 @@ module _ (text t rs p : List ℕ) (used root room : ℕ) where
       refused (checkAnswerIn (lent text) t rs p used root) (ltb 4096 (treeCount rs root))
       (ltb 128 (length (minterms (aexprAt rs p used) root))) (plainScreen t (aexprAt rs p used) root)
       (rowOf (aexprAt rs p used) root room (length t)) k e n
+
+  -- without symbols
+  pub show-as-ever : NoText t rs used → length text ≤ 8192
+      → showAnswer t rs p used root room ≡ showAnswerWith text t rs p used root room
+  unfolding showAnswer showAnswerWith
+  show-as-ever free h = sym (ap (λ a. showIf a (showChecked t rs p used root room)) (check-as-ever t rs used free text p root h))
 
   show-plain : PlainWith text t rs p used root
       → showAnswerWith text t rs p used root room ≡ rowOf (aexprAt rs p used) root room (length t)

@@ -1,20 +1,24 @@
--- The ends of the call: a refusal, and what the screen's numbers show.
-use mathlib.Core.Path.{_≡_, refl, sym, _∙_, ap}
+-- The ends of the call: a refusal, what the screen's numbers show, and what a screen without symbols does.
+use mathlib.Core.Path.{_≡_, refl, sym, _∙_, ap, subst}
 use mathlib.Core.Bool.{true}
 use mathlib.Core.List.{List}
 use Prim.Native.Nat.{ℕ, _≤_, _<_}
 use native.Mathlib.Omega.{arith}
 use lib.ListN.{length}
 use Rattle.checking.proofs.Accepted.{checked-in}
+use Rattle.show_row.specs.declared.answer.ShowAnswer.{ShowAnswer}
+use Rattle.show_row.specs.declared.answer.ShowAnswer.the-variants as show
 use Rattle.show_row.specs.Answer.{showAnswer}
 use Rattle.show_row.specs.Calls.{showNumber, showListed, rowOut, nullsOut, screenBytes, ShowPromise}
 use Rattle.numbered_screen.specs.Numbered.{Numbered}
 use Rattle.symbol_screens.specs.Rewriting.{lent}
+use Rattle.symbol_screens.proofs.NumbersChecked.{NoText}
+use Rattle.own_numbers.proofs.Own.{own-or-refused}
 use Rattle.plain_symbols.specs.Refusal.{refusalNumber, plainRefusalWith}
 use Rattle.plain_symbols.proofs.Refusals.{columns-few, PlainWith, not-refused-with, refusal-has}
 use Rattle.show_symbols.specs.Answer.{showAnswerWith}
 use Rattle.show_symbols.specs.Promise.{ShowPromiseWith}
-use Rattle.show_symbols.proofs.Answers.{show-refused, show-alike, bytes-alike}
+use Rattle.show_symbols.proofs.Answers.{show-refused, show-alike, show-as-ever, bytes-alike}
 use Rattle.show_symbols.proofs.Promised.{promise-refused, promise-told}
 
 module _ (text t rs p : List ℕ) (used root : ℕ) where
@@ -74,3 +78,19 @@ module _ (text t rs p : List ℕ) (used root : ℕ) where
           ),
         ),
       )
+
+  pub end-as-ever : NoText t rs used → length text ≤ 8192 → (r : ℕ) (before row : List ℕ) (old nulls : ℕ)
+      → r ≡ showNumber (showAnswer t rs p used root (length before)) → showListed r ≡ true
+      → row ≡ rowOut (showAnswer t rs p used root (length before)) (screenBytes t rs p used root) before
+      → nulls ≡ nullsOut (showAnswer t rs p used root (length before)) old
+      → ShowPromise t rs p used root r before row nulls → Told r before row old nulls
+  end-as-ever free h r before row old nulls e l f g w =
+      own-or-refused t rs used free text p root (Told r before row old nulls)
+      (λ z are. end-told t rs are z r before row old nulls e l f g w)
+      (λ k q n.
+      let d : showAnswer t rs p used root (length before) ≡ show.Refused k =
+      show-as-ever text t rs p used root (length before) free h
+      ∙ sym (show-refused text t rs p used root (length before) k q n) in
+      subst (λ x. Told x before row old nulls) (sym (e ∙ ap showNumber d))
+      (subst (λ x. Told k before x old nulls) (sym (f ∙ ap (λ a. rowOut a (screenBytes t rs p used root) before) d))
+      (subst (λ x. Told k before before old x) (sym (g ∙ ap (λ a. nullsOut a old) d)) (end-refused k before old q n))))

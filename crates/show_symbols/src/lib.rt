@@ -1,4 +1,5 @@
 // Show me a row (02, 2.7) of a screen beside which a text pool is lent (02, 2.10): what the screen's numbers show.
+// The call stands in an object of its own, as the line in the way does.
 ghost use mathlib.Core.Path.{_≡_};
 ghost use mathlib.Core.Bool.{true};
 ghost use Prim.Native.Nat.{_*_, _≤_};
@@ -7,7 +8,8 @@ ghost use Rattle.show_row.specs.Calls.{showNumber, showListed, rowOut, nullsOut
 ghost use Rattle.show_symbols.specs.Answer.{showAnswerWith};
 ghost use Rattle.show_symbols.specs.Promise.{ShowPromiseWith};
 use plain_symbols::plain_numbers;
-use show_row::screen_show_row;
+use show_row::show_of_screen;
+use symbol_free::has_symbols;
 
 // `columns` and `numbers` are room for the screen's numbers.
 fn show_of_numbers(
@@ -39,7 +41,7 @@ fn show_of_numbers(
     if k != 0 {
         return k;
     }
-    screen_show_row(
+    show_of_screen(
         &columns[..table.len()],
         numbers,
         pool,
@@ -50,8 +52,8 @@ fn show_of_numbers(
     )
 }
 
-/// As `screen_show_row`, beside a text pool. Most screens have few records, and small tables cost less to clear.
-pub fn show_row_with(
+// It has two callers, so that its copies stand in a frame of their own, which a screen without symbols does not pay for.
+fn show_beside_text(
     table: &[u8],
     records: &[u8],
     pool: &[u8],
@@ -73,21 +75,6 @@ pub fn show_row_with(
         (now (pool .entry)) used root r (now (row .entry)) (now (row .exit)) (now (nulls .exit)) ⌝ }
 {
     let mut columns = [0u8; 64];
-    if used <= 64 {
-        let mut few = [0u8; 1024];
-        return show_of_numbers(
-            table,
-            records,
-            pool,
-            text,
-            used,
-            root,
-            row,
-            nulls,
-            &mut columns,
-            &mut few,
-        );
-    }
     let mut numbers = [0u8; 65536];
     show_of_numbers(
         table,
@@ -101,4 +88,38 @@ pub fn show_row_with(
         &mut columns,
         &mut numbers,
     )
+}
+
+// Below 256: the refusal's number, and nothing is written. 256: no row passes, and nothing is written. 257: the first 16
+// bytes a column of `row`, and `nulls`, are a row that passes. A screen without symbols goes past the copies: it is its own
+// numbers.
+#[no_mangle]
+pub extern "C" fn screen_show_row(
+    table: &[u8],
+    records: &[u8],
+    pool: &[u8],
+    text: &[u8],
+    used: u64,
+    root: u64,
+    row: &mut [u8],
+    nulls: &mut u64,
+) -> u32
+    ensures answer { λ r. ⌜ r ≡ showNumber (showAnswerWith (now (text .entry)) (now (table .entry)) (now (records .entry))
+        (now (pool .entry)) used root (length (now (row .entry)))) ⌝ }
+    ensures listed { λ r. ⌜ showListed r ≡ true ⌝ }
+    ensures row { λ _. ⌜ now (row .exit) ≡ rowOut (showAnswerWith (now (text .entry)) (now (table .entry))
+        (now (records .entry)) (now (pool .entry)) used root (length (now (row .entry)))) (screenBytes
+        (now (table .entry)) (now (records .entry)) (now (pool .entry)) used root) (now (row .entry)) ⌝ }
+    ensures nulls { λ _. ⌜ now (nulls .exit) ≡ nullsOut (showAnswerWith (now (text .entry)) (now (table .entry))
+        (now (records .entry)) (now (pool .entry)) used root (length (now (row .entry)))) (now (nulls .entry)) ⌝ }
+    ensures promise { λ r. ⌜ ShowPromiseWith (now (text .entry)) (now (table .entry)) (now (records .entry))
+        (now (pool .entry)) used root r (now (row .entry)) (now (row .exit)) (now (nulls .exit)) ⌝ }
+{
+    if 8192 < text.len() {
+        return show_beside_text(table, records, pool, text, used, root, row, nulls);
+    }
+    if has_symbols(table, records, used) {
+        return show_beside_text(table, records, pool, text, used, root, row, nulls);
+    }
+    show_of_screen(table, records, pool, used, root, row, nulls)
 }

@@ -20,7 +20,7 @@ use Rattle.truth.specs.declared.scalar.Ordering.{Ordering}
 use Rattle.truth.specs.declared.scalar.Ordering.the-variants.{Equal}
 use Rattle.truth.proofs.Orders.{total-z, cmp-refl}
 use Rattle.truth.specs.AExpr.{AExpr}
-use Rattle.truth.specs.FromBytes.{aexprOf, aexprAt}
+use Rattle.truth.specs.FromBytes.{aexprAt}
 use Rattle.symbols.specs.Symbol.{symbol, cmpBytes, orElse}
 use Rattle.symbols.proofs.Comparing.{short}
 use Rattle.constraints.specs.Bound.{Bound, at}
@@ -150,12 +150,9 @@ value-mapped f (IsNotEq v) = refl
 module _ (text t rs p : List ℕ) (used root : ℕ) (ok : CheckedIn (lent text) t rs p used root) (values ranks : List ℕ)
     (st : Standing (length text) rs p used values) (count : ℕ) (enough : placeCount p used ≤ count)
     (pooled : Pooled text values count) (ranked : Ranked text values count ranks)
-    (nodes : List ℕ) (n : ℕ) (are : readConjuncts (aexprAt rs p used) root ≡ map (classify (aexprOf rs p)) (firstOf nodes n))
-    (s : Conjuncts) (told : (i : ℕ) → i < n → ToldConjunct s i (classify (aexprOf rs p) (getD nodes i 0)))
+    (nodes : List ℕ) (n : ℕ) (R : ℕ → AExpr ℕ) (are : readConjuncts (aexprAt rs p used) root ≡ map (classify R) (firstOf nodes n))
+    (s : Conjuncts) (told : (i : ℕ) → i < n → ToldConjunct s i (classify R (getD nodes i 0)))
     (cs : List (ℕ × ColumnComparison LinedPlace)) where
-  abbrev R : ℕ → AExpr ℕ
-  R = aexprOf rs p
-
   abbrev Source : (ℕ × ColumnComparison LinedPlace) → Type 0
   Source x = Sourced text t rs p used root ok values ranks st count enough x
 

@@ -9,13 +9,13 @@ ghost use Rattle.hedge.specs.Hedge.{listIf};
 ghost use Rattle.symbol_screens.specs.Rewriting.{lent};
 ghost use Rattle.symbol_chain.specs.ChainWith.{answerAtWith};
 ghost use Rattle.symbol_hedge.specs.HedgeWith.{checkedHedgeWith, hedgeAnswerWith, hedgeBytesWith};
+use check_lent::check_lent_counted;
 use checking::check::CheckAnswer;
 use hedge::list::HedgeAnswer;
 use hedge::list::hedge_list;
 use hedge::list::list_rows;
 use records::record::Node;
 use symbol_chain::judge_symbols;
-use symbol_check::check_lent;
 use symbol_free::has_symbols;
 use symbol_reduction::reduce::copy_front;
 use tally::Tally;
@@ -101,7 +101,7 @@ fn list_within_with(
     ensures { λ _. ⌜ now (list .exit) ≡ hedgeBytesWith (now (text .entry)) (now (table .entry)) (now (records .entry))
         (now (pool .entry)) used root (now (values .entry)) (now (nulls .entry)) (now (list .entry)) tally ⌝ }
 {
-    let answer = check_lent(table, records, pool, text, used, root, types, trees);
+    let answer = check_lent_counted(table, records, pool, text.len(), used, root, types, trees);
     match answer {
         CheckAnswer::Refused(number) => HedgeAnswer::Refused(number),
         CheckAnswer::Accepted => list_checked_with(

@@ -2,7 +2,7 @@
 use mathlib.Core.Path.{_≡_, refl, sym, _∙_, ap, subst}
 use mathlib.Core.Bool.{Bool, true, false, cond, true≢false}
 use mathlib.Core.List.{List, [], _∷_, map}
-use Prim.Native.Nat.{ℕ, suc, _+_, _≤_, _<_, min}
+use Prim.Native.Nat.{ℕ, suc, _+_, _*_, _≤_, _<_, min}
 use native.Mathlib.Omega.{arith}
 use lib.Dec.{ltb}
 use lib.IntN.{ℤ}
@@ -14,6 +14,7 @@ use Rattle.checking.specs.Tree.{treeCount}
 use Rattle.checking.specs.declared.check.CheckAnswer.the-variants as check
 use Rattle.checking.proofs.Accepted.{checked-in}
 use Rattle.truth.specs.Halves.{ordZ, key}
+use Rattle.truth.proofs.Agree.{used-same}
 use Rattle.truth.proofs.Orders.{total-z}
 use Rattle.truth.specs.AExpr.{AExpr}
 use Rattle.truth.specs.FromBytes.{aexprOf, aexprAt, truthKeys}
@@ -42,10 +43,11 @@ use Rattle.merge.specs.declared.answer.RewriteAnswer.{RewriteAnswer}
 use Rattle.merge.specs.declared.answer.RewriteAnswer.the-variants as answer
 use Rattle.merge.specs.declared.answer.Rewriting.{Rewriting}
 use Rattle.merge.proofs.Chains.{Below}
+use Rattle.merge.proofs.Classified.{classify-same}
 use Rattle.merge.proofs.Demand.{halves}
 use Rattle.merge.proofs.Returned.{AnswerLt, answer-lt}
 use Rattle.read_operands.specs.Walk.{walked, firstOf}
-use Rattle.read_operands.proofs.Walks.{first-length}
+use Rattle.read_operands.proofs.Walks.{first-length, walked-minterms}
 use Rattle.reasons.specs.Explained.{refuseLong, textIf, lengthIf}
 use Rattle.reasons.specs.Text.{reasonsText}
 use Rattle.reckoning.specs.Reckon.{reckoned, reckonedAnswer}
@@ -54,6 +56,8 @@ use Rattle.stages.proofs.Reckons.{reckoned-rebuilt}
 use Rattle.stages.specs.Rewritten.{isRewritten}
 use Rattle.filter_constraint.specs.Concluded.{linedTo, Concluded}
 use Rattle.filter_constraint.proofs.Concluding.{Answered, answered-as, compared-some, without-lines, total-same}
+use Rattle.filter_constraint.specs.Merges.{Counts, Chained, Merges}
+use Rattle.filter_constraint.proofs.Converting.{shows-itself}
 use Rattle.filter_constraint.proofs.Explained.{explained-kept, explained-rebuilt, nothing-unwritten}
 use Rattle.symbol_screens.specs.Held.{bitsOf}
 use Rattle.symbol_screens.specs.Reading.{heldAt}
@@ -65,16 +69,18 @@ use Rattle.symbol_reasons.specs.Lined.{LinedHeld, linedOutcomeWith}
 use Rattle.symbol_reasons.proofs.Carried.{outcome-carried}
 use Rattle.ranked_screen.specs.Screen.{RanksOf}
 use Rattle.ranked_screen.proofs.Reading.{accepted-sizes}
-use Rattle.ranked_reading.proofs.Walking.{held-walked}
+use Rattle.ranked_reading.proofs.Walking.{held-walked, falls, minterms-below}
 use Rattle.ranked_reading.proofs.Conjuncts.{ranked-conjuncts, ranked-falls}
-use Rattle.ranked_reading.proofs.Merged.{held-conjuncts, ranks-alike}
+use Rattle.ranked_reading.proofs.Merged.{ranks-alike}
 use Rattle.symbol_sources.specs.Sources.{LinedPlace, comparisonsOf}
-use Rattle.symbol_sources.proofs.Sources.{rankOn, heldOn, bits-conjuncts, merged, ranks-merged, sources, symbols-merged}
+use Rattle.symbol_sources.proofs.Sources.{rankOn, heldOn, merged, ranks-merged, sources, symbols-merged}
 use Rattle.symbol_columns.specs.Literals.{literalTable}
 use Rattle.symbol_columns.proofs.Written.{bitsOn, literals-written}
 use Rattle.symbol_merge.specs.Explains.{Explains}
 use Rattle.symbol_merge.proofs.Outcomes.{both-stop, both-stay, rebuilt-of, as-many, bitsAt, outcome-bits, bits-plain, reasons-same}
-use Rattle.symbol_merge.proofs.Slices.{excluded-as, order-low, compared-low}
+use Rattle.symbol_merge.specs.Fronts.{fronted}
+use Rattle.symbol_merge.proofs.Fronts.{written-fronted}
+use Rattle.symbol_merge.proofs.Slices.{excluded-as, order-low, compared-low, table-few}
 
 -- the bits of values, spelled out
 abbrev payload : Scalars ℤ ℕ
@@ -94,7 +100,8 @@ payload-is = refl
 module _ (text t rs p : List ℕ) (used root : ℕ) (accepted : checkAnswerIn (lent text) t rs p used root ≡ check.Accepted)
     (trees : List ℕ) (counted : (a : ℕ) → a ≤ root → getD trees a 0 ≡ min (treeCount rs a) 4097) (low : treeCount rs root ≤ 4096)
     (nodes : List ℕ) (n : ℕ) (are : firstOf nodes n ≡ minterms (walked rs) root) (few : n ≤ 128)
-    (vs ranks src pool : List ℕ) (of : RanksOf text rs p used vs ranks src pool) where
+    (vs ranks src pool : List ℕ) (of : RanksOf text rs p used vs ranks src pool)
+    (own : List ℕ) (sent : (a : ℕ) → a < used → aexprOf own p a ≡ aexprOf rs p a) where
   ok : CheckedIn (lent text) t rs p used root
   ok = checked-in (lent text) t rs p used root accepted
 
@@ -119,10 +126,19 @@ module _ (text t rs p : List ℕ) (used root : ℕ) (accepted : checkAnswerIn (l
       ap (λ l. mergeFilterConstraints lined (linesFrom 0 l)) read-ranks
       ∙ ranks-merged text t rs p used root ok vs ranks (of .standing) count enough
 
-  sent-are : readConjuncts (aexprAt rs p used) root ≡ map (classify (aexprOf rs p)) (firstOf nodes n)
-  sent-are =
-      sym (bits-conjuncts rs p used root) ∙ sym (held-conjuncts (lent text) t rs p used root ok)
-      ∙ ap (map (classify (aexprOf rs p))) (sym are)
+  -- what `own` holds are the records sent
+  own-are : readConjuncts (aexprAt rs p used) root ≡ map (classify (aexprOf own p)) (firstOf nodes n)
+  own-are =
+      ap (map (classify (aexprAt rs p used))) (sym (walked-minterms rs p used root (ok .root-used)))
+      ∙ all (minterms (walked rs) root) (minterms-below (lent text) t rs p used root ok)
+      ∙ ap (map (classify (aexprOf own p))) (sym are)
+    where
+      all : (ns : List ℕ) → Below used ns → map (classify (aexprAt rs p used)) ns ≡ map (classify (aexprOf own p)) ns
+      all [] h = refl
+      all (m ∷ ns) h =
+          λ i. sym (classify-same (aexprAt rs p used) (aexprOf own p) used (λ a l. sent a l ∙ sym (used-same rs p used a l)) m (h .0)
+          (falls (lent text) t rs p used root ok)) i
+          ∷ all ns (h .1) i
 
   -- The kept nodes are not past the root.
   kept-low : (ns : List ℕ) (cs : List (ℕ × ColumnComparison Lined)) → linedTo R nodes n ≡ Rebuilt ns cs → Below (suc root) ns
@@ -225,9 +241,9 @@ module _ (text t rs p : List ℕ) (used root : ℕ) (accepted : checkAnswerIn (l
       (C : Concluded (linedTo R nodes n) (shown (conjuncts kinds first starts counts pool) (columnsOf cells) marks) order kept unsat
       unchanged columns keeps total)
       (live : unsat ≡ false) (changed : unchanged ≡ false) (lows : (i : ℕ) → i < columns → getD order i 0 < 64)
-      (tells : (i : ℕ) → i < n → ToldConjunct (conjuncts said second starts₂ counts₂ p) i (classify (aexprOf rs p) (getD nodes i 0)))
-      (after : Shows (conjuncts kinds second starts₂ counts₂ p) (columnsOf cells′) marks
-      (literalTable t (aexprOf rs p) nodes (shown (conjuncts kinds second starts₂ counts₂ p) (columnsOf cells) marks))) where
+      (tells : (i : ℕ) → i < n → ToldConjunct (conjuncts said second starts₂ counts₂ p) i (classify (aexprOf own p) (getD nodes i 0)))
+      (shows : Shows (conjuncts kinds second starts₂ counts₂ p) (columnsOf cells′) marks
+      (literalTable t (aexprOf own p) nodes (shown (conjuncts kinds second starts₂ counts₂ p) (columnsOf cells) marks))) where
     abbrev cs : List (ℕ × ColumnComparison LinedPlace)
     cs = comparisonsOf O
 
@@ -248,11 +264,11 @@ module _ (text t rs p : List ℕ) (used root : ℕ) (accepted : checkAnswerIn (l
 
     written : comparisons lined ord T′ ≡ mapComparisons (bitsOn vs count) cs
     written =
-        literals-written text t rs p used root ok vs ranks (of .standing) count enough (of .pooled) (of .ranked) nodes n sent-are
-        (conjuncts said second starts₂ counts₂ p) tells cs
+        literals-written text t rs p used root ok vs ranks (of .standing) count enough (of .pooled) (of .ranked) nodes n
+        (aexprOf own p) own-are (conjuncts said second starts₂ counts₂ p) tells cs
         (sources text t rs p used root ok vs ranks (of .standing) count enough) ord T (back .1)
         (shown (conjuncts kinds second starts₂ counts₂ p) (columnsOf cells) marks) T′
-        (λ a i. (refl, refl, excluded-as kinds first second _ _)) (λ a i. after .column a (order-low order columns lows a i))
+        (λ a i. (refl, refl, excluded-as kinds first second _ _)) (λ a i. shows .column a (order-low order columns lows a i))
 
     counted-after : total ≡ length (comparisons lined ord T′)
     counted-after =
@@ -314,3 +330,66 @@ module _ (text t rs p : List ℕ) (used root : ℕ) (accepted : checkAnswerIn (l
           (explainedTextWith text rs p used root) (tableText (shownIn t text) ord T′) ns total (comparisons lined ord T′) ea ek el
           outcome-after counted-after text-after a0 a1 a2 a3 ep)
           (ap (reckonedAnswer (length rs) trees used) outcome-after ∙ reckons ∙ sym (ap (outcomeAnswer t rs used) outcome-after))
+
+  -- ---- What the merging is asked and what it gives. `kinds`, `first`, `starts` and `counts` are the tables of the ranks,
+  -- `second` are the literals sent.
+  module _ (kinds first starts counts said second starts₂ counts₂ : List ℕ)
+      (tells : (i : ℕ) → i < n → ToldConjunct (conjuncts said second starts₂ counts₂ p) i (classify (aexprOf own p) (getD nodes i 0)))
+      (long : 16 * used ≤ length own) where
+    abbrev s₁ : Conjuncts
+    s₁ = conjuncts kinds first starts counts pool
+
+    abbrev s₂ : Conjuncts
+    s₂ = conjuncts kinds second starts₂ counts₂ p
+
+    some : 0 < length own
+    some = let h : root < used = ok .root-used in omega (arith, h, long)
+
+    pub symbols-count : Counts (linedTo R nodes n) s₁ t own nodes second
+    symbols-count =
+        record {
+          few = λ h. table-few (lent text) t rs p used root ok;
+          counts = λ cells converted marks order kept unsat unchanged columns keeps total C F live changed low c u ek ev.
+              total-after kinds first starts counts said second starts₂ counts₂ cells converted marks order kept unsat unchanged
+              columns keeps total C live changed low tells
+              (c .literals some p s₂ marks (shown s₂ (columnsOf cells) marks) (shows-itself s₂ cells marks F)) u ek ev;
+        }
+
+    -- With the records sent put back, all is as promised.
+    pub symbols-explain : length src ≡ length rs → 16 * used ≤ length src → fronted (16 * used) own src ≡ rs → AreBytes text →
+        (buffer : List ℕ) (r : Rewriting) (out after : List ℕ) →
+        Merges (linedTo R nodes n) s₁ t src trees nodes second own text buffer used r out after →
+        r .passes ≡ mergePasses values.payload (map (classify R) (firstOf nodes n)) →
+        Explains text t rs p used root buffer r (fronted (16 * used) own out) after
+    symbols-explain whole enough-src put bytes buffer r out after M k = go (M .unsat) (M .unchanged) refl refl
+      where
+        go : (x y : Bool) → M .unsat ≡ x → M .unchanged ≡ y →
+            Explains text t rs p used root buffer r (fronted (16 * used) own out) after
+        go true y ex ey =
+            let a = M .stops ex in
+            subst (λ z. Explains text t rs p used root buffer r (fronted (16 * used) own out) z) (sym (a .1 .1 .0))
+            (end-stopped bytes buffer r (fronted (16 * used) own out) (r .answer) (r .passes) (r .length)
+            (M .concluded .stops ex) refl refl refl (a .1 .1 .1)
+            (a .0 ∙ ap (λ z. reckonedAnswer z trees used NothingPasses) whole)
+            (written-fronted t own used (r .answer) NothingPasses src rs out enough-src put (a .1 .0)) k)
+        go false true ex ey =
+            let a = M .stays ex ey in
+            let same : rs ≡ fronted (16 * used) own out = sym (ap (fronted (16 * used) own) (a .1 .0) ∙ put) in
+            subst (λ z. Explains text t rs p used root buffer r z after) same
+            (subst (λ z. Explains text t rs p used root buffer r rs z) (sym (a .1 .1 .0))
+            (end-unchanged bytes buffer r (r .passes) (r .length) (M .concluded .stays ex ey) (a .0) refl refl (a .1 .1 .1) k))
+        go false false ex ey =
+            let c = M .converts ex ey in
+            let shows = c .literals some p s₂ (M .marks) (shown s₂ (columnsOf (M .cells)) (M .marks))
+            (shows-itself s₂ (M .cells) (M .marks) (M .fits)) in
+            let d : Chained t src trees text buffer used (firstOf (M .kept) (M .keeps)) (firstOf (M .order) (M .columns)) (M .total)
+            (shown s₂ (columnsOf (M .converted)) (M .marks)) r out after = M .chains ex ey s₂ refl refl in
+            end-rebuilt kinds first starts counts said second starts₂ counts₂ (M .cells) (M .converted) (M .marks) (M .order)
+            (M .kept) (M .unsat) (M .unchanged) (M .columns) (M .keeps) (M .total) (M .concluded) ex ey (M .low) tells shows bytes
+            buffer r (fronted (16 * used) own out) after (r .answer) (r .passes) (r .length) refl refl refl
+            (d .0 ∙ ap (λ z. refuseLong
+            (length (tableText (shownIn t text) (firstOf (M .order) (M .columns)) (shown s₂ (columnsOf (M .converted)) (M .marks))))
+            (length buffer) (reckoned z trees used (firstOf (M .kept) (M .keeps)) (M .total))) whole)
+            (written-fronted t own used (r .answer) (Rebuilt (firstOf (M .kept) (M .keeps)) (state.bitsOf (comparisons lined
+            (firstOf (M .order) (M .columns)) (shown s₂ (columnsOf (M .converted)) (M .marks))))) src rs out enough-src put (d .1 .0))
+            (d .1 .1 .0) (d .1 .1 .1) k

@@ -1,3 +1,6 @@
 pub mod Outcomes
 pub mod Slices
+pub mod Fronts
+pub mod Exchanged
 pub mod Ending
+pub mod Symbols

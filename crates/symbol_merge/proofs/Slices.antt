@@ -16,21 +16,11 @@ use Rattle.constraints.specs.LineKept.{OneOf}
 use Rattle.constraints.specs.Comparisons.{ColumnComparison, collectColumnComparisons}
 use Rattle.column_constraints.specs.Abstraction.{Conjuncts, ofKind, literalAt, gather, excludedBy}
 use Rattle.column_sets.specs.Index.{Indexed}
-use Rattle.column_table.specs.State.{ColumnTable, Shows, Fits, shown, bitsOf}
-use Rattle.column_table.specs.Words.{columnsOf}
-use Rattle.column_table.proofs.Encoding.{columns-size}
+use Rattle.column_table.specs.State.{ColumnTable, bitsOf}
 use Rattle.merge.specs.Emit.{ofColumn, comparisons}
 use Rattle.read_operands.specs.Walk.{firstOf}
 use Rattle.stages.proofs.Reckons.{ComparedBelow}
 use Rattle.symbol_columns.proofs.Written.{excludedIn}
-
-pub shows-itself : (s : Conjuncts) (cells marks : List ℕ) → Fits cells marks →
-    Shows s (columnsOf cells) marks (shown s (columnsOf cells) marks)
-shows-itself s cells marks F = record { size = columns-size cells; column = λ a l. refl; fine = F .fine }
-
-pub fits-after : (s : Conjuncts) (cells cells′ marks : List ℕ) (T : ColumnTable) → Fits cells marks →
-    Shows s (columnsOf cells′) marks T → length cells′ ≡ length cells → Fits cells′ marks
-fits-after s cells cells′ marks T F S e = record { size = e ∙ F .size; narrow = F .narrow; fine = S .fine }
 
 -- an index of fewer than three words covers nothing
 pub no-index : (ss cs ps index : List ℕ) → length index < 3 → Indexed ss cs ps index

@@ -1,76 +1,81 @@
 // The merging of a screen with symbols (02, 2.10): that of its screen of ranks, with the literals that its limits stand for.
+// The ranks stand in the records lent while they are merged, so that one function merges both kinds of screens.
 ghost use mathlib.Core.Path.{_≡_};
 ghost use mathlib.Core.List.{List, map};
-ghost use Prim.Native.Nat.{ℕ, _+_, _*_, _<_, _≤_, min};
-ghost use lib.ListN.{length, getD, replicate};
+ghost use Prim.Native.Nat.{ℕ, _*_, _<_, _≤_, min};
+ghost use lib.ListN.{length, getD};
 ghost use Rattle.checking.specs.Check.{checkAnswerIn};
 ghost use Rattle.checking.specs.Tree.{treeCount};
 ghost use Rattle.checking.specs.declared.check.CheckAnswer.the-variants as check;
 ghost use Rattle.truth.specs.FromBytes.{aexprOf};
 ghost use Rattle.constraints.specs.Payload.{payload};
 ghost use Rattle.column_constraints.specs.Abstraction.{conjuncts};
-ghost use Rattle.column_table.specs.State.{Fits, shown};
-ghost use Rattle.column_table.specs.Words.{pastColumn, columnsOf};
-ghost use Rattle.filter_constraint.specs.Concluded.{linedTo, Concluded};
+ghost use Rattle.filter_constraint.specs.Concluded.{linedTo};
+ghost use Rattle.filter_constraint.specs.Merges.{Counts, Merges};
 ghost use Rattle.merge.specs.Classify.{classify};
 ghost use Rattle.merge.specs.Demand.{AreBytes};
 ghost use Rattle.merge.specs.Minterms.{minterms};
 ghost use Rattle.merge.specs.Passes.{mergePasses};
 ghost use Rattle.read_operands.specs.Walk.{walked, firstOf};
 ghost use Rattle.ranked_screen.specs.Screen.{RanksOf};
+ghost use Rattle.rewrite.specs.Told.{ToldConjunct};
 ghost use Rattle.stages.specs.Columns.{ColumnsBelow};
-ghost use Rattle.stages.specs.Rows.{stride};
 ghost use Rattle.symbol_screens.specs.Rewriting.{lent};
 ghost use Rattle.symbol_merge.specs.Explains.{Explains};
-use filter_constraint::merged::MergedColumns;
-use filter_constraint::merged::merge_columns;
-use filter_constraint::merging::with_passes;
-use filter_constraint::rebuild::rebuild;
-use merge::answer::RewriteAnswer;
+use crate::front::exchange_front;
+use crate::front::put_front;
+use filter_constraint::merging::merge_filter_constraints;
 use merge::answer::Rewriting;
-use reckoning::reckon::nothing_passes;
 use records::record::Node;
 use rewrite::literals::read_literals;
-use symbol_columns::convert::to_literals;
 
-// The stages of the merging up to what it concludes, of the screen of ranks: `src` and `pool`. Its lists have no index: few
-// screens have symbols in lists that travel along equalities.
+pub mod front;
+
+// The merging of the first n nodes of the screen of ranks, `rs` and `p`. Its lists have no index: few screens have symbols in
+// lists that travel along equalities.
 fn merge_ranks(
-    src: &[u8],
-    pool: &[u8],
+    t: &[u8],
+    rs: &mut [u8],
+    p: &[u8],
+    used: u32,
+    trees: &[u16],
     nodes: &[u32],
     n: usize,
-    kinds: &mut [u8],
-    values: &mut [u64],
-    starts: &mut [u32],
-    counts: &mut [u32],
-    cells: &mut [u64],
-    marks: &mut [u8],
-    order: &mut [u32],
-    kept: &mut [u32],
-) -> MergedColumns
-    requires { ⌜ (n ≤ 128) × (n ≤ length (now nodes)) × (n ≤ length (now kinds)) × (n ≤ length (now values))
-        × (n ≤ length (now starts)) × (n ≤ length (now counts)) × (length (now cells) ≡ 448)
-        × (columnsOf (now cells) ≡ replicate 64 pastColumn) × (stride (now marks) ≡ 128) × (n + n ≤ length (now order))
-        × (n ≤ length (now kept)) ⌝ }
-    requires { ⌜ ((i : ℕ) → i < n → ColumnsBelow 64 (classify (aexprOf (now src) (now pool)) (getD (now nodes) i 0))) ⌝ }
-    ensures { λ r. ⌜ Concluded (linedTo (aexprOf (now (src .entry)) (now (pool .entry))) (now (nodes .entry)) n)
-        (shown (conjuncts (now (kinds .exit)) (now (values .exit)) (now (starts .exit)) (now (counts .exit))
-        (now (pool .entry))) (columnsOf (now (cells .exit))) (now (marks .exit))) (now (order .exit)) (now (kept .exit))
-        (r .unsat) (r .unchanged) (r .columns) (r .keeps) (r .total) ⌝ }
-    ensures { λ r. ⌜ r .passes ≡ mergePasses payload (map (classify (aexprOf (now (src .entry)) (now (pool .entry))))
+    kinds: &[u8],
+    values: &[u64],
+    starts: &[u32],
+    counts: &[u32],
+    bits: &[u64],
+    own: &[u8],
+    text: &[u8],
+    reasons: &mut [u8],
+) -> Rewriting
+    requires { ⌜ (n ≤ 128) × (used ≤ 4096) × (n ≤ length (now nodes)) ⌝ }
+    requires { ⌜ ((i : ℕ) → i < n → ToldConjunct (conjuncts (now kinds) (now values) (now starts) (now counts) (now p)) i
+        (classify (aexprOf (now rs) (now p)) (getD (now nodes) i 0))) ⌝ }
+    requires { ⌜ ((i : ℕ) → i < n → ColumnsBelow 64 (classify (aexprOf (now rs) (now p)) (getD (now nodes) i 0))) ⌝ }
+    requires { ⌜ Counts (linedTo (aexprOf (now rs) (now p)) (now nodes) n)
+        (conjuncts (now kinds) (now values) (now starts) (now counts) (now p)) (now t) (now own) (now nodes) (now bits) ⌝ }
+    ensures { λ r. ⌜ Merges (linedTo (aexprOf (now (rs .entry)) (now (p .entry))) (now (nodes .entry)) n)
+        (conjuncts (now (kinds .entry)) (now (values .entry)) (now (starts .entry)) (now (counts .entry)) (now (p .entry)))
+        (now (t .entry)) (now (rs .entry)) (now (trees .entry)) (now (nodes .entry)) (now (bits .entry)) (now (own .entry))
+        (now (text .entry)) (now (reasons .entry)) used r (now (rs .exit)) (now (reasons .exit)) ⌝ }
+    ensures { λ r. ⌜ r .passes ≡ mergePasses payload (map (classify (aexprOf (now (rs .entry)) (now (p .entry))))
         (firstOf (now (nodes .entry)) n)) ⌝ }
-    ensures { λ r. ⌜ Fits (now (cells .exit)) (now (marks .exit)) × (r .columns ≤ n + n) × (r .keeps ≤ n)
-        × (r .total ≤ (n + n) * 130) × ((o : ℕ) → o < r .columns → getD (now (order .exit)) o 0 < 64) ⌝ }
 {
+    let mut marks = [0u8; 8192];
+    let mut order = [0u32; 256];
+    let mut kept = [0u32; 128];
     let mut lefts = [0u32; 128];
     let mut rights = [0u32; 128];
     let mut equals = [0u32; 128];
     let none = [0u64; 1];
-    read_literals(src, nodes, n, kinds, values, starts, counts);
-    merge_columns(
-        src,
-        pool,
+    merge_filter_constraints(
+        t,
+        rs,
+        p,
+        used,
+        trees,
         nodes,
         n,
         kinds,
@@ -78,18 +83,21 @@ fn merge_ranks(
         starts,
         counts,
         &none,
-        cells,
-        marks,
-        order,
-        kept,
+        &mut marks,
+        &mut order,
+        &mut kept,
         &mut lefts,
         &mut rights,
         &mut equals,
+        bits,
+        own,
+        text,
+        reasons,
     )
 }
 
 /// The merging of the first n nodes, the conjuncts of an accepted screen with symbols. `src` and `pool` are its screen of ranks,
-/// `text` is the text pool.
+/// `text` is the text pool. `src` is overwritten.
 pub fn merge_symbols(
     t: &[u8],
     rs: &mut [u8],
@@ -100,7 +108,7 @@ pub fn merge_symbols(
     trees: &[u16],
     nodes: &[u32],
     n: usize,
-    src: &[u8],
+    src: &mut [u8],
     pool: &[u8],
     reasons: &mut [u8],
 ) -> Rewriting
@@ -109,6 +117,7 @@ pub fn merge_symbols(
     requires small { ⌜ treeCount (now rs) (root .0) ≤ 4096 ⌝ }
     requires walked { ⌜ firstOf (now nodes) n ≡ minterms (walked (now rs)) (root .0) ⌝ }
     requires there { ⌜ (n ≤ 128) × (n ≤ length (now nodes)) ⌝ }
+    requires copied { ⌜ 16 * used ≤ length (now src) ⌝ }
     requires ranked { ⌜ ((values : List ℕ) × (ranks : List ℕ) × RanksOf (now text) (now rs) (now p) used values ranks (now src)
         (now pool)) ⌝ }
     ensures explains { λ r. ⌜ (AreBytes (now (text .entry)) → Explains (now (text .entry)) (now (t .entry)) (now (rs .entry))
@@ -118,58 +127,45 @@ pub fn merge_symbols(
     let mut values = [0u64; 128];
     let mut starts = [0u32; 128];
     let mut counts = [0u32; 128];
-    let mut cells = [0u64; 448];
-    let mut marks = [0u8; 8192];
-    let mut order = [0u32; 256];
-    let mut kept = [0u32; 128];
-    let m = merge_ranks(
+    let mut said = [0u8; 128];
+    let mut bits = [0u64; 128];
+    let size = 16 * (used as usize);
+    exchange_front(rs, src, size);
+    read_literals(
         src,
-        pool,
+        nodes,
+        n,
+        &mut said,
+        &mut bits,
+        &mut starts,
+        &mut counts,
+    );
+    read_literals(
+        rs,
         nodes,
         n,
         &mut kinds,
         &mut values,
         &mut starts,
         &mut counts,
-        &mut cells,
-        &mut marks,
-        &mut order,
-        &mut kept,
     );
-    if m.unsat {
-        return with_passes(nothing_passes(rs, used), m.passes, 0);
-    }
-    if m.unchanged {
-        return with_passes(RewriteAnswer::Unchanged, m.passes, 0);
-    }
-    let mut said = [0u8; 128];
-    read_literals(
-        rs,
-        nodes,
-        n,
-        &mut said,
-        &mut values,
-        &mut starts,
-        &mut counts,
-    );
-    to_literals(t, rs, nodes, &mut cells);
-    let b = rebuild(
+    let r = merge_ranks(
         t,
         rs,
+        pool,
         used,
         trees,
+        nodes,
+        n,
         &kinds,
         &values,
-        &cells,
-        &marks,
-        &order,
-        m.columns,
-        &kept,
-        m.keeps,
-        m.total,
+        &starts,
+        &counts,
+        &bits,
+        src,
         text,
         reasons,
     );
-    let answer = b.answer;
-    with_passes(answer, m.passes, b.length)
+    put_front(rs, src, size);
+    r
 }

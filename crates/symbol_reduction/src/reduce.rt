@@ -2,7 +2,7 @@
 ghost use mathlib.Core.Path.{_≡_};
 ghost use Prim.Native.Nat.{_+_, _*_, _≤_, _<_};
 ghost use lib.ListN.{length};
-ghost use Rattle.records.specs.Record.{node};
+ghost use Rattle.records.specs.Record.{node, fieldsAt};
 ghost use Rattle.checking.specs.Checked.{CheckedIn};
 ghost use Rattle.symbol_screens.specs.Reading.{heldAt};
 ghost use Rattle.symbol_screens.specs.Rewriting.{lent};
@@ -11,21 +11,23 @@ ghost use Rattle.symbol_rows.specs.RowTestWith.{rowFaultWith};
 ghost use Rattle.symbol_reduction.specs.Reduction.{isTextInput, takesSymbols, Reduced, Tested, Copied};
 use crate::constant::put_constant;
 use records::bytes::byte;
+use records::bytes::word_at;
 use records::record::Fields;
 use records::record::Node;
-use records::record::fields_at;
 use records::record::fields_in;
 use row_test::evaluate::truth_at;
 use symbol_truths::symbol_truth;
 use three_valued::logic::Truth;
 
-fn is_text_input(table: &[u8], f: Fields) -> bool
-    ensures { λ r. ⌜ r ≡ isTextInput (now (table .entry)) f ⌝ }
+// Of an input only three fields are looked at.
+fn is_text_input(table: &[u8], records: &[u8], n: Node) -> bool
+    ensures { λ r. ⌜ r ≡ isTextInput (now (table .entry)) (fieldsAt (now (records .entry)) n) ⌝ }
 {
-    if f.kind == 1 {
-        return byte(table, f.a as usize) == 4;
+    let at = 16 * (n.0 as usize);
+    if byte(records, at) == 1 {
+        return byte(table, word_at(records, at + 4) as usize) == 4;
     }
-    f.ty == 4
+    byte(records, at + 2) == 4
 }
 
 fn takes_symbols(table: &[u8], records: &[u8], f: Fields) -> bool
@@ -37,7 +39,7 @@ fn takes_symbols(table: &[u8], records: &[u8], f: Fields) -> bool
     if f.kind == 9 {
         return false;
     }
-    is_text_input(table, fields_at(records, Node(f.a)))
+    is_text_input(table, records, Node(f.a))
 }
 
 /// The first `count` bytes of the records.

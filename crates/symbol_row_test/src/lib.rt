@@ -7,11 +7,11 @@ ghost use Rattle.checking.specs.Checked.{CheckedIn};
 ghost use Rattle.checking.specs.Tree.{treeCount};
 ghost use Rattle.symbol_screens.specs.Rewriting.{lent};
 ghost use Rattle.symbol_rows.specs.RowTestWith.{checkedAnswerWith, testRowAnswerWith};
+use check_lent::check_lent_counted;
 use checking::check::CheckAnswer;
 use records::record::Node;
 use row_test::test::RowAnswer;
 use row_test::test::test_row;
-use symbol_check::check_lent;
 use symbol_free::has_symbols;
 use symbol_reduction::reduce::copy_front;
 use symbol_reduction::reduce::reduced_truth;
@@ -66,7 +66,7 @@ fn test_within(
     ensures { λ r. ⌜ r ≡ testRowAnswerWith (now (text .entry)) (now (table .entry)) (now (records .entry))
         (now (pool .entry)) used root (now (row .entry)) nulls ⌝ }
 {
-    let answer = check_lent(table, records, pool, text, used, root, types, trees);
+    let answer = check_lent_counted(table, records, pool, text.len(), used, root, types, trees);
     match answer {
         CheckAnswer::Refused(number) => RowAnswer::Refused(number),
         CheckAnswer::Accepted => test_checked_with(

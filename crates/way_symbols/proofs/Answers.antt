@@ -28,6 +28,8 @@ use Rattle.numbered_screen.proofs.Checking.{numbers-checked}
 use Rattle.numbered_screen.proofs.Reading.{numbers-read, trees-same}
 use Rattle.plain_symbols.specs.Refusal.{refusalNumber, plainRefusalWith}
 use Rattle.plain_symbols.proofs.Refusals.{plain-numbers, PlainWith}
+use Rattle.symbol_screens.proofs.NumbersChecked.{NoText}
+use Rattle.own_numbers.proofs.Own.{check-as-ever}
 use Rattle.way_symbols.specs.Answer.{wayAnswerWith}
 
 -- 8, 9, 17 and the rest.
@@ -53,6 +55,11 @@ module _ (text t rs p : List ℕ) (used root : ℕ) where
   way-refused k e n =
       refused (checkAnswerIn (lent text) t rs p used root) (ltb 4096 (treeCount rs root))
       (ltb 128 (length (minterms (aexprAt rs p used) root))) (plainScreen t (aexprAt rs p used) root) lines k e n
+
+  -- without symbols
+  pub way-as-ever : NoText t rs used → length text ≤ 8192 → wayAnswer t rs p used root ≡ wayAnswerWith text t rs p used root
+  unfolding wayAnswer wayAnswerWith
+  way-as-ever free h = sym (ap (λ a. wayIf a (wayChecked t rs p used root)) (check-as-ever t rs used free text p root h))
 
   way-told : (b c d : Bool) (a : WayAnswer) → b ≡ false → c ≡ false → d ≡ true → steps b c d a ≡ a
   way-told b c d a e f g =

@@ -1,4 +1,6 @@
 // The one line in the way (02, 2.9) of a screen beside which a text pool is lent (02, 2.10): what the screen's numbers answer.
+// The call stands here and not in crate `screen`, so that it is an object of its own: in one object with rewriting the functions of
+// the merging would have a second caller, and the compiler would no longer inline them there.
 ghost use mathlib.Core.Path.{_≡_};
 ghost use mathlib.Core.Bool.{true};
 ghost use Prim.Native.Nat.{_*_, _≤_};
@@ -6,8 +8,9 @@ ghost use lib.ListN.{length};
 ghost use Rattle.in_the_way.specs.Calls.{wayNumber, lineOut, wayListed};
 ghost use Rattle.way_symbols.specs.Answer.{wayAnswerWith};
 ghost use Rattle.way_symbols.specs.Promise.{WayPromiseWith};
-use in_the_way::screen_line_in_the_way;
+use in_the_way::line_of_screen;
 use plain_symbols::plain_numbers;
+use symbol_free::has_symbols;
 
 // `columns` and `numbers` are room for the screen's numbers.
 fn line_of_numbers(
@@ -35,11 +38,11 @@ fn line_of_numbers(
     if k != 0 {
         return k;
     }
-    screen_line_in_the_way(&columns[..table.len()], numbers, pool, used, root, line)
+    line_of_screen(&columns[..table.len()], numbers, pool, used, root, line)
 }
 
-/// As `screen_line_in_the_way`, beside a text pool. Most screens have few records, and small tables cost less to clear.
-pub fn line_in_the_way_with(
+// It has two callers, so that its copies stand in a frame of their own, which a screen without symbols does not pay for.
+fn line_beside_text(
     table: &[u8],
     records: &[u8],
     pool: &[u8],
@@ -57,20 +60,6 @@ pub fn line_in_the_way_with(
         (now (pool .entry)) used root r (now (line .exit)) ⌝ }
 {
     let mut columns = [0u8; 64];
-    if used <= 64 {
-        let mut few = [0u8; 1024];
-        return line_of_numbers(
-            table,
-            records,
-            pool,
-            text,
-            used,
-            root,
-            line,
-            &mut columns,
-            &mut few,
-        );
-    }
     let mut numbers = [0u8; 65536];
     line_of_numbers(
         table,
@@ -83,4 +72,34 @@ pub fn line_in_the_way_with(
         &mut columns,
         &mut numbers,
     )
+}
+
+// Below 256: the refusal's number, and nothing is written. 256: a row passes already. 257: no row passes, and `line` has the first
+// line whose removal makes some row pass. 258: no row passes, whichever single line is removed. A screen without symbols goes
+// past the copies: it is its own numbers.
+#[no_mangle]
+pub extern "C" fn screen_line_in_the_way(
+    table: &[u8],
+    records: &[u8],
+    pool: &[u8],
+    text: &[u8],
+    used: u64,
+    root: u64,
+    line: &mut u64,
+) -> u32
+    ensures answer { λ r. ⌜ r ≡ wayNumber (wayAnswerWith (now (text .entry)) (now (table .entry)) (now (records .entry))
+        (now (pool .entry)) used root) ⌝ }
+    ensures listed { λ r. ⌜ wayListed r ≡ true ⌝ }
+    ensures line { λ _. ⌜ now (line .exit) ≡ lineOut (wayAnswerWith (now (text .entry)) (now (table .entry))
+        (now (records .entry)) (now (pool .entry)) used root) (now (line .entry)) ⌝ }
+    ensures promise { λ r. ⌜ WayPromiseWith (now (text .entry)) (now (table .entry)) (now (records .entry))
+        (now (pool .entry)) used root r (now (line .exit)) ⌝ }
+{
+    if 8192 < text.len() {
+        return line_beside_text(table, records, pool, text, used, root, line);
+    }
+    if has_symbols(table, records, used) {
+        return line_beside_text(table, records, pool, text, used, root, line);
+    }
+    line_of_screen(table, records, pool, used, root, line)
 }

@@ -3,7 +3,7 @@ use Rattle.check_symbols.proofs.check_of_numbers.Statement.{statement}
 use Rattle.check_symbols.proofs.check_of_numbers.Tie as tie
 use Rattle.check_symbols.proofs.check_of_numbers.Reads as reads
 use Rattle.check_symbols.proofs.check_of_numbers.Lts as lts
-use Rattle.check_row.proofs.screen_check_row.Reads as screen-check-row-reads
+use Rattle.check_row.proofs.check_of_screen.Reads as check-of-screen-reads
 use Rattle.plain_symbols.proofs.plain_numbers.Reads as plain-numbers-reads
 use mathlib.Core.Path.{sym, _∙_}
 use Prim.Native.Nat.{_≤_}
@@ -36,8 +36,8 @@ returns c =
     .taken)
 
 -- src/lib.rt:36:9
-slice-reshare-prefix-screen-check-row : tie.Need-slice-reshare-prefix-screen-check-row
-slice-reshare-prefix-screen-check-row c =
+slice-reshare-prefix-check-of-screen : tie.Need-slice-reshare-prefix-check-of-screen
+slice-reshare-prefix-check-of-screen c =
     let st = c .before .before .before .before .before .before .before .before .before .before .before .before
     .before .before .before in
     let plain-numbers = c .before .before .before .before .before .plain-numbers in
@@ -48,8 +48,8 @@ slice-reshare-prefix-screen-check-row c =
     omega (arith, h, st .pre .0, plain-numbers .kept .1 .1 .1 .1 .1 .1 .0)
 
 -- src/lib.rt:36:9
-slice-aggregate-screen-check-row : tie.Need-slice-aggregate-screen-check-row
-slice-aggregate-screen-check-row c =
+slice-aggregate-check-of-screen : tie.Need-slice-aggregate-check-of-screen
+slice-aggregate-check-of-screen c =
     let st = c .before .before .before .before .before .before .before .before .before .before .before .before
     .before .before .before .before in
     let plain-numbers = c .before .before .before .before .before .before .plain-numbers in
@@ -66,8 +66,8 @@ slice-aggregate-screen-check-row c =
     sym (length-take-le (length (st .args .table .now)) (plain-numbers .last .1 .1 .1 .1 .1 .1 .0) b)
 
 -- src/lib.rt:35:5
-screen-check-row-requires : tie.Need-screen-check-row-requires
-screen-check-row-requires c κs = search needs
+check-of-screen-requires : tie.Need-check-of-screen-requires
+check-of-screen-requires c κs = search needs
 
 -- src/lib.rt:13:1
 same-length-3 : tie.Need-same-length-3
@@ -84,12 +84,12 @@ returns-2 c =
     .before .before .before .before .before .before in
     let plain-numbers = c .before .before .before .before .before .before .before .before .plain-numbers in
     let if1 = c .before .before .before .if1 in
-    let screen-check-row = c .screen-check-row in
+    let check-of-screen = c .check-of-screen in
     end-told (st .args .text .now) (st .args .table .now) (st .args .records .now) (st .args .pool .now) (st
     .args .used) (st .args .root) (st .args .row .now) (st .args .nulls) (take (length (st .args .table .now))
     (plain-numbers .last .1 .1 .1 .1 .1 .1 .0)) (plain-numbers .last .1 .1 .1 .1 .1 .1 .1 .0) (plain-numbers
-    .ensures .1 (if1 .left)) (sym (if1 .left) ∙ plain-numbers .ensures .0) _ (screen-check-row .ensures .0)
-    (screen-check-row .ensures .1)
+    .ensures .1 (if1 .left)) (sym (if1 .left) ∙ plain-numbers .ensures .0) _ (check-of-screen .ensures .0)
+    (check-of-screen .ensures .1)
 
 pub check-of-numbers-spec : {M : Type 1} → statement M
 check-of-numbers-spec =
@@ -99,9 +99,9 @@ check-of-numbers-spec =
     same-length
     same-length-2
     returns
-    slice-reshare-prefix-screen-check-row
-    slice-aggregate-screen-check-row
-    screen-check-row-requires
+    slice-reshare-prefix-check-of-screen
+    slice-aggregate-check-of-screen
+    check-of-screen-requires
     same-length-3
     same-length-4
     returns-2)

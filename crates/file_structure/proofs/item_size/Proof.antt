@@ -19,11 +19,17 @@ unfolding itemSize
 returns-2 c =
     (search flags, omega arith)
 
--- src/lib.rt:15:1
+-- src/lib.rt:26:9
 returns-3 : tie.Need-returns-3
 unfolding itemSize
 returns-3 c =
     (search flags, omega arith)
 
+-- src/lib.rt:15:1
+returns-4 : tie.Need-returns-4
+unfolding itemSize
+returns-4 c =
+    (search flags, omega arith)
+
 pub item-size-spec : {M : Type 1} → statement M
-item-size-spec = tie.close (tie.spec returns returns-2 returns-3)
+item-size-spec = tie.close (tie.spec returns returns-2 returns-3 returns-4)

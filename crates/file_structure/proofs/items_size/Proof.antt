@@ -9,20 +9,20 @@ use Rattle.file_blocks.specs.Format.{itemSize}
 use native.Mathlib.Omega.{arith}
 use native.Mathlib.Nat.{mul-le-mul}
 
--- src/lib.rt:46:9
+-- src/lib.rt:52:9
 item-size-requires : tie.Need-item-size-requires
 item-size-requires c κs = search needs
 
--- src/lib.rt:47:5
+-- src/lib.rt:53:5
 mul-result : tie.Need-mul-result
 mul-result c =
     let item-size = c .item-size in
     let st = c .before in
-    let b : st .args .count ≤ 255 = omega arith in
+    let b : st .args .count ≤ 65535 = omega arith in
     let m = mul-le-mul (item-size .ensures .1) b in
     omega (arith, m)
 
--- src/lib.rt:43:1
+-- src/lib.rt:49:1
 returns : tie.Need-returns
 returns c =
     let item-size = c .item-size in

@@ -6,15 +6,15 @@ use Rattle.file_structure.proofs.kind_ok.Lts as lts
 use mathlib.Core.Path.{refl}
 use Rattle.file_structure.specs.Read.{kindOk, kindOf}
 
--- src/lib.rt:88:11
+-- src/lib.rt:108:11
 shared-slice-read-result : tie.Need-shared-slice-read-result
 shared-slice-read-result c = search needs
 
--- src/lib.rt:88:20
+-- src/lib.rt:108:20
 shared-slice-read-result-2 : tie.Need-shared-slice-read-result-2
 shared-slice-read-result-2 c = search needs
 
--- src/lib.rt:84:1
+-- src/lib.rt:104:1
 returns : tie.Need-returns
 unfolding kindOk kindOf
 returns c =

@@ -6,7 +6,7 @@ use mathlib.Core.Path.{refl}
 use Rattle.file_blocks.specs.Format.{repeats}
 use borrow.Author.Needs.{needs}
 
--- src/lib.rt:161:1
+-- src/lib.rt:182:1
 returns : tie.Need-returns
 unfolding repeats
 returns c =

@@ -9,60 +9,67 @@ use lib.ListN.{length}
 use native.Mathlib.Omega.{arith}
 use native.Mathlib.Numerals.{add-one}
 use Rattle.file_structure.specs.Read.{total, totalTo, countIf, blockAt, blocksIn}
-use Rattle.file_structure.proofs.Parts.{part-block, total-more}
+use Rattle.file_structure.proofs.Parts.{part-block, total-more, length-block}
+use Rattle.file_structure.proofs.Sizes.{counts-small}
 use borrow.Author.Needs.{needs}
 
 abbrev Inv-loop : tie.InvT-loop
 Inv-loop kind f n sum₀ i₀ sum i =
-    (i ≤ n) × (n ≡ length f / 512) × (sum ≤ 255 * i) × (sum ≡ totalTo kind f i)
+    (i ≤ n) × (n ≡ length f / 512) × (sum ≤ 496 * i) × (sum ≡ totalTo kind f i)
 
 abbrev μ-loop : tie.MeasureT-loop
 μ-loop kind f n sum₀ i₀ sum i =
     n - i
 
--- src/lib.rt:240:5
+-- src/lib.rt:270:5
 loop-holds : tie.Need-loop-holds Inv-loop μ-loop
 unfolding totalTo
 loop-holds c =
     (search needs, search needs, search needs, refl)
 
--- src/lib.rt:241:21
+-- src/lib.rt:271:21
 mul-start : tie.Need-mul-start Inv-loop μ-loop
 mul-start c = search needs
 
--- src/lib.rt:242:19
+-- src/lib.rt:272:19
 add-end : tie.Need-add-end Inv-loop μ-loop
 add-end c = search needs
 
--- src/lib.rt:243:31
+-- src/lib.rt:273:31
 sub-count-if : tie.Need-sub-count-if Inv-loop μ-loop
 sub-count-if c = search needs
 
--- src/lib.rt:243:31
+-- src/lib.rt:273:31
 part-count-if-start : tie.Need-part-count-if-start Inv-loop μ-loop
 part-count-if-start c = search needs
 
--- src/lib.rt:243:31
+-- src/lib.rt:273:31
 part-count-if-end : tie.Need-part-count-if-end Inv-loop μ-loop
 part-count-if-end c = search needs
 
--- src/lib.rt:243:16
+-- src/lib.rt:273:16
 count-if-requires : tie.Need-count-if-requires Inv-loop μ-loop
-count-if-requires c κs = search needs
+unfolding blocksIn
+count-if-requires c κs =
+    let st = c .before .before .before .before in
+    let l1 = c .before .before .loop in
+    let f = st .args .f .now in
+    let p = part-block f (l1 .i) in
+    (rw p (length-block f (l1 .i) (omega arith)), rw p (counts-small f (l1 .i) (st .pre) (omega arith)))
 
--- src/lib.rt:243:9
+-- src/lib.rt:273:9
 add-sum : tie.Need-add-sum Inv-loop μ-loop
 add-sum c = search needs
 
--- src/lib.rt:244:9
+-- src/lib.rt:274:9
 add-i : tie.Need-add-i Inv-loop μ-loop
 add-i c = search needs
 
--- src/lib.rt:240:5
+-- src/lib.rt:270:5
 loop-less : tie.Need-loop-less Inv-loop μ-loop
 loop-less c = search needs
 
--- src/lib.rt:240:5
+-- src/lib.rt:270:5
 loop-again : tie.Need-loop-again Inv-loop μ-loop
 loop-again c =
     let l1 = c .before .before .before .loop in
@@ -74,7 +81,7 @@ loop-again c =
           .ensures .0)),
     )
 
--- src/lib.rt:234:1
+-- src/lib.rt:263:1
 returns : tie.Need-returns Inv-loop μ-loop
 unfolding total blocksIn
 returns c =

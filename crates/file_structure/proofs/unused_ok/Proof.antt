@@ -8,34 +8,34 @@ use Rattle.file_structure.proofs.zeros_from.Reads as zeros-from-reads
 use Rattle.records.proofs.Laws.{flags}
 use Rattle.file_structure.specs.Read.{unusedOk}
 
--- src/lib.rt:119:9
+-- src/lib.rt:140:9
 zeros-from-requires : tie.Need-zeros-from-requires
 zeros-from-requires c κs = search needs
 
--- src/lib.rt:120:9
+-- src/lib.rt:141:9
 returns : tie.Need-returns
 unfolding unusedOk
 returns c =
     let zeros-from = c .before .zeros-from in
     search (flags, ← zeros-from .ensures)
 
--- src/lib.rt:122:9
+-- src/lib.rt:143:9
 content-size-requires : tie.Need-content-size-requires
 content-size-requires c κs = search needs
 
--- src/lib.rt:123:19
+-- src/lib.rt:144:19
 add-zeros-from : tie.Need-add-zeros-from
 add-zeros-from c = search needs
 
--- src/lib.rt:123:30
+-- src/lib.rt:144:30
 sub-zeros-from : tie.Need-sub-zeros-from
 sub-zeros-from c = search needs
 
--- src/lib.rt:123:5
+-- src/lib.rt:144:5
 zeros-from-requires-2 : tie.Need-zeros-from-requires-2
 zeros-from-requires-2 c κs = search needs
 
--- src/lib.rt:114:1
+-- src/lib.rt:135:1
 returns-2 : tie.Need-returns-2
 unfolding unusedOk
 returns-2 c =

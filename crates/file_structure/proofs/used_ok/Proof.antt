@@ -7,19 +7,19 @@ use Rattle.file_structure.proofs.end_word.Reads as end-word-reads
 use Rattle.file_structure.proofs.total_of.Reads as total-of-reads
 use Rattle.file_structure.specs.Read.{usedOk}
 
--- src/lib.rt:253:5
+-- src/lib.rt:284:5
 end-word-requires : tie.Need-end-word-requires
 end-word-requires c κs = search needs
 
--- src/lib.rt:253:5
+-- src/lib.rt:284:5
 cast-result : tie.Need-cast-result
 cast-result c = search needs
 
--- src/lib.rt:253:33
+-- src/lib.rt:284:33
 total-of-requires : tie.Need-total-of-requires
 total-of-requires c κs = search needs
 
--- src/lib.rt:249:1
+-- src/lib.rt:279:1
 returns : tie.Need-returns
 unfolding usedOk
 returns c =

@@ -5,10 +5,11 @@ use Rattle.rewrite_symbols.proofs.merge_ranked.Reads as reads
 use Rattle.rewrite_symbols.proofs.merge_ranked.Lts as lts
 use Rattle.ranked_screen.proofs.rank.rank_screen.Reads as rank-screen-reads
 use Rattle.symbol_merge.proofs.merge_symbols.Reads as merge-symbols-reads
+use native.Mathlib.Omega.{arith}
 use Rattle.checking.proofs.Accepted.{checked-in}
 use Rattle.symbol_screens.specs.Rewriting.{lent}
 
--- src/lib.rt:52:5
+-- src/lib.rt:49:5
 rank-screen-requires : tie.Need-rank-screen-requires
 rank-screen-requires c κs =
     let st = c .before .before .before .before .before .before .before .before .before .before .before .before
@@ -23,7 +24,7 @@ rank-screen-requires c κs =
       (st .pre .1 .1 .1 .1 .1 .0, st .pre .1 .1 .1 .1 .1 .1),
     )
 
--- src/lib.rt:53:5
+-- src/lib.rt:50:5
 merge-symbols-requires : tie.Need-merge-symbols-requires
 merge-symbols-requires c κs =
     let st = c .before .before .before .before .before .before .before .before .before .before .before .before
@@ -41,9 +42,14 @@ merge-symbols-requires c κs =
             (
               st .pre .1 .1 .1 .1 .0,
               (
-                _,
-                _,
-                rank-screen .ensures,
+                omega
+                    (arith, rank-screen .kept .1 .1 .1 .1 .1 .1 .1 .0, st .pre .1 .1 .1 .1 .1 .1 .0),
+                (
+                  _,
+                  _,
+                  rank-screen
+                      .ensures,
+                ),
               ),
             ),
           ),
@@ -51,35 +57,35 @@ merge-symbols-requires c κs =
       ),
     )
 
--- src/lib.rt:24:1
+-- src/lib.rt:21:1
 same-length : tie.Need-same-length
 same-length c = search needs
 
--- src/lib.rt:24:1
+-- src/lib.rt:21:1
 same-length-2 : tie.Need-same-length-2
 same-length-2 c = search needs
 
--- src/lib.rt:24:1
+-- src/lib.rt:21:1
 same-length-3 : tie.Need-same-length-3
 same-length-3 c = search needs
 
--- src/lib.rt:24:1
+-- src/lib.rt:21:1
 same-length-4 : tie.Need-same-length-4
 same-length-4 c = search needs
 
--- src/lib.rt:24:1
+-- src/lib.rt:21:1
 same-length-5 : tie.Need-same-length-5
 same-length-5 c = search needs
 
--- src/lib.rt:24:1
+-- src/lib.rt:21:1
 same-length-6 : tie.Need-same-length-6
 same-length-6 c = search needs
 
--- src/lib.rt:24:1
+-- src/lib.rt:21:1
 same-length-7 : tie.Need-same-length-7
 same-length-7 c = search needs
 
--- src/lib.rt:24:1
+-- src/lib.rt:21:1
 returns : tie.Need-returns
 returns c = search needs
 

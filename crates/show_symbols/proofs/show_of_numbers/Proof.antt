@@ -4,7 +4,7 @@ use Rattle.show_symbols.proofs.show_of_numbers.Tie as tie
 use Rattle.show_symbols.proofs.show_of_numbers.Reads as reads
 use Rattle.show_symbols.proofs.show_of_numbers.Lts as lts
 use Rattle.plain_symbols.proofs.plain_numbers.Reads as plain-numbers-reads
-use Rattle.show_row.proofs.screen_show_row.Reads as screen-show-row-reads
+use Rattle.show_row.proofs.show_of_screen.Reads as show-of-screen-reads
 use mathlib.Core.Path.{sym, _∙_}
 use Prim.Native.Nat.{_≤_}
 use native.Mathlib.Omega.{arith}
@@ -35,8 +35,8 @@ returns c =
     .args .used) (st .args .root) _ _ _ (plain-numbers .ensures .0) (if1 .taken)
 
 -- src/lib.rt:43:9
-slice-reshare-prefix-screen-show-row : tie.Need-slice-reshare-prefix-screen-show-row
-slice-reshare-prefix-screen-show-row c =
+slice-reshare-prefix-show-of-screen : tie.Need-slice-reshare-prefix-show-of-screen
+slice-reshare-prefix-show-of-screen c =
     let st = c .before .before .before .before .before .before .before .before .before .before .before .before
     .before .before .before in
     let plain-numbers = c .before .before .before .before .before .plain-numbers in
@@ -47,8 +47,8 @@ slice-reshare-prefix-screen-show-row c =
     omega (arith, h, st .pre .0, plain-numbers .kept .1 .1 .1 .1 .1 .1 .0)
 
 -- src/lib.rt:43:9
-slice-aggregate-screen-show-row : tie.Need-slice-aggregate-screen-show-row
-slice-aggregate-screen-show-row c =
+slice-aggregate-show-of-screen : tie.Need-slice-aggregate-show-of-screen
+slice-aggregate-show-of-screen c =
     let st = c .before .before .before .before .before .before .before .before .before .before .before .before
     .before .before .before .before in
     let plain-numbers = c .before .before .before .before .before .before .plain-numbers in
@@ -65,8 +65,8 @@ slice-aggregate-screen-show-row c =
     sym (length-take-le (length (st .args .table .now)) (plain-numbers .last .1 .1 .1 .1 .1 .1 .0) b)
 
 -- src/lib.rt:42:5
-screen-show-row-requires : tie.Need-screen-show-row-requires
-screen-show-row-requires c κs = search needs
+show-of-screen-requires : tie.Need-show-of-screen-requires
+show-of-screen-requires c κs = search needs
 
 -- src/lib.rt:13:1
 same-length-3 : tie.Need-same-length-3
@@ -88,12 +88,12 @@ returns-2 c =
     let plain-numbers = c .before .before .before .before .before .before .before .before .before .before
     .before .before .plain-numbers in
     let if1 = c .before .before .before .before .before .before .before .if1 in
-    let screen-show-row = c .before .before .screen-show-row in
+    let show-of-screen = c .before .before .show-of-screen in
     end-told (st .args .text .now) (st .args .table .now) (st .args .records .now) (st .args .pool .now) (st
     .args .used) (st .args .root) (take (length (st .args .table .now)) (plain-numbers .last .1 .1 .1 .1 .1 .1
     .0)) (plain-numbers .last .1 .1 .1 .1 .1 .1 .1 .0) (plain-numbers .ensures .1 (if1 .left)) (sym (if1 .left)
-    ∙ plain-numbers .ensures .0) _ _ _ _ _ (screen-show-row .ensures .0) (screen-show-row .ensures .1 .0)
-    (screen-show-row .ensures .1 .1 .0) (screen-show-row .ensures .1 .1 .1 .0) (screen-show-row .ensures .1 .1
+    ∙ plain-numbers .ensures .0) _ _ _ _ _ (show-of-screen .ensures .0) (show-of-screen .ensures .1 .0)
+    (show-of-screen .ensures .1 .1 .0) (show-of-screen .ensures .1 .1 .1 .0) (show-of-screen .ensures .1 .1
     .1 .1)
 
 pub show-of-numbers-spec : {M : Type 1} → statement M
@@ -104,9 +104,9 @@ show-of-numbers-spec =
     same-length
     same-length-2
     returns
-    slice-reshare-prefix-screen-show-row
-    slice-aggregate-screen-show-row
-    screen-show-row-requires
+    slice-reshare-prefix-show-of-screen
+    slice-aggregate-show-of-screen
+    show-of-screen-requires
     same-length-3
     same-length-4
     same-length-5

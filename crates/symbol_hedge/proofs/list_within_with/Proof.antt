@@ -3,7 +3,7 @@ use Rattle.symbol_hedge.proofs.list_within_with.Statement.{statement}
 use Rattle.symbol_hedge.proofs.list_within_with.Tie as tie
 use Rattle.symbol_hedge.proofs.list_within_with.Reads as reads
 use Rattle.symbol_hedge.proofs.list_within_with.Lts as lts
-use Rattle.symbol_check.proofs.check_lent.Reads as check-lent-reads
+use Rattle.check_lent.proofs.check_lent_counted.Reads as check-lent-counted-reads
 use Rattle.symbol_hedge.proofs.list_checked_with.Reads as list-checked-with-reads
 use mathlib.Core.Path.{_≡_, refl, sym, _∙_}
 use Prim.Native.Nat.{_<_, _≤_}
@@ -13,8 +13,8 @@ use Rattle.symbol_screens.specs.Rewriting.{lent}
 use Rattle.symbol_hedge.proofs.HedgeAnswers.{screen-refused, refused-bytes, screen-accepted, accepted-bytes}
 
 -- src/lib.rt:104:9
-check-lent-requires : tie.Need-check-lent-requires
-check-lent-requires c κs = search needs
+check-lent-counted-requires : tie.Need-check-lent-counted-requires
+check-lent-counted-requires c κs = search needs
 
 -- src/lib.rt:106:30
 enum-known-answer : tie.Need-enum-known-answer
@@ -29,24 +29,26 @@ cast-list-checked-with : tie.Need-cast-list-checked-with
 cast-list-checked-with c =
     let st = c .before .before .before .before .before .before .before .before .before .before .before .before
     .before .before .before .before .before .before .before .before in
-    let check-lent = c .before .before .before .before .before .before .check-lent in
+    let check-lent-counted = c .before .before .before .before .before .before .check-lent-counted in
     let enum-told = c .enum-told in
     let ok = checked-in (lent (st .args .text .now)) (st .args .table .now) (st .args .records .now) (st .args
-    .pool .now) (st .args .used) (st .args .root) (sym (check-lent .ensures .0) ∙ enum-told .given .1) in
+    .pool .now) (st .args .used) (st .args .root) (sym (check-lent-counted .ensures .0) ∙ enum-told .given
+    .1) in
     let small : st .args .used ≤ 4096 = checked-used-in (lent (st .args .text .now)) (st .args .table .now) (st
     .args .records .now) (st .args .pool .now) (st .args .used) (st .args .root) ok in
     let h : st .args .root < st .args .used = ok .root-used in
     omega (arith, small)
 
 -- src/lib.rt:113:18
-cast-t23 : tie.Need-cast-t23
-cast-t23 c =
+cast-t24 : tie.Need-cast-t24
+cast-t24 c =
     let st = c .before .before .before .before .before .before .before .before .before .before .before .before
     .before .before .before .before .before .before .before .before in
-    let check-lent = c .before .before .before .before .before .before .check-lent in
+    let check-lent-counted = c .before .before .before .before .before .before .check-lent-counted in
     let enum-told = c .enum-told in
     let ok = checked-in (lent (st .args .text .now)) (st .args .table .now) (st .args .records .now) (st .args
-    .pool .now) (st .args .used) (st .args .root) (sym (check-lent .ensures .0) ∙ enum-told .given .1) in
+    .pool .now) (st .args .used) (st .args .root) (sym (check-lent-counted .ensures .0) ∙ enum-told .given
+    .1) in
     let small : st .args .used ≤ 4096 = checked-used-in (lent (st .args .text .now)) (st .args .table .now) (st
     .args .records .now) (st .args .pool .now) (st .args .used) (st .args .root) ok in
     let h : st .args .root < st .args .used = ok .root-used in
@@ -57,10 +59,11 @@ mul-list-checked-with : tie.Need-mul-list-checked-with
 mul-list-checked-with c =
     let st = c .before .before .before .before .before .before .before .before .before .before .before .before
     .before .before .before .before .before .before .before .before in
-    let check-lent = c .before .before .before .before .before .before .check-lent in
+    let check-lent-counted = c .before .before .before .before .before .before .check-lent-counted in
     let enum-told = c .enum-told in
     let ok = checked-in (lent (st .args .text .now)) (st .args .table .now) (st .args .records .now) (st .args
-    .pool .now) (st .args .used) (st .args .root) (sym (check-lent .ensures .0) ∙ enum-told .given .1) in
+    .pool .now) (st .args .used) (st .args .root) (sym (check-lent-counted .ensures .0) ∙ enum-told .given
+    .1) in
     let small : st .args .used ≤ 4096 = checked-used-in (lent (st .args .text .now)) (st .args .table .now) (st
     .args .records .now) (st .args .pool .now) (st .args .used) (st .args .root) ok in
     let h : st .args .root < st .args .used = ok .root-used in
@@ -71,10 +74,11 @@ slice-read-list-checked-with : tie.Need-slice-read-list-checked-with
 slice-read-list-checked-with c =
     let st = c .before .before .before .before .before .before .before .before .before .before .before .before
     .before .before .before .before .before .before .before .before .before in
-    let check-lent = c .before .before .before .before .before .before .before .check-lent in
+    let check-lent-counted = c .before .before .before .before .before .before .before .check-lent-counted in
     let enum-told = c .before .enum-told in
     let ok = checked-in (lent (st .args .text .now)) (st .args .table .now) (st .args .records .now) (st .args
-    .pool .now) (st .args .used) (st .args .root) (sym (check-lent .ensures .0) ∙ enum-told .given .1) in
+    .pool .now) (st .args .used) (st .args .root) (sym (check-lent-counted .ensures .0) ∙ enum-told .given
+    .1) in
     let small : st .args .used ≤ 4096 = checked-used-in (lent (st .args .text .now)) (st .args .table .now) (st
     .args .records .now) (st .args .pool .now) (st .args .used) (st .args .root) ok in
     let h : st .args .root < st .args .used = ok .root-used in
@@ -85,21 +89,22 @@ list-checked-with-requires : tie.Need-list-checked-with-requires
 list-checked-with-requires c κs =
     let st = c .before .before .before .before .before .before .before .before .before .before .before .before
     .before .before .before .before .before .before .before .before .before .before .before .before in
-    let check-lent = c .before .before .before .before .before .before .before .before .before .before
-    .check-lent in
+    let check-lent-counted = c .before .before .before .before .before .before .before .before .before .before
+    .check-lent-counted in
     let enum-told = c .before .before .before .before .enum-told in
     let ok = checked-in (lent (st .args .text .now)) (st .args .table .now) (st .args .records .now) (st .args
-    .pool .now) (st .args .used) (st .args .root) (sym (check-lent .ensures .0) ∙ enum-told .given .1) in
+    .pool .now) (st .args .used) (st .args .root) (sym (check-lent-counted .ensures .0) ∙ enum-told .given
+    .1) in
     let small : st .args .used ≤ 4096 = checked-used-in (lent (st .args .text .now)) (st .args .table .now) (st
     .args .records .now) (st .args .pool .now) (st .args .used) (st .args .root) ok in
     let h : st .args .root < st .args .used = ok .root-used in (
       ok,
       (
-        check-lent .ensures .1 (enum-told .given .1) (st .args .root) h,
+        check-lent-counted .ensures .1 (enum-told .given .1) (st .args .root) h,
         (
           st .pre .1 .1 .0,
-          st .pre .1 .1 .1
-              small,
+          st .pre
+              .1 .1 .1 small,
         ),
       ),
     )
@@ -117,9 +122,9 @@ returns : tie.Need-returns
 returns c =
     let st = c .before .before .before .before .before .before .before .before .before .before .before .before
     .before .before .before .before .before .before .before .before .before in
-    let check-lent = c .before .before .before .before .before .before .before .check-lent in
+    let check-lent-counted = c .before .before .before .before .before .before .before .check-lent-counted in
     let answer = c .before .answer in
-    let e = sym (check-lent .ensures .0) ∙ answer .given .1 in (
+    let e = sym (check-lent-counted .ensures .0) ∙ answer .given .1 in (
       screen-refused (st .args .text .now) (st .args .table .now) (st .args .records .now) (st .args .pool .now)
           (st .args .used) (st .args .root) (st .args .values .now) (st .args .nulls .now) (st .args .list .now) (st
           .args .tally) _ e,
@@ -154,12 +159,12 @@ returns-2 c =
     let st = c .before .before .before .before .before .before .before .before .before .before .before .before
     .before .before .before .before .before .before .before .before .before .before .before .before .before
     .before .before .before .before .before .before in
-    let check-lent = c .before .before .before .before .before .before .before .before .before .before .before
-    .before .before .before .before .before .before .check-lent in
+    let check-lent-counted = c .before .before .before .before .before .before .before .before .before .before
+    .before .before .before .before .before .before .before .check-lent-counted in
     let enum-told = c .before .before .before .before .before .before .before .before .before .before .before
     .enum-told in
     let list-checked-with = c .before .before .before .before .before .before .list-checked-with in
-    let e = sym (check-lent .ensures .0) ∙ enum-told .given .1 in (
+    let e = sym (check-lent-counted .ensures .0) ∙ enum-told .given .1 in (
       screen-accepted (st .args .text .now) (st .args .table .now) (st .args .records .now) (st .args .pool
           .now) (st .args .used) (st .args .root) (st .args .values .now) (st .args .nulls .now) (st .args .list .now)
           (st .args .tally) _ e (list-checked-with .ensures .0),
@@ -173,11 +178,11 @@ pub list-within-with-spec : {M : Type 1} → statement M
 list-within-with-spec =
     tie.close
     (tie.spec
-    check-lent-requires
+    check-lent-counted-requires
     enum-known-answer
     enum-told
     cast-list-checked-with
-    cast-t23
+    cast-t24
     mul-list-checked-with
     slice-read-list-checked-with
     list-checked-with-requires

@@ -3,7 +3,7 @@ use Rattle.way_symbols.proofs.line_of_numbers.Statement.{statement}
 use Rattle.way_symbols.proofs.line_of_numbers.Tie as tie
 use Rattle.way_symbols.proofs.line_of_numbers.Reads as reads
 use Rattle.way_symbols.proofs.line_of_numbers.Lts as lts
-use Rattle.in_the_way.proofs.screen_line_in_the_way.Reads as screen-line-in-the-way-reads
+use Rattle.in_the_way.proofs.line_of_screen.Reads as line-of-screen-reads
 use Rattle.plain_symbols.proofs.plain_numbers.Reads as plain-numbers-reads
 use mathlib.Core.Path.{sym, _∙_}
 use Prim.Native.Nat.{_≤_}
@@ -35,8 +35,8 @@ returns c =
     .args .used) (st .args .root) _ _ (plain-numbers .ensures .0) (if1 .taken)
 
 -- src/lib.rt:39:9
-slice-reshare-prefix-screen-line-in-the-way : tie.Need-slice-reshare-prefix-screen-line-in-the-way
-slice-reshare-prefix-screen-line-in-the-way c =
+slice-reshare-prefix-line-of-screen : tie.Need-slice-reshare-prefix-line-of-screen
+slice-reshare-prefix-line-of-screen c =
     let st = c .before .before .before .before .before .before .before .before .before .before .before .before
     .before .before in
     let plain-numbers = c .before .before .before .before .before .plain-numbers in
@@ -47,8 +47,8 @@ slice-reshare-prefix-screen-line-in-the-way c =
     omega (arith, h, st .pre .0, plain-numbers .kept .1 .1 .1 .1 .1 .1 .0)
 
 -- src/lib.rt:39:9
-slice-aggregate-screen-line-in-the-way : tie.Need-slice-aggregate-screen-line-in-the-way
-slice-aggregate-screen-line-in-the-way c =
+slice-aggregate-line-of-screen : tie.Need-slice-aggregate-line-of-screen
+slice-aggregate-line-of-screen c =
     let st = c .before .before .before .before .before .before .before .before .before .before .before .before
     .before .before .before in
     let plain-numbers = c .before .before .before .before .before .before .plain-numbers in
@@ -65,8 +65,8 @@ slice-aggregate-screen-line-in-the-way c =
     sym (length-take-le (length (st .args .table .now)) (plain-numbers .last .1 .1 .1 .1 .1 .1 .0) b)
 
 -- src/lib.rt:38:5
-screen-line-in-the-way-requires : tie.Need-screen-line-in-the-way-requires
-screen-line-in-the-way-requires c κs = search needs
+line-of-screen-requires : tie.Need-line-of-screen-requires
+line-of-screen-requires c κs = search needs
 
 -- src/lib.rt:13:1
 same-length-3 : tie.Need-same-length-3
@@ -84,12 +84,12 @@ returns-2 c =
     let plain-numbers = c .before .before .before .before .before .before .before .before .before .plain-numbers
     in
     let if1 = c .before .before .before .before .if1 in
-    let screen-line-in-the-way = c .screen-line-in-the-way in
+    let line-of-screen = c .line-of-screen in
     end-told (st .args .text .now) (st .args .table .now) (st .args .records .now) (st .args .pool .now) (st
     .args .used) (st .args .root) (take (length (st .args .table .now)) (plain-numbers .last .1 .1 .1 .1 .1 .1
     .0)) (plain-numbers .last .1 .1 .1 .1 .1 .1 .1 .0) (plain-numbers .ensures .1 (if1 .left)) (sym (if1 .left)
-    ∙ plain-numbers .ensures .0) _ _ _ (screen-line-in-the-way .ensures .0) (screen-line-in-the-way .ensures .1
-    .0) (screen-line-in-the-way .ensures .1 .1 .0) (screen-line-in-the-way .ensures .1 .1 .1)
+    ∙ plain-numbers .ensures .0) _ _ _ (line-of-screen .ensures .0) (line-of-screen .ensures .1
+    .0) (line-of-screen .ensures .1 .1 .0) (line-of-screen .ensures .1 .1 .1)
 
 pub line-of-numbers-spec : {M : Type 1} → statement M
 line-of-numbers-spec =
@@ -99,9 +99,9 @@ line-of-numbers-spec =
     same-length
     same-length-2
     returns
-    slice-reshare-prefix-screen-line-in-the-way
-    slice-aggregate-screen-line-in-the-way
-    screen-line-in-the-way-requires
+    slice-reshare-prefix-line-of-screen
+    slice-aggregate-line-of-screen
+    line-of-screen-requires
     same-length-3
     same-length-4
     returns-2)

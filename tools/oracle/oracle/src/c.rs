@@ -2,7 +2,7 @@
 //! may come with any pointer. The caller hands over only screens that checking accepts.
 
 use crate::aexpr::AExpr;
-use crate::{merge, passes, prepare, rewrite, Outcome};
+use crate::{merge, passes, prepare, rewrite, Outcome, Pools};
 use polars_utils::arena::Arena;
 use std::slice;
 
@@ -30,6 +30,8 @@ pub unsafe extern "C" fn oracle_rewrite(
     records_len: usize,
     pool: *const u8,
     pool_len: usize,
+    text: *const u8,
+    text_len: usize,
     root: usize,
     difference: bool,
     added: *mut u8,
@@ -38,7 +40,9 @@ pub unsafe extern "C" fn oracle_rewrite(
     new_root: *mut usize,
 ) -> i32 {
     let used = records_len / 16;
-    let (answer, at, made) = match rewrite(bytes(records, records_len), &values(pool, pool_len), root, difference) {
+    let values = values(pool, pool_len);
+    let pools = Pools { values: &values, text: bytes(text, text_len) };
+    let (answer, at, made) = match rewrite(bytes(records, records_len), pools, root, difference) {
         Outcome::Unchanged => return 0,
         Outcome::NothingPasses => {
             let mut literal = [0; 16];
@@ -69,9 +73,12 @@ pub unsafe extern "C" fn oracle_passes(
     records_len: usize,
     pool: *const u8,
     pool_len: usize,
+    text: *const u8,
+    text_len: usize,
     root: usize,
 ) -> u64 {
-    passes(bytes(records, records_len), &values(pool, pool_len), root)
+    let values = values(pool, pool_len);
+    passes(bytes(records, records_len), Pools { values: &values, text: bytes(text, text_len) }, root)
 }
 
 /// A screen read into the Rust's arena once, for timing.
@@ -88,8 +95,11 @@ pub unsafe extern "C" fn oracle_prepare(
     records_len: usize,
     pool: *const u8,
     pool_len: usize,
+    text: *const u8,
+    text_len: usize,
 ) -> *mut Prepared {
-    let arena = prepare(bytes(records, records_len), &values(pool, pool_len));
+    let values = values(pool, pool_len);
+    let arena = prepare(bytes(records, records_len), Pools { values: &values, text: bytes(text, text_len) });
     Box::into_raw(Box::new(Prepared { arena, used: records_len / 16 }))
 }
 

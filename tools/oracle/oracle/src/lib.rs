@@ -15,7 +15,7 @@ pub mod prelude {
 }
 
 use aexpr::*;
-use polars_core::prelude::{AnyValue, DataType, Series};
+use polars_core::prelude::{AnyValue, DataType, Series, Symbol};
 use polars_core::scalar::Scalar;
 use polars_utils::arena::{Arena, Node};
 use polars_utils::pl_str::PlSmallStr;
@@ -32,14 +32,28 @@ fn word(r: &[u8], at: usize) -> usize {
     u32::from_le_bytes(r[at..at + 4].try_into().unwrap()) as usize
 }
 
-fn scalar(ty: u8, v: Option<i64>) -> Scalar {
-    let (dtype, make): (_, fn(i64) -> AnyValue) = match ty {
-        1 => (DataType::Int64, AnyValue::Int64),
-        2 => (DataType::Date, |v| AnyValue::Date(v as i32)),
-        3 => (DataType::Boolean, |v| AnyValue::Boolean(v != 0)),
+/// The values of lists, and the bytes of symbols.
+#[derive(Clone, Copy)]
+pub struct Pools<'a> {
+    pub values: &'a [i64],
+    pub text: &'a [u8],
+}
+
+fn symbol(v: i64, text: &[u8]) -> AnyValue {
+    let (start, length) = (v as u32, (v as u64 >> 32) as usize);
+    AnyValue::String(Symbol { bytes: text[start as usize..start as usize + length].to_vec(), start })
+}
+
+fn scalar(ty: u8, v: Option<i64>, text: &[u8]) -> Scalar {
+    let dtype = [DataType::Int64, DataType::Date, DataType::Boolean, DataType::String][ty as usize - 1].clone();
+    let value = v.map_or(AnyValue::Null, |v| match ty {
+        1 => AnyValue::Int64(v),
+        2 => AnyValue::Date(v as i32),
+        3 => AnyValue::Boolean(v != 0),
+        4 => symbol(v, text),
         _ => unreachable!("type"),
-    };
-    Scalar::new(dtype, v.map_or(AnyValue::Null, make))
+    });
+    Scalar::new(dtype, value)
 }
 
 fn function(inputs: &[usize], f: IRBooleanFunction) -> AExpr {
@@ -50,12 +64,12 @@ fn function(inputs: &[usize], f: IRBooleanFunction) -> AExpr {
     }
 }
 
-fn node(r: &[u8], pool: &[i64]) -> AExpr {
+fn node(r: &[u8], pools: Pools) -> AExpr {
     let (a, b, c) = (word(r, 4), word(r, 8), word(r, 12));
     match r[0] {
         1 => AExpr::Column(PlSmallStr(a as u32)),
-        2 => AExpr::Literal(scalar(r[2], Some(i64::from_le_bytes(r[8..16].try_into().unwrap()))).into()),
-        3 => AExpr::Literal(scalar(r[2], None).into()),
+        2 => AExpr::Literal(scalar(r[2], Some(i64::from_le_bytes(r[8..16].try_into().unwrap())), pools.text).into()),
+        3 => AExpr::Literal(scalar(r[2], None, pools.text).into()),
         4 => AExpr::BinaryExpr { left: Node(a), op: Operator::ALL[r[1] as usize], right: Node(b) },
         5 => function(&[a], IRBooleanFunction::Not),
         6 => function(&[a], IRBooleanFunction::IsNull),
@@ -66,9 +80,9 @@ fn node(r: &[u8], pool: &[i64]) -> AExpr {
             function(&[a, b, c], IRBooleanFunction::IsBetween { closed })
         }
         9 => {
-            let members = pool[a..a + b].iter().map(|&v| Some(v)).chain((r[1] == 1).then_some(None));
-            let values: Vec<_> = members.map(|v| scalar(r[2], v)).collect();
-            let dtype = scalar(r[2], None).dtype().clone();
+            let members = pools.values[a..a + b].iter().map(|&v| Some(v)).chain((r[1] == 1).then_some(None));
+            let values: Vec<_> = members.map(|v| scalar(r[2], v, pools.text)).collect();
+            let dtype = scalar(r[2], None, pools.text).dtype().clone();
             let series = Series { dtype: dtype.clone(), values: values.iter().map(|s| s.as_any_value()).collect() };
             AExpr::Literal(Scalar::new(DataType::List(Box::new(dtype)), AnyValue::List(series)).into())
         }
@@ -130,6 +144,7 @@ fn record(ae: &AExpr) -> [u8; 16] {
                 AnyValue::Int64(v) => (1, *v),
                 AnyValue::Date(v) => (2, *v as i64),
                 AnyValue::Boolean(v) => (3, *v as i64),
+                AnyValue::String(v) => (4, (v.start as u64 | (v.bytes.len() as u64) << 32) as i64),
                 v => unreachable!("added literal {v:?}"),
             };
             r[0] = 2;
@@ -148,9 +163,9 @@ fn record(ae: &AExpr) -> [u8; 16] {
 }
 
 /// `records` holds the used records of a checked screen.
-pub fn rewrite(records: &[u8], pool: &[i64], root: usize, difference: bool) -> Outcome {
+pub fn rewrite(records: &[u8], pools: Pools, root: usize, difference: bool) -> Outcome {
     let used = records.len() / 16;
-    let mut arena = Arena(records.chunks_exact(16).map(|r| node(r, pool)).collect::<Vec<_>>());
+    let mut arena = prepare(records, pools);
     if difference {
         apply_difference(&mut arena, root);
     }
@@ -178,8 +193,8 @@ pub fn rewrite(records: &[u8], pool: &[i64], root: usize, difference: bool) -> O
 /// How many rounds `propagate_equalities` makes of a checked screen that has an equality; 0 if it is not called. Behind
 /// the conjuncts stands one more, the equality of two columns that no screen has: it changes nothing, and is asked for
 /// once a round.
-pub fn passes(records: &[u8], pool: &[i64], root: usize) -> u64 {
-    let mut arena = prepare(records, pool);
+pub fn passes(records: &[u8], pools: Pools, root: usize) -> u64 {
+    let mut arena = prepare(records, pools);
     let n = arena.0.len();
     arena.0.push(AExpr::Column(PlSmallStr(64)));
     arena.0.push(AExpr::Column(PlSmallStr(65)));
@@ -191,8 +206,8 @@ pub fn passes(records: &[u8], pool: &[i64], root: usize) -> u64 {
 }
 
 /// For timing: the arena once, then the merging alone.
-pub fn prepare(records: &[u8], pool: &[i64]) -> Arena<AExpr> {
-    Arena(records.chunks_exact(16).map(|r| node(r, pool)).collect::<Vec<_>>())
+pub fn prepare(records: &[u8], pools: Pools) -> Arena<AExpr> {
+    Arena(records.chunks_exact(16).map(|r| node(r, pools)).collect::<Vec<_>>())
 }
 
 pub fn merge(arena: &mut Arena<AExpr>, root: usize) -> Option<usize> {

@@ -22,49 +22,49 @@ abbrev μ-loop : tie.MeasureT-loop
 μ-loop file₀ first kind content blocks j₀ file j =
     blocks - j
 
--- src/block.rt:71:19
+-- src/block.rt:72:19
 add-blocks : tie.Need-add-blocks Inv-loop μ-loop
 unfolding blocksFor
 add-blocks c =
     omega arith
 
--- src/block.rt:73:5
+-- src/block.rt:74:5
 loop-holds : tie.Need-loop-holds Inv-loop μ-loop
 unfolding blocksTo blocksFor
 loop-holds c =
     (search needs, search needs, refl, sym (overwrite-none _ _))
 
--- src/block.rt:74:21
+-- src/block.rt:75:21
 mul-start : tie.Need-mul-start Inv-loop μ-loop
 unfolding blocksFor
 mul-start c =
     omega arith
 
--- src/block.rt:75:13
+-- src/block.rt:76:13
 piece-end-requires : tie.Need-piece-end-requires Inv-loop μ-loop
 unfolding blocksFor
 piece-end-requires c κs =
     omega arith
 
--- src/block.rt:76:27
+-- src/block.rt:77:27
 add-write-block : tie.Need-add-write-block Inv-loop μ-loop
 unfolding blocksFor
 add-write-block c =
     omega arith
 
--- src/block.rt:76:44
+-- src/block.rt:77:44
 sub-write-block : tie.Need-sub-write-block Inv-loop μ-loop
 sub-write-block c = search needs
 
--- src/block.rt:76:44
+-- src/block.rt:77:44
 part-write-block-start : tie.Need-part-write-block-start Inv-loop μ-loop
 part-write-block-start c = search needs
 
--- src/block.rt:76:44
+-- src/block.rt:77:44
 part-write-block-end : tie.Need-part-write-block-end Inv-loop μ-loop
 part-write-block-end c = search needs
 
--- src/block.rt:76:9
+-- src/block.rt:77:9
 write-block-requires : tie.Need-write-block-requires Inv-loop μ-loop
 write-block-requires c κs =
     let st = c .before .before .before .before .before .before .before in
@@ -73,17 +73,17 @@ write-block-requires c κs =
     let p = piece-part (st .args .content .now) (l1 .j) (piece-end .result) (piece-end .ensures .0) (piece-end
     .ensures .1) (piece-end .ensures .2) (piece-end .ensures .3) in
     let q = length-piece (st .args .content .now) (l1 .j) in
-    (omega arith, (omega arith, (rw p q, λ e. absurd (omega (arith, e)))))
+    (omega arith, (omega arith, rw p q))
 
--- src/block.rt:77:9
+-- src/block.rt:78:9
 add-j : tie.Need-add-j Inv-loop μ-loop
 add-j c = search needs
 
--- src/block.rt:73:5
+-- src/block.rt:74:5
 loop-less : tie.Need-loop-less Inv-loop μ-loop
 loop-less c = search needs
 
--- src/block.rt:73:5
+-- src/block.rt:74:5
 loop-again : tie.Need-loop-again Inv-loop μ-loop
 loop-again c =
     let st = c .before .before .before .before .before .before .before .before .before .before in
@@ -95,15 +95,15 @@ loop-again c =
       omega arith,
       l1 .inv .1,
       omega arith,
-      blocks-more _ _ _ _ _ _ _ _ (omega arith) p (l1 .inv .3) (write-block
-          .ensures),
+      blocks-more _ _ _ _ _ _ _ _ (omega arith) p (l1 .inv .3)
+          (write-block .ensures),
     )
 
--- src/block.rt:64:1
+-- src/block.rt:66:1
 same-length : tie.Need-same-length Inv-loop μ-loop
 same-length c = search needs
 
--- src/block.rt:64:1
+-- src/block.rt:66:1
 returns : tie.Need-returns Inv-loop μ-loop
 returns c =
     let st = c .before .before .before .before in

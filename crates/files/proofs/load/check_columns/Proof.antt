@@ -12,18 +12,18 @@ use lib.Seq.{length-take-le}
 use native.Mathlib.Omega.{arith}
 use Rattle.files.proofs.Loading.{ok-blocks, columns-held, held-past}
 
--- src/load.rt:41:5
+-- src/load.rt:51:5
 gather-requires : tie.Need-gather-requires
 gather-requires c κs =
     let st = c .before .before .before in
     let c = columns-held (st .args .f .now) (st .pre .0) in
     (ok-blocks (st .args .f .now) (st .pre .0), omega (arith, c))
 
--- src/load.rt:42:17
+-- src/load.rt:52:17
 slice-reshare-prefix-check-table : tie.Need-slice-reshare-prefix-check-table
 slice-reshare-prefix-check-table c = search needs
 
--- src/load.rt:42:17
+-- src/load.rt:52:17
 slice-aggregate-check-table : tie.Need-slice-aggregate-check-table
 slice-aggregate-check-table c =
     let st = c .before .before .before .before .before .before .before in
@@ -31,22 +31,23 @@ slice-aggregate-check-table c =
     let b : st .args .columns ≤ length (gather .last .1 .1 .0) = search needs in
     sym (length-take-le (st .args .columns) (gather .last .1 .1 .0) b)
 
--- src/load.rt:42:5
+-- src/load.rt:52:5
 check-table-requires : tie.Need-check-table-requires
 check-table-requires c κs = search needs
 
--- src/load.rt:31:1
+-- src/load.rt:32:1
 same-length : tie.Need-same-length
 same-length c = search needs
 
--- src/load.rt:31:1
+-- src/load.rt:32:1
 returns : tie.Need-returns
 returns c =
     let st = c .before .before .before .before .before .before .before .before in
     let gather = c .before .before .before .before .gather in
     let check-table = c .check-table in
-    held-past (st .args .f .now) _ _ _ _ (st .pre .0) (st .pre .1 .0) (st .pre .1 .1 .0) (st .pre .1 .1 .1 .0)
-    (st .pre .1 .1 .1 .1 .0) _ _ (gather .ensures) _ (st .pre .1 .1 .1 .1 .1 .0) (check-table .ensures)
+    held-past (st .args .f .now) _ _ _ _ _ (st .pre .0) (st .pre .1 .0) (st .pre .1 .1 .0) (st .pre .1 .1 .1 .0)
+    (st .pre .1 .1 .1 .1 .0) (st .pre .1 .1 .1 .1 .1 .0) _ _ (gather .ensures) _ (st .pre .1 .1 .1 .1 .1 .1 .0)
+    (check-table .ensures)
 
 pub check-columns-spec : {M : Type 1} → statement M
 check-columns-spec =

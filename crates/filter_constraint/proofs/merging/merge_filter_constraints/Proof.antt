@@ -4,6 +4,7 @@ use Rattle.filter_constraint.proofs.merging.merge_filter_constraints.Ti
 use Rattle.filter_constraint.proofs.merging.merge_filter_constraints.Reads as reads
 use Rattle.filter_constraint.proofs.merging.merge_filter_constraints.Lts as lts
 use Rattle.filter_constraint.proofs.merged.merge_columns.Reads as merge-columns-reads
+use Rattle.filter_constraint.proofs.merging.put_literals.Reads as put-literals-reads
 use Rattle.filter_constraint.proofs.merging.with_passes.Reads as with-passes-reads
 use Rattle.filter_constraint.proofs.rebuild.rebuild.Reads as rebuild-reads
 use Rattle.reckoning.proofs.reckon.nothing_passes.Reads as nothing-passes-reads
@@ -13,29 +14,26 @@ use Prim.Native.Nat.{ℕ, _+_, _*_, _-_, _≤_, _<_}
 use native.Mathlib.Omega.{arith}
 use lib.ListN.{length, getD, length-replicate}
 use Rattle.truth.specs.FromBytes.{aexprOf}
-use Rattle.constraints.specs.Lined.{lined}
 use Rattle.column_constraints.specs.Abstraction.{conjuncts}
-use Rattle.merge.specs.Emit.{comparisons}
-use Rattle.merge.specs.Reasons.{shownIn}
 use Rattle.read_operands.specs.Walk.{firstOf}
 use Rattle.column_table.specs.Words.{columnsOf}
 use Rattle.column_table.specs.State.{shown}
 use Rattle.column_table.proofs.Encoding.{columns-empty}
-use Rattle.filter_constraint.proofs.Concluding.{outcomeTo, passesTo, answered-as, total-same, without-lines, lined-is, compared-some}
-use Rattle.column_reasons.specs.ColumnText.{tableText}
-use Rattle.filter_constraint.specs.Explained.{nodesText}
-use Rattle.filter_constraint.proofs.Explained.{explained-kept, explained-rebuilt, rebuilt-text, nothing-unwritten}
+use Rattle.filter_constraint.specs.Concluded.{linedTo}
+use Rattle.filter_constraint.proofs.Concluding.{compared-some}
+use Rattle.filter_constraint.proofs.Explained.{ends-stopped, ends-stayed, ends-chained, chained}
+use Rattle.filter_constraint.proofs.Converting.{fits-converted}
 
--- src/merging.rt:98:9
+-- src/merging.rt:105:9
 slice-aggregate-merge-columns : tie.Need-slice-aggregate-merge-columns
 slice-aggregate-merge-columns c = search needs
 
--- src/merging.rt:88:9
+-- src/merging.rt:95:9
 merge-columns-requires : tie.Need-merge-columns-requires
 merge-columns-requires c κs =
     let st = c .before .before .before .before .before .before .before .before .before .before .before .before
     .before .before .before .before .before .before .before .before .before .before .before .before .before
-    in (
+    .before .before .before in (
       (
         st .pre .0 .0,
         st .pre .0 .1,
@@ -45,280 +43,318 @@ merge-columns-requires c κs =
         st .pre .0
             .4,
       ),
-      (st .pre .1 .0, (st .pre .1 .1 .0, st .pre .1 .1 .1)),
+      (st .pre .1 .0, (st .pre .1 .1 .0, st .pre .1 .1 .1 .0)),
     )
 
--- src/merging.rt:107:28
+-- src/merging.rt:114:28
 nothing-passes-requires : tie.Need-nothing-passes-requires
 nothing-passes-requires c κs =
     let st = c .before .before .before .before .before .before .before .before .before .before .before .before
     .before .before .before .before .before .before .before .before .before .before .before .before .before
     .before .before .before .before .before .before .before .before .before .before .before .before .before
-    .before .before .before in
+    .before .before .before .before .before .before in
     st .pre .0 .2
 
--- src/merging.rt:107:9
+-- src/merging.rt:114:9
 with-passes-requires : tie.Need-with-passes-requires
 with-passes-requires c κs = search needs
 
--- src/merging.rt:107:9
+-- src/merging.rt:114:9
 same-length : tie.Need-same-length
 same-length c = search needs
 
--- src/merging.rt:107:9
+-- src/merging.rt:114:9
 same-length-2 : tie.Need-same-length-2
 same-length-2 c = search needs
 
--- src/merging.rt:107:9
+-- src/merging.rt:114:9
 same-length-3 : tie.Need-same-length-3
 same-length-3 c = search needs
 
--- src/merging.rt:107:9
+-- src/merging.rt:114:9
 same-length-4 : tie.Need-same-length-4
 same-length-4 c = search needs
 
--- src/merging.rt:107:9
+-- src/merging.rt:114:9
 same-length-5 : tie.Need-same-length-5
 same-length-5 c = search needs
 
--- src/merging.rt:107:9
+-- src/merging.rt:114:9
 same-length-6 : tie.Need-same-length-6
 same-length-6 c = search needs
 
--- src/merging.rt:107:9
+-- src/merging.rt:114:9
 same-length-7 : tie.Need-same-length-7
 same-length-7 c = search needs
 
--- src/merging.rt:107:9
+-- src/merging.rt:114:9
 returns : tie.Need-returns
 returns c =
     let st = c .before .before .before .before .before .before .before .before .before .before .before .before
     .before .before .before .before .before .before .before .before .before .before .before .before .before
     .before .before .before .before .before .before .before .before .before .before .before .before .before
-    .before .before .before .before .before .before .before in
+    .before .before .before .before .before .before .before .before .before .before in
     let merge-columns = c .before .before .before .before .before .before .before .before .before .before
     .before .before .before .before .before .before .before .before .before .merge-columns in
     let if1 = c .before .before .before .before .before .if1 in
     let nothing-passes = c .before .before .before .nothing-passes in
-    let with-passes = c .with-passes in
-    explained-kept (st .args .t .now) (st .args .rs .now) (st .args .trees .now) (st .args .used) (outcomeTo
-    (aexprOf (st .args .rs .now) (st .args .p .now)) (st .args .nodes .now) (st .args .n)) _ _ (passesTo
-    (aexprOf (st .args .rs .now) (st .args .p .now)) (st .args .nodes .now) (st .args .n)) _ _ _ (st .args
-    .reasons .now) (nodesText (st .args .t .now) (st .args .rs .now) (st .args .p .now) (st .args .nodes .now)
-    (st .args .n)) (with-passes .ensures .0) (with-passes .ensures .1 .0) (with-passes .ensures .1 .1) refl
-    (answered-as (st .args .t .now) (st .args .rs .now) (st .args .trees .now) (st .args .used) (outcomeTo
-    (aexprOf (st .args .rs .now) (st .args .p .now)) (st .args .nodes .now) (st .args .n)) _ _ _ (without-lines
-    (aexprOf (st .args .rs .now) (st .args .p .now)) (st .args .nodes .now) (st .args .n) _ (merge-columns
-    .ensures .0 .stops (if1 .taken))) (
-      nothing-passes .ensures .0 (st .args .trees .now),
-      nothing-passes
-          .ensures .1 (st .args .t .now),
-    )) (merge-columns .ensures .1 .0) (nothing-unwritten (length (st .args .rs
-    .now)) (st .args .trees .now) (st .args .used) _ (nothing-passes .ensures .0 (st .args .trees .now)))
+    let with-passes = c .with-passes in (
+      ends-stopped (linedTo (aexprOf (st .args .rs .now) (st .args .p .now)) (st .args .nodes .now) (st .args
+          .n)) (conjuncts (st .args .kinds .now) (st .args .values .now) (st .args .starts .now) (st .args .counts
+          .now) (st .args .p .now)) (st .args .t .now) (st .args .rs .now) (st .args .trees .now) (st .args .nodes
+          .now) (st .args .bits .now) (st .args .own .now) (st .args .text .now) (st .args .reasons .now) (st .args
+          .used) (with-passes .result) _ (st .args .reasons .now) (merge-columns .last .1 .1 .1 .1 .1 .1 .1 .1 .1 .0)
+          (merge-columns .last .1 .1 .1 .1 .1 .1 .1 .1 .1 .1 .0) (merge-columns .last .1 .1 .1 .1 .1 .1 .1 .1 .1 .1 .1
+          .0) (merge-columns .last .1 .1 .1 .1 .1 .1 .1 .1 .1 .1 .1 .1 .0) (merge-columns .result .unsat)
+          (merge-columns .result .unchanged) (merge-columns .result .columns) (merge-columns .result .keeps)
+          (merge-columns .result .total) (merge-columns .ensures .0) (merge-columns .ensures .1 .1 .0) (merge-columns
+          .ensures .1 .1 .4) (if1 .taken) (
+            with-passes .ensures .0 ∙ nothing-passes .ensures .0 (st .args .trees
+                .now),
+            (
+              rw (with-passes .ensures .0) (nothing-passes .ensures .1 (st .args .t .now)),
+              (
+                refl,
+                with-passes
+                    .ensures .1 .1,
+              ),
+            ),
+          ),
+      with-passes .ensures .1 .0 ∙ merge-columns .ensures .1 .0,
+    )
 
--- src/merging.rt:110:9
+-- src/merging.rt:117:9
 with-passes-requires-2 : tie.Need-with-passes-requires-2
 with-passes-requires-2 c κs = search needs
 
--- src/merging.rt:110:9
+-- src/merging.rt:117:9
 same-length-8 : tie.Need-same-length-8
 same-length-8 c = search needs
 
--- src/merging.rt:110:9
+-- src/merging.rt:117:9
 same-length-9 : tie.Need-same-length-9
 same-length-9 c = search needs
 
--- src/merging.rt:110:9
+-- src/merging.rt:117:9
 same-length-10 : tie.Need-same-length-10
 same-length-10 c = search needs
 
--- src/merging.rt:110:9
+-- src/merging.rt:117:9
 same-length-11 : tie.Need-same-length-11
 same-length-11 c = search needs
 
--- src/merging.rt:110:9
+-- src/merging.rt:117:9
 same-length-12 : tie.Need-same-length-12
 same-length-12 c = search needs
 
--- src/merging.rt:110:9
+-- src/merging.rt:117:9
 same-length-13 : tie.Need-same-length-13
 same-length-13 c = search needs
 
--- src/merging.rt:110:9
+-- src/merging.rt:117:9
 same-length-14 : tie.Need-same-length-14
 same-length-14 c = search needs
 
--- src/merging.rt:110:9
+-- src/merging.rt:117:9
 returns-2 : tie.Need-returns-2
 returns-2 c =
     let st = c .before .before .before .before .before .before .before .before .before .before .before .before
     .before .before .before .before .before .before .before .before .before .before .before .before .before
     .before .before .before .before .before .before .before .before .before .before .before .before .before
-    .before .before .before .before in
+    .before .before .before .before .before .before .before in
     let merge-columns = c .before .before .before .before .before .before .before .before .before .before
     .before .before .before .before .before .before .merge-columns in
     let if1 = c .before .before .if1 in
     let with-passes2 = c .with-passes2 in
-    let if2 = c .before .if2 in
-    explained-kept (st .args .t .now) (st .args .rs .now) (st .args .trees .now) (st .args .used) (outcomeTo
-    (aexprOf (st .args .rs .now) (st .args .p .now)) (st .args .nodes .now) (st .args .n)) _ _ (passesTo
-    (aexprOf (st .args .rs .now) (st .args .p .now)) (st .args .nodes .now) (st .args .n)) _ _ _ (st .args
-    .reasons .now) (nodesText (st .args .t .now) (st .args .rs .now) (st .args .p .now) (st .args .nodes .now)
-    (st .args .n)) (with-passes2 .ensures .0) (with-passes2 .ensures .1 .0) (with-passes2 .ensures .1 .1) refl
-    (answered-as (st .args .t .now) (st .args .rs .now) (st .args .trees .now) (st .args .used) (outcomeTo
-    (aexprOf (st .args .rs .now) (st .args .p .now)) (st .args .nodes .now) (st .args .n)) _ _ _ (without-lines
-    (aexprOf (st .args .rs .now) (st .args .p .now)) (st .args .nodes .now) (st .args .n) _ (merge-columns
-    .ensures .0 .stays (if1 .left) (if2 .taken))) (refl, refl)) (merge-columns .ensures .1 .0) (refl)
+    let if2 = c .before .if2 in (
+      ends-stayed (linedTo (aexprOf (st .args .rs .now) (st .args .p .now)) (st .args .nodes .now) (st .args .n))
+          (conjuncts (st .args .kinds .now) (st .args .values .now) (st .args .starts .now) (st .args .counts .now)
+          (st .args .p .now)) (st .args .t .now) (st .args .rs .now) (st .args .trees .now) (st .args .nodes .now) (st
+          .args .bits .now) (st .args .own .now) (st .args .text .now) (st .args .reasons .now) (st .args .used)
+          (with-passes2 .result) (st .args .rs .now) (st .args .reasons .now) (merge-columns .last .1 .1 .1 .1 .1 .1
+          .1 .1 .1 .0) (merge-columns .last .1 .1 .1 .1 .1 .1 .1 .1 .1 .1 .0) (merge-columns .last .1 .1 .1 .1 .1 .1
+          .1 .1 .1 .1 .1 .0) (merge-columns .last .1 .1 .1 .1 .1 .1 .1 .1 .1 .1 .1 .1 .0) (merge-columns .result
+          .unsat) (merge-columns .result .unchanged) (merge-columns .result .columns) (merge-columns .result .keeps)
+          (merge-columns .result .total) (merge-columns .ensures .0) (merge-columns .ensures .1 .1 .0) (merge-columns
+          .ensures .1 .1 .4) (if1 .left) (if2 .taken) (
+            with-passes2 .ensures .0,
+            (
+              refl,
+              (
+                refl,
+                with-passes2 .ensures
+                    .1 .1,
+              ),
+            ),
+          ),
+      with-passes2 .ensures .1 .0 ∙ merge-columns .ensures .1 .0,
+    )
 
--- src/merging.rt:120:9
+-- src/merging.rt:119:33
+slice-aggregate-put-literals : tie.Need-slice-aggregate-put-literals
+slice-aggregate-put-literals c = search needs
+
+-- src/merging.rt:119:5
+put-literals-requires : tie.Need-put-literals-requires
+put-literals-requires c κs =
+    let st = c .before .before .before .before .before .before .before .before .before .before .before .before
+    .before .before .before .before .before .before .before .before .before .before .before .before .before
+    .before .before .before .before .before .before .before .before .before .before .before .before .before
+    .before .before .before .before .before .before .before in
+    let merge-columns = c .before .before .before .before .before .before .before .before .before .before
+    .before .before .before .before .before .before .merge-columns in
+    (st .pre .1 .1 .1 .1 .few, merge-columns .ensures .1 .1 .0 .size)
+
+-- src/merging.rt:127:9
 slice-aggregate-rebuild : tie.Need-slice-aggregate-rebuild
 slice-aggregate-rebuild c = search needs
 
--- src/merging.rt:127:9
-slice-aggregate-rebuild-2 : tie.Need-slice-aggregate-rebuild-2
-slice-aggregate-rebuild-2 c = search needs
-
--- src/merging.rt:113:9
+-- src/merging.rt:120:9
 rebuild-requires : tie.Need-rebuild-requires
 rebuild-requires c κs =
     let st = c .before .before .before .before .before .before .before .before .before .before .before .before
     .before .before .before .before .before .before .before .before .before .before .before .before .before
     .before .before .before .before .before .before .before .before .before .before .before .before .before
-    .before .before .before .before .before .before .before .before .before .before in
+    .before .before .before .before .before .before .before .before .before .before .before .before .before
+    .before .before in
     let merge-columns = c .before .before .before .before .before .before .before .before .before .before
-    .before .before .before .before .before .before .before .before .before .before .before .before
-    .merge-columns in
-    let if1 = c .before .before .before .before .before .before .before .before .if1 in
-    let if2 = c .before .before .before .before .before .before .before .if2 in (
+    .before .before .before .before .before .before .before .before .before .before .before .before .before
+    .before .merge-columns in
+    let if1 = c .before .before .before .before .before .before .before .before .before .before .if1 in
+    let if2 = c .before .before .before .before .before .before .before .before .before .if2 in
+    let put-literals = c .before .before .before .before .before .before .before .put-literals in (
       (
-        merge-columns .ensures .1 .1 .0,
+        fits-converted (conjuncts (st .args .kinds .now) (st .args .values .now) (st .args .starts .now) (st
+            .args .counts .now) (st .args .p .now)) (st .args .t .now) (st .args .own .now) (st .args .nodes .now)
+            (merge-columns .last .1 .1 .1 .1 .1 .1 .1 .1 .1 .0) (put-literals .last .1 .1 .1 .0) (merge-columns .last .1
+            .1 .1 .1 .1 .1 .1 .1 .1 .1 .0) (merge-columns .ensures .1 .1 .0) (put-literals .ensures),
         omega (
           arith,
           merge-columns .kept .1 .1 .1 .1 .1 .1 .1 .1 .1 .1 .1 .0,
           st .pre .1 .0 .0,
           merge-columns .ensures .1 .1 .1,
         ),
-        omega (
-          arith,
-          merge-columns .ensures .1 .1 .1,
-          st
-              .pre .0 .0,
-          st .pre .0 .1,
-        ),
+        omega (arith, merge-columns .ensures .1 .1 .1, st .pre .0 .0, st .pre .0 .1),
         omega (
           arith,
           merge-columns .kept .1 .1 .1 .1 .1 .1 .1 .1 .1 .1 .1 .1 .0,
-          st
-              .pre .1 .0 .1,
-          merge-columns .ensures .1 .1 .2,
+          st .pre .1 .0 .1,
+          merge-columns .ensures .1 .1
+              .2,
         ),
-        omega (
-          arith,
-          merge-columns .ensures .1 .1 .2,
-          st .pre
-              .0 .0,
-          st .pre .0 .1,
-        ),
+        omega (arith, merge-columns .ensures .1 .1 .2, st .pre .0 .0, st .pre .0 .1),
         st .pre .0 .2,
-        omega (
-          arith,
-          merge-columns .ensures .1 .1 .3,
-          st .pre .0 .0,
-          st
-              .pre .0 .1,
-        ),
-        compared-some (aexprOf (st .args .rs .now) (st .args .p .now)) (st .args .nodes .now) (st
-            .args .n) _ _ _ (merge-columns .ensures .0 .rebuilds (if1 .left) (if2 .left)) (merge-columns .ensures .0
-            .counted (if1 .left)),
+        omega
+            (arith, merge-columns .ensures .1 .1 .3, st .pre .0 .0, st .pre .0 .1),
+        compared-some (aexprOf (st .args
+            .rs .now) (st .args .p .now)) (st .args .nodes .now) (st .args .n) _ _ _ (merge-columns .ensures .0
+            .rebuilds (if1 .left) (if2 .left)) (merge-columns .ensures .0 .counted (if1 .left)),
       ),
       (
-        (λ o h. merge-columns .ensures .1 .1 .4 o h),
-        λ s ek ev. total-same (conjuncts
-            (st .args .kinds .now) (st .args .values .now) (st .args .starts .now) (st .args .counts .now) (st .args .p
-            .now)) s (columnsOf (merge-columns .last .1 .1 .1 .1 .1 .1 .1 .1 .1 .0)) (merge-columns .last .1 .1 .1 .1 .1
-            .1 .1 .1 .1 .1 .0) (merge-columns .last .1 .1 .1 .1 .1 .1 .1 .1 .1 .1 .1 .0) _ _ (merge-columns .ensures .0
-            .counted (if1 .left)) ek ev,
+        (λ o h.
+            merge-columns .ensures .1 .1 .4 o h),
+        λ s ek ev. st .pre .1 .1 .1 .1 .counts (merge-columns .last .1 .1 .1
+            .1 .1 .1 .1 .1 .1 .0) (put-literals .last .1 .1 .1 .0) (merge-columns .last .1 .1 .1 .1 .1 .1 .1 .1 .1 .1
+            .0) (merge-columns .last .1 .1 .1 .1 .1 .1 .1 .1 .1 .1 .1 .0) (merge-columns .last .1 .1 .1 .1 .1 .1 .1 .1
+            .1 .1 .1 .1 .0) (merge-columns .result .unsat) (merge-columns .result .unchanged) (merge-columns .result
+            .columns) (merge-columns .result .keeps) (merge-columns .result .total) (merge-columns .ensures .0)
+            (merge-columns .ensures .1 .1 .0) (if1 .left) (if2 .left) (merge-columns .ensures .1 .1 .4) (put-literals
+            .ensures) s ek ev,
       ),
     )
 
--- src/merging.rt:131:5
+-- src/merging.rt:138:5
 with-passes-requires-3 : tie.Need-with-passes-requires-3
 with-passes-requires-3 c κs = search needs
 
--- src/merging.rt:46:1
+-- src/merging.rt:55:1
 same-length-15 : tie.Need-same-length-15
 same-length-15 c = search needs
 
--- src/merging.rt:46:1
+-- src/merging.rt:55:1
 same-length-16 : tie.Need-same-length-16
 same-length-16 c =
-    let marks = c .before .before .before .before .before .before .before .before .before .before .before .before .before .before .before .before .before .before .before .before .before .before .before .before .before .before .marks in
+    let marks = c .before .before .before .before .before .before .before .before .before .before .before
+    .before .before .before .before .before .before .before .before .before .before .before .before .before
+    .before .before .before .before .marks in
     marks .given
 
--- src/merging.rt:46:1
+-- src/merging.rt:55:1
 same-length-17 : tie.Need-same-length-17
-same-length-17 c = search needs
+same-length-17 c =
+    let order = c .before .before .before .before .before .before .before .before .before .before .before
+    .before .before .before .before .before .before .before .before .before .before .before .before .before
+    .before .before .order in
+    order .given
 
--- src/merging.rt:46:1
+-- src/merging.rt:55:1
 same-length-18 : tie.Need-same-length-18
-same-length-18 c = search needs
+same-length-18 c =
+    let kept = c .before .before .before .before .before .before .before .before .before .before .before .before
+    .before .before .before .before .before .before .before .before .before .before .before .before .kept in
+    kept .given
 
--- src/merging.rt:46:1
+-- src/merging.rt:55:1
 same-length-19 : tie.Need-same-length-19
-same-length-19 c = search needs
+same-length-19 c =
+    let lefts = c .before .before .before .before .before .before .before .before .before .before .before
+    .before .before .before .before .before .before .before .before .before .before .before .lefts in
+    lefts .given
 
--- src/merging.rt:46:1
+-- src/merging.rt:55:1
 same-length-20 : tie.Need-same-length-20
-same-length-20 c = search needs
+same-length-20 c =
+    let rights = c .before .before .before .before .before .before .before .before .before .before .before
+    .before .before .before .before .before .before .before .before .before .rights in
+    rights .given
 
--- src/merging.rt:46:1
+-- src/merging.rt:55:1
 same-length-21 : tie.Need-same-length-21
 same-length-21 c = search needs
 
--- src/merging.rt:46:1
+-- src/merging.rt:55:1
 same-length-22 : tie.Need-same-length-22
 same-length-22 c = search needs
 
--- src/merging.rt:46:1
+-- src/merging.rt:55:1
 returns-3 : tie.Need-returns-3
 returns-3 c =
     let st = c .before .before .before .before .before .before .before .before .before .before .before .before
     .before .before .before .before .before .before .before .before .before .before .before .before .before
     .before .before .before .before .before .before .before .before .before .before .before .before .before
     .before .before .before .before .before .before .before .before .before .before .before .before .before
-    .before .before .before in
+    .before .before .before .before .before .before .before .before in
     let merge-columns = c .before .before .before .before .before .before .before .before .before .before
     .before .before .before .before .before .before .before .before .before .before .before .before .before
-    .before .before .before .before .before .merge-columns in
+    .before .before .before .before .before .before .before .merge-columns in
     let if1 = c .before .before .before .before .before .before .before .before .before .before .before .before
-    .before .before .if1 in
+    .before .before .before .before .if1 in
     let if2 = c .before .before .before .before .before .before .before .before .before .before .before .before
-    .before .if2 in
+    .before .before .before .if2 in
+    let put-literals = c .before .before .before .before .before .before .before .before .before .before .before
+    .before .before .put-literals in
     let rebuild = c .before .before .before .before .before .rebuild in
-    let with-passes3 = c .with-passes3 in
-    explained-rebuilt (st .args .t .now) (st .args .rs .now) (st .args .trees .now) (st .args .used) (outcomeTo
-    (aexprOf (st .args .rs .now) (st .args .p .now)) (st .args .nodes .now) (st .args .n)) _ _ (passesTo
-    (aexprOf (st .args .rs .now) (st .args .p .now)) (st .args .nodes .now) (st .args .n)) _ _ _ (st .args
-    .reasons .now) _ (nodesText (st .args .t .now) (st .args .rs .now) (st .args .p .now) (st .args .nodes .now)
-    (st .args .n)) (tableText (shownIn (st .args .t .now) (0 ∷ [])) (firstOf (merge-columns .last .1 .1 .1 .1 .1
-    .1 .1 .1 .1 .1 .1 .0) (merge-columns .result .columns)) (shown (conjuncts (st .args .kinds .now) (st .args
-    .values .now) (st .args .starts .now) (st .args .counts .now) (st .args .p .now)) (columnsOf (merge-columns
-    .last .1 .1 .1 .1 .1 .1 .1 .1 .1 .0)) (merge-columns .last .1 .1 .1 .1 .1 .1 .1 .1 .1 .1 .0))) _ _
-    (comparisons lined (firstOf (merge-columns .last .1 .1 .1 .1 .1 .1 .1 .1 .1 .1 .1 .0) (merge-columns .result
-    .columns)) (shown (conjuncts (st .args .kinds .now) (st .args .values .now) (st .args .starts .now) (st
-    .args .counts .now) (st .args .p .now)) (columnsOf (merge-columns .last .1 .1 .1 .1 .1 .1 .1 .1 .1 .0))
-    (merge-columns .last .1 .1 .1 .1 .1 .1 .1 .1 .1 .1 .0))) (with-passes3 .ensures .0) (with-passes3 .ensures
-    .1 .0) (with-passes3 .ensures .1 .1) (without-lines (aexprOf (st .args .rs .now) (st .args .p .now)) (st
-    .args .nodes .now) (st .args .n) _ (merge-columns .ensures .0 .rebuilds (if1 .left) (if2 .left)))
-    (merge-columns .ensures .0 .counted (if1 .left)) (rebuilt-text _ _ _ _ _ _ _ _ (sym (lined-is (aexprOf (st
-    .args .rs .now) (st .args .p .now)) (st .args .nodes .now) (st .args .n)) ∙ merge-columns .ensures .0
-    .rebuilds (if1 .left) (if2 .left))) (rebuild .ensures .0 (conjuncts (st .args .kinds .now) (st .args .values
-    .now) (st .args .starts .now) (st .args .counts .now) (st .args .p .now)) refl refl) (rebuild .ensures .1 .0
-    (conjuncts (st .args .kinds .now) (st .args .values .now) (st .args .starts .now) (st .args .counts .now)
-    (st .args .p .now)) refl refl) (rebuild .ensures .1 .1 .0 (conjuncts (st .args .kinds .now) (st .args
-    .values .now) (st .args .starts .now) (st .args .counts .now) (st .args .p .now)) refl refl) (rebuild
-    .ensures .1 .1 .1 (conjuncts (st .args .kinds .now) (st .args .values .now) (st .args .starts .now) (st
-    .args .counts .now) (st .args .p .now)) refl refl) (merge-columns .ensures .1 .0)
+    let with-passes3 = c .with-passes3 in (
+      ends-chained (linedTo (aexprOf (st .args .rs .now) (st .args .p .now)) (st .args .nodes .now) (st .args
+          .n)) (conjuncts (st .args .kinds .now) (st .args .values .now) (st .args .starts .now) (st .args .counts
+          .now) (st .args .p .now)) (st .args .t .now) (st .args .rs .now) (st .args .trees .now) (st .args .nodes
+          .now) (st .args .bits .now) (st .args .own .now) (st .args .text .now) (st .args .reasons .now) (st .args
+          .used) (with-passes3 .result) _ _ (merge-columns .last .1 .1 .1 .1 .1 .1 .1 .1 .1 .0) (merge-columns .last
+          .1 .1 .1 .1 .1 .1 .1 .1 .1 .1 .0) (merge-columns .last .1 .1 .1 .1 .1 .1 .1 .1 .1 .1 .1 .0) (merge-columns
+          .last .1 .1 .1 .1 .1 .1 .1 .1 .1 .1 .1 .1 .0) (merge-columns .result .unsat) (merge-columns .result
+          .unchanged) (merge-columns .result .columns) (merge-columns .result .keeps) (merge-columns .result .total)
+          (merge-columns .ensures .0) (merge-columns .ensures .1 .1 .0) (merge-columns .ensures .1 .1 .4)
+          (put-literals .last .1 .1 .1 .0) (if1 .left) (if2 .left) (put-literals .ensures) (λ u ek ev. chained (st
+          .args .t .now) (st .args .rs .now) (st .args .trees .now) (st .args .text .now) (st .args .reasons .now) (st
+          .args .used) (firstOf (merge-columns .last .1 .1 .1 .1 .1 .1 .1 .1 .1 .1 .1 .1 .0) (merge-columns .result
+          .keeps)) (firstOf (merge-columns .last .1 .1 .1 .1 .1 .1 .1 .1 .1 .1 .1 .0) (merge-columns .result
+          .columns)) (merge-columns .result .total) (shown u (columnsOf (put-literals .last .1 .1 .1 .0))
+          (merge-columns .last .1 .1 .1 .1 .1 .1 .1 .1 .1 .1 .0)) _ _ (with-passes3 .result) _ _ (with-passes3
+          .ensures .0) (with-passes3 .ensures .1 .1) (rebuild .ensures .0 u ek ev) (rebuild .ensures .1 .0 u ek ev)
+          (rebuild .ensures .1 .1 .0 u ek ev) (rebuild .ensures .1 .1 .1 u ek ev)),
+      with-passes3 .ensures .1 .0 ∙
+          merge-columns .ensures .1 .0,
+    )
 
 pub merge-filter-constraints-spec : {M : Type 1} → statement M
 merge-filter-constraints-spec =
@@ -345,8 +381,9 @@ merge-filter-constraints-spec =
     same-length-13
     same-length-14
     returns-2
+    slice-aggregate-put-literals
+    put-literals-requires
     slice-aggregate-rebuild
-    slice-aggregate-rebuild-2
     rebuild-requires
     with-passes-requires-3
     same-length-15

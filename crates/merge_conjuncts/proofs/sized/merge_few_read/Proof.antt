@@ -6,9 +6,11 @@ use Rattle.merge_conjuncts.proofs.sized.merge_few_read.Lts as lts
 use Rattle.filter_constraint.proofs.merging.merge_filter_constraints.Reads as merge-filter-constraints-reads
 use Rattle.merge_conjuncts.proofs.far.travels_far.Reads as travels-far-reads
 use Rattle.merge_conjuncts.proofs.indexed.merge_indexed.Reads as merge-indexed-reads
+use mathlib.Core.Path.{_≡_, refl}
 use Prim.Native.Nat.{ℕ}
 use native.Mathlib.Omega.{arith}
 use lib.ListN.{length-replicate}
+use Rattle.filter_constraint.proofs.Explained.{numbers-count, numbers-merged}
 use Rattle.merge_conjuncts.proofs.Sizes.{no-index}
 
 -- src/sized.rt:59:8
@@ -75,16 +77,24 @@ returns c =
           .1;
     }
 
--- src/sized.rt:94:9
+-- src/sized.rt:95:9
 slice-aggregate-merge-filter-constraints : tie.Need-slice-aggregate-merge-filter-constraints
 slice-aggregate-merge-filter-constraints c = search needs
 
--- src/sized.rt:82:5
+-- src/sized.rt:103:9
+slice-aggregate-merge-filter-constraints-2 : tie.Need-slice-aggregate-merge-filter-constraints-2
+slice-aggregate-merge-filter-constraints-2 c = search needs
+
+-- src/sized.rt:104:9
+slice-aggregate-merge-filter-constraints-3 : tie.Need-slice-aggregate-merge-filter-constraints-3
+slice-aggregate-merge-filter-constraints-3 c = search needs
+
+-- src/sized.rt:83:5
 merge-filter-constraints-requires : tie.Need-merge-filter-constraints-requires
 merge-filter-constraints-requires c κs =
     let st = c .before .before .before .before .before .before .before .before .before .before .before .before
     .before .before .before .before .before .before .before .before .before .before .before .before .before
-    .before .before .before in (
+    .before .before .before .before .before in (
       (
         st .pre .0 .0,
         st .pre .0 .1,
@@ -95,7 +105,17 @@ merge-filter-constraints-requires c κs =
           length-replicate {A = ℕ} 1 0,
         )),
       ),
-      st .pre .1,
+      (
+        st .pre .1 .0,
+        (
+          st .pre .1 .1 .0,
+          (
+            st .pre .1 .1 .1,
+            numbers-count _ _
+                _ _ _ refl,
+          ),
+        ),
+      ),
     )
 
 -- src/sized.rt:31:1
@@ -133,14 +153,23 @@ same-length-16 c = search needs
 -- src/sized.rt:31:1
 returns-2 : tie.Need-returns-2
 returns-2 c =
+    let st = c .before .before .before .before .before .before .before .before .before .before .before .before
+    .before .before .before .before .before .before .before .before .before .before .before .before .before
+    .before .before .before .before .before .before .before .before .before .before .before .before .before
+    .before .before .before .before .before .before .before .before .before in
     let merge-filter-constraints = c .before .before .before .before .before .before .before .before .before
     .before .before .before .before .before .before .before .merge-filter-constraints in
+    let f = numbers-merged (st .args .t .now) (st .args .rs .now) (st .args .p .now) (st .args .trees .now) (st
+    .args .used) (st .args .nodes .now) (st .args .n) (st .args .kinds .now) (st .args .values .now) (st
+    .args .starts .now) (st .args .counts .now) (st .args .reasons .now) (merge-filter-constraints .result)
+    _ _ (merge-filter-constraints .ensures .0) (merge-filter-constraints .ensures .1) in
     record {
-      answers = merge-filter-constraints .ensures .0;
-      writes = merge-filter-constraints .ensures .1 .0;
-      counts = merge-filter-constraints .ensures .1 .1 .0;
-      tells = merge-filter-constraints .ensures .1 .1 .1 .0;
-      measures = merge-filter-constraints .ensures .1 .1 .1 .1;
+      answers = f .0;
+      writes = f .1 .0;
+      counts = f .1 .1 .0;
+      tells = f .1 .1 .1 .0;
+      measures = f .1 .1 .1
+          .1;
     }
 
 pub merge-few-read-spec : {M : Type 1} → statement M
@@ -159,6 +188,8 @@ merge-few-read-spec =
     same-length-8
     returns
     slice-aggregate-merge-filter-constraints
+    slice-aggregate-merge-filter-constraints-2
+    slice-aggregate-merge-filter-constraints-3
     merge-filter-constraints-requires
     same-length-9
     same-length-10

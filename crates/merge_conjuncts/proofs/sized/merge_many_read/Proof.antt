@@ -6,16 +6,18 @@ use Rattle.merge_conjuncts.proofs.sized.merge_many_read.Lts as lts
 use Rattle.filter_constraint.proofs.merging.merge_filter_constraints.Reads as merge-filter-constraints-reads
 use Rattle.merge_conjuncts.proofs.far.travels_far.Reads as travels-far-reads
 use Rattle.merge_conjuncts.proofs.indexed.merge_indexed.Reads as merge-indexed-reads
+use mathlib.Core.Path.{_≡_, refl}
 use Prim.Native.Nat.{ℕ}
 use native.Mathlib.Omega.{arith}
 use lib.ListN.{length-replicate}
+use Rattle.filter_constraint.proofs.Explained.{numbers-count, numbers-merged}
 use Rattle.merge_conjuncts.proofs.Sizes.{no-index}
 
--- src/sized.rt:203:8
+-- src/sized.rt:207:8
 travels-far-requires : tie.Need-travels-far-requires
 travels-far-requires c κs = search needs
 
--- src/sized.rt:204:9
+-- src/sized.rt:208:9
 merge-indexed-requires : tie.Need-merge-indexed-requires
 merge-indexed-requires c κs =
     let st = c .before .before .before .before .before .before .before .before .before .before .before .before
@@ -28,39 +30,39 @@ merge-indexed-requires c κs =
           .1,
     )
 
--- src/sized.rt:204:9
+-- src/sized.rt:208:9
 same-length : tie.Need-same-length
 same-length c = search needs
 
--- src/sized.rt:204:9
+-- src/sized.rt:208:9
 same-length-2 : tie.Need-same-length-2
 same-length-2 c = search needs
 
--- src/sized.rt:204:9
+-- src/sized.rt:208:9
 same-length-3 : tie.Need-same-length-3
 same-length-3 c = search needs
 
--- src/sized.rt:204:9
+-- src/sized.rt:208:9
 same-length-4 : tie.Need-same-length-4
 same-length-4 c = search needs
 
--- src/sized.rt:204:9
+-- src/sized.rt:208:9
 same-length-5 : tie.Need-same-length-5
 same-length-5 c = search needs
 
--- src/sized.rt:204:9
+-- src/sized.rt:208:9
 same-length-6 : tie.Need-same-length-6
 same-length-6 c = search needs
 
--- src/sized.rt:204:9
+-- src/sized.rt:208:9
 same-length-7 : tie.Need-same-length-7
 same-length-7 c = search needs
 
--- src/sized.rt:204:9
+-- src/sized.rt:208:9
 same-length-8 : tie.Need-same-length-8
 same-length-8 c = search needs
 
--- src/sized.rt:204:9
+-- src/sized.rt:208:9
 returns : tie.Need-returns
 returns c =
     let merge-indexed = c .before .before .before .before .before .before .before .before .before .before
@@ -75,16 +77,24 @@ returns c =
           .1;
     }
 
--- src/sized.rt:238:9
+-- src/sized.rt:243:9
 slice-aggregate-merge-filter-constraints : tie.Need-slice-aggregate-merge-filter-constraints
 slice-aggregate-merge-filter-constraints c = search needs
 
--- src/sized.rt:226:5
+-- src/sized.rt:251:9
+slice-aggregate-merge-filter-constraints-2 : tie.Need-slice-aggregate-merge-filter-constraints-2
+slice-aggregate-merge-filter-constraints-2 c = search needs
+
+-- src/sized.rt:252:9
+slice-aggregate-merge-filter-constraints-3 : tie.Need-slice-aggregate-merge-filter-constraints-3
+slice-aggregate-merge-filter-constraints-3 c = search needs
+
+-- src/sized.rt:231:5
 merge-filter-constraints-requires : tie.Need-merge-filter-constraints-requires
 merge-filter-constraints-requires c κs =
     let st = c .before .before .before .before .before .before .before .before .before .before .before .before
     .before .before .before .before .before .before .before .before .before .before .before .before .before
-    .before .before .before in (
+    .before .before .before .before .before in (
       (
         st .pre .0 .0,
         st .pre .0 .1,
@@ -95,52 +105,71 @@ merge-filter-constraints-requires c κs =
           length-replicate {A = ℕ} 1 0,
         )),
       ),
-      st .pre .1,
+      (
+        st .pre .1 .0,
+        (
+          st .pre .1 .1 .0,
+          (
+            st .pre .1 .1 .1,
+            numbers-count _ _
+                _ _ _ refl,
+          ),
+        ),
+      ),
     )
 
--- src/sized.rt:175:1
+-- src/sized.rt:179:1
 same-length-9 : tie.Need-same-length-9
 same-length-9 c = search needs
 
--- src/sized.rt:175:1
+-- src/sized.rt:179:1
 same-length-10 : tie.Need-same-length-10
 same-length-10 c = search needs
 
--- src/sized.rt:175:1
+-- src/sized.rt:179:1
 same-length-11 : tie.Need-same-length-11
 same-length-11 c = search needs
 
--- src/sized.rt:175:1
+-- src/sized.rt:179:1
 same-length-12 : tie.Need-same-length-12
 same-length-12 c = search needs
 
--- src/sized.rt:175:1
+-- src/sized.rt:179:1
 same-length-13 : tie.Need-same-length-13
 same-length-13 c = search needs
 
--- src/sized.rt:175:1
+-- src/sized.rt:179:1
 same-length-14 : tie.Need-same-length-14
 same-length-14 c = search needs
 
--- src/sized.rt:175:1
+-- src/sized.rt:179:1
 same-length-15 : tie.Need-same-length-15
 same-length-15 c = search needs
 
--- src/sized.rt:175:1
+-- src/sized.rt:179:1
 same-length-16 : tie.Need-same-length-16
 same-length-16 c = search needs
 
--- src/sized.rt:175:1
+-- src/sized.rt:179:1
 returns-2 : tie.Need-returns-2
 returns-2 c =
+    let st = c .before .before .before .before .before .before .before .before .before .before .before .before
+    .before .before .before .before .before .before .before .before .before .before .before .before .before
+    .before .before .before .before .before .before .before .before .before .before .before .before .before
+    .before .before .before .before .before .before .before .before .before in
     let merge-filter-constraints = c .before .before .before .before .before .before .before .before .before
     .before .before .before .before .before .before .before .merge-filter-constraints in
+    let f = numbers-merged (st .args .t .now) (st .args .rs .now) (st .args .p .now) (st .args .trees .now) (st
+    .args .used) (st .args .nodes .now) (st .args .n) (st .args .kinds .now) (st .args .values .now) (st
+    .args .starts .now) (st .args .counts .now) (st .args .reasons .now) (merge-filter-constraints .result)
+    _ _ (merge-filter-constraints .ensures .0) (merge-filter-constraints .ensures .1) in
     record {
-      answers = merge-filter-constraints .ensures .0;
-      writes = merge-filter-constraints .ensures .1 .0;
-      counts = merge-filter-constraints .ensures .1 .1 .0;
-      tells = merge-filter-constraints .ensures .1 .1 .1 .0;
-      measures = merge-filter-constraints .ensures .1 .1 .1 .1;
+      answers = f .0;
+      writes = f .1 .0;
+      counts = f .1 .1 .0;
+      tells = f .1 .1 .1 .0;
+      measures = f .1 .1 .1
+          .1;
     }
 
 pub merge-many-read-spec : {M : Type 1} → statement M
@@ -159,6 +188,8 @@ merge-many-read-spec =
     same-length-8
     returns
     slice-aggregate-merge-filter-constraints
+    slice-aggregate-merge-filter-constraints-2
+    slice-aggregate-merge-filter-constraints-3
     merge-filter-constraints-requires
     same-length-9
     same-length-10
