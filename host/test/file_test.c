@@ -193,6 +193,14 @@ static void test_round_trips(void)
     save("an unknown type, and no room", 0, SCREEN_REFUSED_TABLE);
 }
 
+/* A byte of a saved file changed, its block's checksum repaired, and what loading answers then. */
+struct change {
+    const char *name;
+    size_t at;
+    uint8_t value;
+    uint32_t want;
+};
+
 /* Every byte of a small file, changed alone, is told; most changes also with the checksum made right. */
 static void test_damage(void)
 {
@@ -212,12 +220,7 @@ static void test_damage(void)
         file[at] = whole[at];
     }
     report(told == sizeof whole, "each byte changed alone", "a change was not told");
-    static const struct {
-        const char *name;
-        size_t at;
-        uint8_t value;
-        uint32_t want;
-    } changes[] = {
+    static const struct change changes[] = {
         {"a number that is not the block's", 512 + 2, 2, SCREEN_REFUSED_FILE},
         {"an unknown kind", 512 + 4, 6, SCREEN_REFUSED_FILE},
         {"the table's kind again", 512 + 4, 1, SCREEN_REFUSED_FILE},
@@ -273,12 +276,7 @@ static void test_wide(void)
 static void test_text(void)
 {
     static uint8_t whole[6 * 512];
-    static const struct {
-        const char *name;
-        size_t at;
-        uint8_t value;
-        uint32_t want;
-    } changes[] = {
+    static const struct change changes[] = {
         {"a count of text of none", 4 * 512 + 5, 0, SCREEN_REFUSED_FILE},
         {"a count of text that the bytes do not have", 4 * 512 + 5, 3, SCREEN_REFUSED_FILE},
         {"a count of text over the block", 4 * 512 + 6, 2, SCREEN_REFUSED_FILE},

@@ -1008,13 +1008,6 @@ static void *check_there(void *answer)
     return NULL;
 }
 
-static void on_thread(const char *name, void *(*work)(void *), size_t stack, uint32_t want)
-{
-    uint32_t answer = 0;
-    on_stack(work, &answer, stack);
-    report(answer == want, name, "another answer");
-}
-
 /* Lists carried by many equalities, the screens that need most, on threads with as much stack as the header asks for. */
 static void test_stack(void)
 {

@@ -22,4 +22,12 @@ static void on_stack(void *(*work)(void *), void *argument, size_t stack)
     free(memory);
 }
 
+/* A call's answer there. The work stores it; lend.h has report. */
+static inline void on_thread(const char *name, void *(*work)(void *), size_t stack, uint32_t want)
+{
+    uint32_t answer = 0;
+    on_stack(work, &answer, stack);
+    report(answer == want, name, "another answer on its stack");
+}
+
 #endif

@@ -220,50 +220,43 @@ static void rewrites(const char *name, uint32_t want, const char *told, uint32_t
     }
 }
 
+/* Two lines on s0, and the answer, the reasons and the symbol of the first comparison written. */
+struct said {
+    unsigned op;
+    uint32_t start, length;
+};
+static const struct {
+    const char *name;
+    struct said a, b;
+    uint32_t answer;
+    const char *reasons;
+    uint32_t start, length;
+} pairs[] = {
+    {"opened by an excluded symbol", {GE, 3, 1}, {NE, 7, 1}, SCREEN_REWRITTEN, "0 Gt t61 0\n", 7, 1},
+    {"an upper end opened", {LE, 7, 1}, {NE, 3, 1}, SCREEN_REWRITTEN, "0 Lt t61 0\n", 3, 1},
+    {"the one already held", {GE, 3, 1}, {GE, 7, 1}, SCREEN_REWRITTEN, "0 GtEq t61 0\n", 3, 1},
+    {"opened by an open end", {GE, 3, 1}, {GT, 7, 1}, SCREEN_REWRITTEN, "0 Gt t61 0\n", 3, 1},
+    {"a fixed value has the lower end's start", {LE, 7, 1}, {GE, 3, 1}, SCREEN_REWRITTEN, "0 Eq t61 1\n", 3, 1},
+    {"a prefix is below what extends it", {GE, 0, 2}, {GE, 0, 3}, SCREEN_REWRITTEN, "0 GtEq t535058 1\n", 0, 3},
+    {"the empty symbol", {GT, 24, 0}, {GT, 0, 0}, SCREEN_REWRITTEN, "0 Gt t 0\n", 24, 0},
+    {"bytes 0 and 255", {GT, 8, 2}, {GT, 8, 1}, SCREEN_REWRITTEN, "0 Gt t00ff 0\n", 8, 2},
+    {"two symbols at once", {EQ, 0, 3}, {EQ, 4, 3}, SCREEN_NOTHING_PASSES, "", 0, 0},
+};
+
 static void test_rewriting(void)
 {
     begin_symbols();
     says(EQ, 0, 0, 3);
     rewrites("one line", SCREEN_UNCHANGED, "", 0, 0);
-    begin_symbols();
-    uint32_t a = says(GE, 0, 3, 1);
-    both(a, says(NE, 0, 7, 1));
-    rewrites("opened by an excluded symbol", SCREEN_REWRITTEN, "0 Gt t61 0\n", 7, 1);
-    begin_symbols();
-    a = says(LE, 0, 7, 1);
-    both(a, says(NE, 0, 3, 1));
-    rewrites("an upper end opened", SCREEN_REWRITTEN, "0 Lt t61 0\n", 3, 1);
-    begin_symbols();
-    a = says(GE, 0, 3, 1);
-    both(a, says(GE, 0, 7, 1));
-    rewrites("the one already held", SCREEN_REWRITTEN, "0 GtEq t61 0\n", 3, 1);
-    begin_symbols();
-    a = says(GE, 0, 3, 1);
-    both(a, says(GT, 0, 7, 1));
-    rewrites("opened by an open end", SCREEN_REWRITTEN, "0 Gt t61 0\n", 3, 1);
-    begin_symbols();
-    a = says(LE, 0, 7, 1);
-    both(a, says(GE, 0, 3, 1));
-    rewrites("a fixed value has the lower end's start", SCREEN_REWRITTEN, "0 Eq t61 1\n", 3, 1);
-    begin_symbols();
-    a = says(GE, 0, 0, 2);
-    both(a, says(GE, 0, 0, 3));
-    rewrites("a prefix is below what extends it", SCREEN_REWRITTEN, "0 GtEq t535058 1\n", 0, 3);
-    begin_symbols();
-    a = says(GT, 0, 24, 0);
-    both(a, says(GT, 0, 0, 0));
-    rewrites("the empty symbol", SCREEN_REWRITTEN, "0 Gt t 0\n", 24, 0);
-    begin_symbols();
-    a = says(GT, 0, 8, 2);
-    both(a, says(GT, 0, 8, 1));
-    rewrites("bytes 0 and 255", SCREEN_REWRITTEN, "0 Gt t00ff 0\n", 8, 2);
-    begin_symbols();
-    a = says(EQ, 0, 0, 3);
-    both(a, says(EQ, 0, 4, 3));
-    rewrites("two symbols at once", SCREEN_NOTHING_PASSES, "", 0, 0);
+    for (size_t i = 0; i < sizeof pairs / sizeof pairs[0]; i++) {
+        begin_symbols();
+        uint32_t first = says(pairs[i].a.op, 0, pairs[i].a.start, pairs[i].a.length);
+        both(first, says(pairs[i].b.op, 0, pairs[i].b.start, pairs[i].b.length));
+        rewrites(pairs[i].name, pairs[i].answer, pairs[i].reasons, pairs[i].start, pairs[i].length);
+    }
     begin_symbols();
     uint32_t left = column(0);
-    a = binary(EQ, left, column(1));
+    uint32_t a = binary(EQ, left, column(1));
     both(a, says(EQ, 1, 7, 1));
     rewrites("carried along an equality", SCREEN_REWRITTEN, "0 Eq t61 1\n1 Eq t61 1\n", 7, 1);
     begin_symbols();
@@ -381,13 +374,6 @@ static void *hedge_there(void *answer)
     uint64_t count = 0;
     *(uint32_t *)answer = screen_lent_hedge_list(&sent, cells, sizeof cells, marks, 2, listed, sizeof listed, &tally, &count);
     return NULL;
-}
-
-static void on_thread(const char *name, void *(*work)(void *), size_t stack, uint32_t want)
-{
-    uint32_t answer = 0;
-    on_stack(work, &answer, stack);
-    report(answer == want, name, "another answer on its stack");
 }
 
 /* A full screen and a full pool with a symbol or a Text column, and the deepest one. */
