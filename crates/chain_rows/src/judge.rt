@@ -179,7 +179,7 @@ fn judge_ordered(
     ensures { λ _. ⌜ Classed (now (records .entry)) (now (pool .entry)) columns (now (values .entry)) (now (nulls .entry))
         (root .0) (now (classes .exit)) (length (now (nulls .entry))) ⌝ }
 {
-    let mut order = [0u64; 17793];
+    let mut order = [0u64; 19464];
     // The scratch, and 17 words for each column.
     let mut wide = [0u64; 1920];
     make_order(pool, &mut order);
@@ -402,7 +402,8 @@ fn judge_marked(
     }
 }
 
-fn judge_fitting(
+/// The class of each row that the records and the pool evaluate.
+pub fn judge_fitting(
     records: &[u8],
     pool: &[u8],
     columns: usize,

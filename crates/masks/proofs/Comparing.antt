@@ -160,6 +160,22 @@ module _ (code : ℕ) (x y : Option ℤ) where
       go true = refl
       go false = refl
 
+pub low-above : (code l : ℕ) → l ≡ lowCode code → 3 < l
+unfolding lowCode
+low-above code l e = go (leb code 1) e
+  where
+    go : (b : Bool) → l ≡ cond b 7 6 → 3 < l
+    go true e = omega (arith, e)
+    go false e = omega (arith, e)
+
+pub high-above : (code h : ℕ) → h ≡ highCode code → 3 < h
+unfolding highCode
+high-above code h e = go (eqb code 0 || eqb code 2) e
+  where
+    go : (b : Bool) → h ≡ cond b 5 4 → 3 < h
+    go true e = omega (arith, e)
+    go false e = omega (arith, e)
+
 pub between-compared : (code l h : ℕ) (x low high : Option ℤ) → l ≡ lowCode code → h ≡ highCode code
     → and3 (comparedOf l x low) (comparedOf h x high) ≡ betweenOf code x low high
 unfolding betweenOf

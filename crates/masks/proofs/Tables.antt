@@ -9,6 +9,8 @@ use Rattle.checking.proofs.Bits.{bit-or}
 use Rattle.three_valued.specs.declared.logic.Truth.{Truth}
 use Rattle.three_valued.specs.declared.logic.Truth.the-variants.{False, Unknown, True}
 use Rattle.three_valued.specs.Logic.{and3, or3, xor3, not3, isTrue}
+use Rattle.truth.specs.Comparison.{Lt}
+use Rattle.truth.specs.Evaluate.{ofTruth, comparing}
 use Rattle.masks.specs.declared.Masks.{Masks}
 use Rattle.masks.specs.Masks.{isUnknown, inverse, Tells}
 use Rattle.masks.proofs.Bits.{bit-and, bit-xor, bit-inverse, either}
@@ -83,6 +85,29 @@ xor-unknown False True = refl
 xor-unknown False Unknown = refl
 xor-unknown False False = refl
 
+less-true : (a b : Truth)
+    → ((not (isTrue a) && isTrue b) && not (isUnknown a || isUnknown b)) ≡ isTrue (comparing Lt (ofTruth a) (ofTruth b))
+less-true True True = refl
+less-true True Unknown = refl
+less-true True False = refl
+less-true Unknown True = refl
+less-true Unknown Unknown = refl
+less-true Unknown False = refl
+less-true False True = refl
+less-true False Unknown = refl
+less-true False False = refl
+
+less-unknown : (a b : Truth) → (isUnknown a || isUnknown b) ≡ isUnknown (comparing Lt (ofTruth a) (ofTruth b))
+less-unknown True True = refl
+less-unknown True Unknown = refl
+less-unknown True False = refl
+less-unknown Unknown True = refl
+less-unknown Unknown Unknown = refl
+less-unknown Unknown False = refl
+less-unknown False True = refl
+less-unknown False Unknown = refl
+less-unknown False False = refl
+
 not-true : (a : Truth) → not (isTrue a || isUnknown a) ≡ isTrue (not3 a)
 not-true True = refl
 not-true Unknown = refl
@@ -154,6 +179,32 @@ module _ (rows : ℕ) (x y : Masks) (f g : ℕ → Truth) (hx : Tells rows x f) 
             ∙ rw (bit-xor (x .truths) (y .truths) i, ei, bit-inverse (bitOr (x .unknowns) (y .unknowns)) i h, u, a .0, b .0)
             (xor-true (f i) (g i)),
         ap (λ w. bit w i) eu ∙ u ∙ xor-unknown (f i) (g i),
+      )
+
+  pub less-tells : (r : Masks) (turned inv : ℕ) → turned ≡ inverse (x .truths) → inv ≡ inverse (bitOr (x .unknowns) (y .unknowns))
+      → r .truths ≡ bitAnd (bitAnd turned (y .truths)) inv
+      → r .unknowns ≡ bitOr (x .unknowns) (y .unknowns)
+      → Tells rows r (λ i. comparing Lt (ofTruth (f i)) (ofTruth (g i)))
+  unfolding Tells
+  less-tells r turned inv en ei et eu i h k =
+      let a = hx i h k in
+      let b = hy i h k in
+      let u : bit (bitOr (x .unknowns) (y .unknowns)) i ≡ (isUnknown (f i) || isUnknown (g i)) =
+      bit-or (x .unknowns) (y .unknowns) i ∙ rw (a .1, b .1) in (
+        ap (λ w. bit w i) et
+            ∙ bit-and (bitAnd turned (y .truths)) inv i
+            ∙ rw (
+              bit-and turned (y .truths) i,
+              en,
+              bit-inverse (x .truths) i h,
+              ei,
+              bit-inverse (bitOr (x .unknowns) (y .unknowns)) i h,
+              u,
+              a .0,
+              b .0,
+            )
+            (less-true (f i) (g i)),
+        ap (λ w. bit w i) eu ∙ u ∙ less-unknown (f i) (g i),
       )
 
 pub not-tells : (rows : ℕ) (x : Masks) (f : ℕ → Truth) → Tells rows x f → (r : Masks) → r .truths ≡ inverse (bitOr (x .truths)

@@ -1,12 +1,13 @@
 // The operators that compare and those of logic, by their codes, on 64 rows.
 ghost use mathlib.Core.Path.{_≡_};
-ghost use Prim.Native.Nat.{ℕ, _+_, _≤_};
+ghost use Prim.Native.Nat.{ℕ, _+_, _≤_, _<_};
 ghost use mathlib.Core.Option.{Option};
 ghost use lib.IntN.{ℤ};
 ghost use lib.ListN.{length};
 ghost use Rattle.three_valued.specs.declared.logic.Truth.{Truth};
 ghost use Rattle.three_valued.specs.Logic.{ofBool};
-ghost use Rattle.truth.specs.Evaluate.{same, comparedOf, connectedOf, betweenOf, lowCode, highCode};
+ghost use Rattle.truth.specs.Comparison.{Lt};
+ghost use Rattle.truth.specs.Evaluate.{ofTruth, comparing, same, comparedOf, connectedOf, betweenOf, lowCode, highCode};
 ghost use Rattle.masks.specs.Masks.{Tells, Shown};
 use crate::Masks;
 use crate::and_masks;
@@ -94,5 +95,41 @@ pub fn between_columns(code: u8, keys: &[u64], nulls: u64, lows: u64, highs: u64
 {
     let above = compare_columns(low_code(code), keys, 0, nulls, 64, lows);
     let below = compare_columns(high_code(code), keys, 0, nulls, 128, highs);
+    and_masks(above, below)
+}
+
+// Lt of two truths as values: false is below true.
+fn less_truths(x: Masks, y: Masks) -> Masks
+    ensures { λ r. ⌜ ((rows : ℕ) (f g : ℕ → Truth) → Tells rows x f → Tells rows y g
+        → Tells rows r (λ i. comparing Lt (ofTruth (f i)) (ofTruth (g i)))) ⌝ }
+{
+    let either = x.unknowns | y.unknowns;
+    Masks {
+        truths: (inverted(x.truths) & y.truths) & inverted(either),
+        unknowns: either,
+    }
+}
+
+// The operators of codes 4 to 7, of two truths.
+fn compare_truths(code: u8, x: Masks, y: Masks) -> Masks
+    requires { ⌜ 3 < code ⌝ }
+    ensures { λ r. ⌜ ((rows : ℕ) (f g : ℕ → Truth) → Tells rows x f → Tells rows y g
+        → Tells rows r (λ i. comparedOf code (ofTruth (f i)) (ofTruth (g i)))) ⌝ }
+{
+    match code {
+        4 => less_truths(x, y),
+        5 => not_masks(less_truths(y, x)),
+        6 => less_truths(y, x),
+        _ => not_masks(less_truths(x, y)),
+    }
+}
+
+/// is_between of truths: no keys are filled for them.
+pub fn between_truths(code: u8, x: Masks, low: Masks, high: Masks) -> Masks
+    ensures { λ r. ⌜ ((rows : ℕ) (f g h : ℕ → Truth) → Tells rows x f → Tells rows low g → Tells rows high h
+        → Tells rows r (λ i. betweenOf code (ofTruth (f i)) (ofTruth (g i)) (ofTruth (h i)))) ⌝ }
+{
+    let above = compare_truths(low_code(code), x, low);
+    let below = compare_truths(high_code(code), x, high);
     and_masks(above, below)
 }

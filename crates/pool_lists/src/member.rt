@@ -14,12 +14,12 @@ ghost use Rattle.masks.specs.Masks.{Tells, Shown};
 ghost use Rattle.masks.specs.Block.{Finds};
 ghost use Rattle.pool_order.specs.Order.{Full, Ordered};
 ghost use Rattle.pool_lists.specs.Truths.{Truths};
-use crate::guessing::guess;
 use masks::Masks;
 use masks::block::biased;
 use masks::inverted;
 use masks::mask_equal;
 use masks::with_bit;
+use pool_guesses::guessing::guess;
 use pool_order::asking::holds;
 use pool_order::asking::holds_from;
 use records::bytes::value_in;
@@ -149,7 +149,7 @@ fn find_any(
     requires { ⌜ hints ≤ 8192 ⌝ }
     ensures { λ r. ⌜ Finds (now (keys .entry)) 0 (valuesFrom (now (pool .entry)) start count) r ⌝ }
 {
-    if order.len() < 17793 {
+    if order.len() < 19464 {
         return find_keys(pool, order, start, count, keys, 0);
     }
     let mut spots = [0u64; 128];

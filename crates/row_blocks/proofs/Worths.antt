@@ -23,12 +23,12 @@ use Rattle.truth.specs.Comparison.{Eq}
 use Rattle.truth.specs.Halves.{key, biasOf}
 use Rattle.three_valued.specs.Logic.{isTrue}
 use Rattle.truth.specs.FromBytes.{rowKeys}
-use Rattle.truth.specs.Evaluate.{leafOf, ofTruth, toTruth, comparing, Evaluable}
+use Rattle.truth.specs.Evaluate.{leafOf, ofTruth, toTruth, comparing, betweenOf, Evaluable}
 use Rattle.row_test.proofs.Evaluation.{fit-of, leaf-truth, leaf-is-value, truth-is-value, binary-is-value, divided-value, divided-truth}
 use Rattle.truth.proofs.Keys.{lt-or-le}
 use Rattle.masks.specs.declared.Masks.{Masks}
 use Rattle.masks.specs.Masks.{isUnknown, Tells, KeyAt, isNull, isKey, Shown}
-use Rattle.masks.specs.Block.{chainRow, chainValue, chainTruth, chainWorth, Ready, isKept, masksAt, Held}
+use Rattle.masks.specs.Block.{chainRow, chainValue, chainTruth, chainWorth, Ready, isKept, masksAt, Held, Input}
 use Rattle.masks.proofs.Comparing.{tells-same, truth-compared}
 use Rattle.pool_lists.proofs.Members.{every-bit}
 use Rattle.row_blocks.proofs.Turns.{kept-binary, kept-other, row-evaluable, first-row}
@@ -179,7 +179,7 @@ module _ (rs p : List ℕ) (columns : ℕ) (values nulls : List ℕ) (base rows 
   rest-worth d1 d2 d4 free i h = sym (no-leaf i d1 d2) ∙ leaf-worth (free-leaf f d4 free) i h
 
   -- a truth that is kept is the value
-  kept-worth : isKept f ≡ true → (i : ℕ) → i < rows → ofTruth (truthOf i) ≡ worthOf i
+  pub kept-worth : isKept f ≡ true → (i : ℕ) → i < rows → ofTruth (truthOf i) ≡ worthOf i
   unfolding chainWorth chainTruth
   kept-worth kept i h =
       by-test (eqb (f .kind) 4)
@@ -239,3 +239,29 @@ module _ (rs p : List ℕ) (columns : ℕ) (values nulls : List ℕ) (base rows 
   pub free-told : isKept f ≡ false → (r : Masks) → Tells rows r (λ i. comparing Eq (worthOf i) (some (key 1)))
       → Tells rows r truthOf
   free-told free r t = tells-same rows r _ _ (λ i h. truth-compared (worthOf i) ∙ free-truth free i h) t
+
+-- is_between of truths that are kept: their values are these
+module _ (rs p : List ℕ) (columns : ℕ) (values nulls : List ℕ) (base rows : ℕ) (truths unknowns : List ℕ) where
+  abbrev valueOf : ℕ → ℕ → Option ℤ
+  valueOf n i = chainWorth rs p columns values nulls n (base + i)
+
+  abbrev Reads : ℕ → Type 0
+  Reads n = Input rs p columns values nulls base rows truths unknowns n × (isKept (fieldsAt rs (node n)) ≡ true)
+
+  told-at : (n : ℕ) → Reads n → (x : Masks) → x ≡ masksAt truths unknowns n
+      → Tells rows x (λ i. chainTruth rs p columns values nulls n (base + i))
+  told-at n h x e =
+      rw e (kept-told rs p columns values nulls base rows (node n) (fieldsAt rs (node n)) (h .0 .ready) refl (h .1) truths unknowns
+      (h .0 .held))
+
+  value-at : (n : ℕ) → Reads n → (i : ℕ) → i < rows → ofTruth (chainTruth rs p columns values nulls n (base + i)) ≡ valueOf n i
+  value-at n h = kept-worth rs p columns values nulls base rows (node n) (fieldsAt rs (node n)) (h .0 .ready) refl (h .1)
+
+  pub between-kept : (a b c code : ℕ) (x y z r : Masks) → Reads a → Reads b → Reads c → x ≡ masksAt truths unknowns a
+      → y ≡ masksAt truths unknowns b → z ≡ masksAt truths unknowns c
+      → ((f g h : ℕ → Truth) → Tells rows x f → Tells rows y g → Tells rows z h
+      → Tells rows r (λ i. betweenOf code (ofTruth (f i)) (ofTruth (g i)) (ofTruth (h i))))
+      → Tells rows r (λ i. betweenOf code (valueOf a i) (valueOf b i) (valueOf c i))
+  between-kept a b c code x y z r ha hb hc ex ey ez t =
+      tells-same rows r _ _ (λ i l. rw (value-at a ha i l, value-at b hb i l, value-at c hc i l))
+      (t _ _ _ (told-at a ha x ex) (told-at b hb y ey) (told-at c hc z ez))

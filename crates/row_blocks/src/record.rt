@@ -8,15 +8,17 @@ ghost use lib.ListN.{length};
 ghost use Rattle.three_valued.specs.Logic.{ofBool};
 ghost use Rattle.truth.specs.Evaluate.{nullTest};
 ghost use Rattle.masks.specs.Masks.{Tells, Shown};
-ghost use Rattle.masks.specs.Block.{chainTruth, Turn};
+ghost use Rattle.masks.specs.Block.{chainTruth, masksAt, Turn};
 ghost use Rattle.pool_order.specs.Order.{Ordered};
 use crate::operand::operand;
 use crate::operand::truth_input;
 use masks::Masks;
 use masks::compare::between_columns;
+use masks::compare::between_truths;
 use masks::compare::compare_columns;
 use masks::compare::connect_masks;
 use masks::not_masks;
+use masks::reach::is_kept;
 use pool_lists::member::member_masks;
 use records::record::Fields;
 use records::record::Node;
@@ -232,8 +234,8 @@ fn null_record(
     not_masks(m)
 }
 
-// is_between.
-fn between_record(
+// is_between of values.
+fn between_values(
     records: &[u8],
     pool: &[u8],
     values: &[u8],
@@ -296,6 +298,66 @@ fn between_record(
         128,
     );
     between_columns(f.code, keys, x, low, high)
+}
+
+// The words kept for record n.
+fn kept_masks(truths: &[u64], unknowns: &[u64], n: u32) -> Masks
+    requires { ⌜ n < length (now truths) ⌝ }
+    requires { ⌜ n < length (now unknowns) ⌝ }
+    ensures { λ r. ⌜ r ≡ masksAt (now (truths .entry)) (now (unknowns .entry)) n ⌝ }
+{
+    Masks {
+        truths: truths[n as usize],
+        unknowns: unknowns[n as usize],
+    }
+}
+
+// is_between: where the truths of all its inputs are kept, of these.
+fn between_record(
+    records: &[u8],
+    pool: &[u8],
+    values: &[u8],
+    nulls: &[u64],
+    columns: usize,
+    base: usize,
+    rows: usize,
+    truths: &[u64],
+    unknowns: &[u64],
+    n: Node,
+    f: Fields,
+    keys: &mut [u64],
+) -> Masks
+    requires { ⌜ Turn (now records) (now pool) columns (now values) (now nulls) base rows (now truths) (now unknowns) n f ⌝ }
+    requires { ⌜ 192 ≤ length (now keys) ⌝ }
+    requires { ⌜ f .kind ≡ 8 ⌝ }
+    ensures { λ r. ⌜ Tells rows r (λ (i : ℕ). chainTruth (now (records .entry)) (now (pool .entry)) columns
+        (now (values .entry)) (now (nulls .entry)) (n .0) (base + i)) ⌝ }
+{
+    let a = is_kept(fields_in(records, Node(f.a)));
+    let b = is_kept(fields_in(records, Node(f.b)));
+    let c = is_kept(fields_in(records, Node(f.c)));
+    if a & b & c {
+        return between_truths(
+            f.code,
+            kept_masks(truths, unknowns, f.a),
+            kept_masks(truths, unknowns, f.b),
+            kept_masks(truths, unknowns, f.c),
+        );
+    }
+    between_values(
+        records,
+        pool,
+        values,
+        nulls,
+        columns,
+        base,
+        rows,
+        truths,
+        unknowns,
+        n,
+        f,
+        keys,
+    )
 }
 
 // Where a column's numbers in the order of the pool may be kept for a block, behind the scratch of divisions; other inputs keep

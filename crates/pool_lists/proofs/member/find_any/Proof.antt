@@ -3,7 +3,7 @@ use Rattle.pool_lists.proofs.member.find_any.Statement.{statement}
 use Rattle.pool_lists.proofs.member.find_any.Tie as tie
 use Rattle.pool_lists.proofs.member.find_any.Reads as reads
 use Rattle.pool_lists.proofs.member.find_any.Lts as lts
-use Rattle.pool_lists.proofs.guessing.guess.Reads as guess-reads
+use Rattle.pool_guesses.proofs.guessing.guess.Reads as guess-reads
 use Rattle.pool_lists.proofs.member.find_guessed.Reads as find-guessed-reads
 use Rattle.pool_lists.proofs.member.find_keys.Reads as find-keys-reads
 use mathlib.Core.Path.{refl}

@@ -1,0 +1,58 @@
+use borrow.Author.Needs.{needs}
+use Rattle.pool_guesses.proofs.guessing.seek_seats.Statement.{statement}
+use Rattle.pool_guesses.proofs.guessing.seek_seats.Tie as tie
+use Rattle.pool_guesses.proofs.guessing.seek_seats.Reads as reads
+use Rattle.pool_guesses.proofs.guessing.seek_seats.Lts as lts
+use Rattle.pool_guesses.proofs.guessing.find_places.Reads as find-places-reads
+use native.Mathlib.Omega.{arith}
+
+-- src/guessing.rt:113:17
+sub-find-places : tie.Need-sub-find-places
+sub-find-places c = search needs
+
+-- src/guessing.rt:113:17
+part-find-places-start : tie.Need-part-find-places-start
+part-find-places-start c = search needs
+
+-- src/guessing.rt:113:17
+part-find-places-end : tie.Need-part-find-places-end
+part-find-places-end c = search needs
+
+-- src/guessing.rt:113:38
+sub-find-places-2 : tie.Need-sub-find-places-2
+sub-find-places-2 c = search needs
+
+-- src/guessing.rt:113:38
+part-find-places-start-2 : tie.Need-part-find-places-start-2
+part-find-places-start-2 c = search needs
+
+-- src/guessing.rt:113:38
+part-find-places-end-2 : tie.Need-part-find-places-end-2
+part-find-places-end-2 c = search needs
+
+-- src/guessing.rt:113:5
+find-places-requires : tie.Need-find-places-requires
+find-places-requires c κs =
+    (search needs, (omega arith, (search needs, search needs)))
+
+-- src/guessing.rt:108:1
+same-length : tie.Need-same-length
+same-length c = search needs
+
+-- src/guessing.rt:108:1
+returns : tie.Need-returns
+returns c = search needs
+
+pub seek-seats-spec : {M : Type 1} → statement M
+seek-seats-spec =
+    tie.close
+    (tie.spec
+    sub-find-places
+    part-find-places-start
+    part-find-places-end
+    sub-find-places-2
+    part-find-places-start-2
+    part-find-places-end-2
+    find-places-requires
+    same-length
+    returns)
