@@ -65,6 +65,12 @@ pub not-accepted : (k : ℕ) → Refused k ≡ Accepted → ⊥
 unfolding isAccepted
 not-accepted k e = true≢false (sym (ap isAccepted e))
 
+-- within the limits the answer is the records' own
+pub within-limits : (text : ℕ) (t rs p : List ℕ) (used root : ℕ) → tableOkIn text t ≡ true → sizesOkIn text rs p used ≡ true
+    → root < used → checkAnswerIn text t rs p used root ≡ recordsAnswerIn text t rs p used (node root)
+unfolding checkAnswerIn
+within-limits text t rs p used root a b h = rw (a, b, lt-ltb root used h)
+
 -- an answer that is Accepted comes from every test before it
 passed : (b : Bool) (x : CheckAnswer) (k : ℕ) → cond b x (Refused k) ≡ Accepted → (b ≡ true) × (x ≡ Accepted)
 passed true x k e = (refl, e)

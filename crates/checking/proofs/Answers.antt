@@ -1,10 +1,9 @@
--- The numbers that a refusal can carry, and what the answers of columns read hold.
+-- The numbers that a refusal can carry.
 use Prim.Native.Nat.{ℕ, zero, suc, _≤_, _<_}
 use mathlib.Core.List.{List}
-use mathlib.Core.Bool.{Bool, true, false, cond, true≢false}
+use mathlib.Core.Bool.{Bool, true, false, cond}
 use mathlib.Core.Path.{_≡_, refl, sym, _∙_, ap, subst}
 use native.Mathlib.Omega.{arith}
-use lib.Count.{ones}
 use lib.Dec.{eqb, ltb}
 use borrow.Author.Tests.{eqb-false}
 use Rattle.records.specs.Bytes.{first}
@@ -12,13 +11,10 @@ use Rattle.records.specs.Record.{node, fieldsAt, decode}
 use Rattle.records.specs.Shape.{shapeOkIn}
 use Rattle.record_check.specs.Fit.{reachOkIn, servedOk, typesOk, typeAt}
 use Rattle.checking.specs.Check.{tableOkIn, sizesOkIn, meaningFaultIn, recordFaultIn, firstFaultIn, recordsAnswerIn, checkAnswerIn, checkAnswer}
-use Rattle.checking.specs.Columns.{columnsWord, columnsIf, columnsAnswer}
 use Rattle.records.specs.declared.record.Node.{Node}
 use Rattle.records.specs.declared.record.Record.{Record}
 use Rattle.checking.specs.declared.check.CheckAnswer.{CheckAnswer}
 use Rattle.checking.specs.declared.check.CheckAnswer.the-variants as check
-use Rattle.checking.specs.declared.reads.ColumnsAnswer.{ColumnsAnswer}
-use Rattle.checking.specs.declared.reads.ColumnsAnswer.the-variants as columns
 
 -- of two numbers in a range, a test picks one in it
 pick : (b : Bool) (x y : ℕ) → x ≤ 7 → y ≤ 7 → cond b x y ≤ 7
@@ -77,27 +73,3 @@ refused-numbered-in text t rs p used root k e = subst Numbered e (answer-numbere
 pub refused-numbered : (t rs p : List ℕ) (used root k : ℕ) → checkAnswer t rs p used root ≡ check.Refused k
     → (1 ≤ k) × (k ≤ 7)
 refused-numbered = refused-numbered-in 0
-
--- so does columns read
-pub columns-refused : (t rs p : List ℕ) (used root k : ℕ) → columnsAnswer t rs p used root ≡ columns.Refused k
-    → (1 ≤ k) × (k ≤ 7)
-unfolding columnsAnswer
-columns-refused t rs p used root k = go (checkAnswer t rs p used root) refl
-  where
-    go : (a : CheckAnswer) → checkAnswer t rs p used root ≡ a
-        → columnsIf a (columnsWord rs root) ≡ columns.Refused k → (1 ≤ k) × (k ≤ 7)
-    go (check.Refused j) q e =
-        let h : j ≡ k = cc in subst (λ n. (1 ≤ n) × (n ≤ 7)) h (refused-numbered t rs p used root j q)
-    go check.Accepted q e = let h : true ≡ false = cc in absurd (true≢false h)
-
--- what it answers otherwise: the word of the columns reached, and its ones
-pub columns-found : (t rs p : List ℕ) (used root w n : ℕ) → columnsAnswer t rs p used root ≡ columns.Read w n
-    → (columnsWord rs root ≡ w) × (ones w ≡ n)
-unfolding columnsAnswer
-columns-found t rs p used root w n = go (checkAnswer t rs p used root)
-  where
-    go : (a : CheckAnswer) → columnsIf a (columnsWord rs root) ≡ columns.Read w n
-        → (columnsWord rs root ≡ w) × (ones w ≡ n)
-    go (check.Refused j) e = let h : true ≡ false = cc in absurd (true≢false h)
-    go check.Accepted e =
-        let h : columnsWord rs root ≡ w = cc in let k : ones (columnsWord rs root) ≡ n = cc in (h, subst (λ x. ones x ≡ n) h k)

@@ -7,7 +7,6 @@ use lib.Bits.{bitOr}
 use lib.Count.{ones}
 use Rattle.records.specs.Course.{course}
 use Rattle.records.specs.Record.{node, recordAt, inputs}
-use Rattle.checking.specs.Check.{checkAnswer}
 use Rattle.records.specs.declared.record.Record.{Record}
 use Rattle.records.specs.declared.record.Record.the-variants as kind
 use Rattle.checking.specs.declared.check.CheckAnswer.{CheckAnswer}
@@ -73,7 +72,3 @@ columnsWord rs n = course (λ a. 0) (λ below i. columnsStep below (recordAt rs 
 abbrev pub columnsIf : CheckAnswer → ℕ → ColumnsAnswer
 columnsIf (check.Refused k) word = columns.Refused k
 columnsIf check.Accepted word = columns.Read word (ones word)
-
--- the answer of columns read: as checking, else the word and the number of ones in it
-unfoldable pub columnsAnswer : List ℕ → List ℕ → List ℕ → ℕ → ℕ → ColumnsAnswer
-columnsAnswer t rs p used root = columnsIf (checkAnswer t rs p used root) (columnsWord rs root)

@@ -2,12 +2,9 @@
 ghost use mathlib.Core.Path.{_≡_};
 ghost use Prim.Native.Nat.{ℕ, _≤_, _<_};
 ghost use lib.ListN.{length, getD};
-ghost use lib.Count.{ones};
 ghost use Rattle.records.specs.Record.{listOf, recordAt};
-ghost use Rattle.checking.specs.Columns.{columnBit, ownColumn, orAt, columnsStep, columnsWord, columnsAnswer};
+ghost use Rattle.checking.specs.Columns.{columnBit, ownColumn, orAt, columnsStep, columnsWord};
 ghost use Rattle.checking.specs.Table.{below};
-use crate::check::CheckAnswer;
-use crate::check::check_screen;
 use records::record::Column;
 use records::record::Inputs;
 use records::record::Node;
@@ -97,16 +94,4 @@ pub fn columns_word(rs: &[u8], root: Node) -> u64
     let mut words = [0u64; 4096];
     fill_words(&mut words, rs, root);
     words[root.0 as usize]
-}
-
-pub fn columns_read(t: &[u8], rs: &[u8], p: &[u8], used: u64, root: u64) -> ColumnsAnswer
-    ensures { λ a. ⌜ a ≡ columnsAnswer (now (t .entry)) (now (rs .entry)) (now (p .entry)) used root ⌝ }
-{
-    match check_screen(t, rs, p, used, root) {
-        CheckAnswer::Refused(k) => ColumnsAnswer::Refused(k),
-        CheckAnswer::Accepted => {
-            let word = columns_word(rs, Node(root as u32));
-            ColumnsAnswer::Read(word, u64::count_ones(word) as u64)
-        }
-    }
 }

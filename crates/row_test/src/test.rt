@@ -2,13 +2,16 @@
 ghost use mathlib.Core.Path.{_≡_};
 ghost use Prim.Native.Nat.{_≤_, min};
 ghost use lib.ListN.{length};
+ghost use Rattle.checking.specs.Check.{checkAnswer};
 ghost use Rattle.checking.specs.Checked.{Checked};
-ghost use Rattle.checking.specs.Tree.{treeCount};
+ghost use Rattle.checking.specs.Tree.{Counted, treeCount};
+ghost use Rattle.checking.specs.declared.check.CheckAnswer.the-variants.{Accepted};
 ghost use Rattle.row_test.specs.RowTest.{checkedAnswer, testRowAnswer};
 use crate::evaluate::truth_at;
 use crate::row::row_fault;
 use checking::check::CheckAnswer;
 use checking::check::check_counted;
+use checking::check::check_few_counted;
 use records::record::Node;
 use three_valued::logic::Truth;
 
@@ -44,6 +47,27 @@ pub fn test_checked(
     RowAnswer::Tested(truth_at(records, pool, row, nulls, root))
 }
 
+// Checking: a screen of few records has its slices passed on once and not twice.
+fn check_sized(
+    table: &[u8],
+    records: &[u8],
+    pool: &[u8],
+    used: u64,
+    root: u64,
+    types: &mut [u8],
+    trees: &mut [u16],
+) -> CheckAnswer
+    requires { ⌜ (used ≤ 4096 → used ≤ length (now types)) ⌝ }
+    requires { ⌜ (used ≤ 4096 → used ≤ length (now trees)) ⌝ }
+    ensures { λ a. ⌜ a ≡ checkAnswer (now (table .entry)) (now (records .entry)) (now (pool .entry)) used root ⌝ }
+    ensures { λ a. ⌜ (a ≡ Accepted → Counted (now (records .entry)) (now (trees .exit)) used) ⌝ }
+{
+    if used <= 64 {
+        return check_few_counted(table, records, pool, used, root, types, trees);
+    }
+    check_counted(table, records, pool, used, root, types, trees)
+}
+
 fn test_within(
     table: &[u8],
     records: &[u8],
@@ -60,7 +84,7 @@ fn test_within(
     ensures { λ r. ⌜ r ≡ testRowAnswer (now (table .entry)) (now (records .entry)) (now (pool .entry)) used root
         (now (row .entry)) nulls ⌝ }
 {
-    let answer = check_counted(table, records, pool, used, root, types, trees);
+    let answer = check_sized(table, records, pool, used, root, types, trees);
     match answer {
         CheckAnswer::Refused(number) => RowAnswer::Refused(number),
         CheckAnswer::Accepted => test_checked(

@@ -8,12 +8,12 @@ use Rattle.row_test.proofs.test.test_within.Statement.{statement}
 use Rattle.row_test.proofs.test.test_within.Tie as tie
 use Rattle.row_test.proofs.test.test_within.Reads as reads
 use Rattle.row_test.proofs.test.test_within.Lts as lts
-use Rattle.checking.proofs.check.check_counted.Reads as check-counted-reads
+use Rattle.row_test.proofs.test.check_sized.Reads as check-sized-reads
 use Rattle.row_test.proofs.test.test_checked.Reads as test-checked-reads
 
 -- src/test.rt:63:9
-check-counted-requires : tie.Need-check-counted-requires
-check-counted-requires c κs = search needs
+check-sized-requires : tie.Need-check-sized-requires
+check-sized-requires c κs = search needs
 
 -- src/test.rt:65:30
 enum-known-answer : tie.Need-enum-known-answer
@@ -29,7 +29,7 @@ cast-t17 c =
     let args = (c .before .before .before .before .before .before .before .before .before .before .before .before .before .before .before) .args in
     let h : args .root < 4096 =
     accepted-root (args .table .now) (args .records .now) (args .pool .now) (args .used) (args .root)
-    (sym ((c .before .before .before .before .before .before .check-counted) .ensures .0) ∙ (c .enum-told) .given .1) in
+    (sym ((c .before .before .before .before .before .before .check-sized) .ensures .0) ∙ (c .enum-told) .given .1) in
     omega arith
 
 -- src/test.rt:74:13
@@ -38,7 +38,7 @@ mul-test-checked c =
     let args = (c .before .before .before .before .before .before .before .before .before .before .before .before .before .before .before) .args in
     let h : args .root < 4096 =
     accepted-root (args .table .now) (args .records .now) (args .pool .now) (args .used) (args .root)
-    (sym ((c .before .before .before .before .before .before .check-counted) .ensures .0) ∙ (c .enum-told) .given .1) in
+    (sym ((c .before .before .before .before .before .before .check-sized) .ensures .0) ∙ (c .enum-told) .given .1) in
     omega arith
 
 -- src/test.rt:74:13
@@ -47,7 +47,7 @@ slice-read-test-checked c =
     let args = (c .before .before .before .before .before .before .before .before .before .before .before .before .before .before .before .before) .args in
     let ok =
     checked (args .table .now) (args .records .now) (args .pool .now) (args .used) (args .root)
-    (sym ((c .before .before .before .before .before .before .before .check-counted) .ensures .0) ∙ (c .before .enum-told) .given .1) in
+    (sym ((c .before .before .before .before .before .before .before .check-sized) .ensures .0) ∙ (c .before .enum-told) .given .1) in
     let small : args .used ≤ 4096 = checked-used (args .table .now) (args .records .now) (args .pool .now) (args .used) (args .root) ok in
     let h : args .root < args .used = ok .root-used in
     omega (arith, (c .before .before .before .before .before .before .before .before .before .before .before .before .before .before .before .before) .pre .1 small)
@@ -58,8 +58,8 @@ test-checked-requires c κs =
     let args = (c .before .before .before .before .before .before .before .before .before .before .before .before .before .before .before .before) .args in
     let ok =
     checked (args .table .now) (args .records .now) (args .pool .now) (args .used) (args .root)
-    (sym ((c .before .before .before .before .before .before .before .check-counted) .ensures .0) ∙ (c .before .enum-told) .given .1) in
-    (ok, (c .before .before .before .before .before .before .before .check-counted) .ensures .1 ((c .before .enum-told) .given .1) (args .root) (ok .root-used))
+    (sym ((c .before .before .before .before .before .before .before .check-sized) .ensures .0) ∙ (c .before .enum-told) .given .1) in
+    (ok, (c .before .before .before .before .before .before .before .check-sized) .ensures .1 ((c .before .enum-told) .given .1) (args .root) (ok .root-used))
 
 -- src/test.rt:47:1
 same-length : tie.Need-same-length
@@ -73,7 +73,7 @@ same-length-2 c = search needs
 returns : tie.Need-returns
 unfolding testRowAnswer
 returns c =
-    rw (← (c .before .before .before .before .before .before .before .check-counted) .ensures .0, (c .before .answer) .given .1)
+    rw (← (c .before .before .before .before .before .before .before .check-sized) .ensures .0, (c .before .answer) .given .1)
 
 -- src/test.rt:47:1
 same-length-3 : tie.Need-same-length-3
@@ -87,13 +87,13 @@ same-length-4 c = search needs
 returns-2 : tie.Need-returns-2
 unfolding testRowAnswer
 returns-2 c =
-    rw (← (c .before .before .before .before .before .before .before .before .check-counted) .ensures .0, (c .before .before .enum-told) .given .1) ((c .test-checked) .ensures)
+    rw (← (c .before .before .before .before .before .before .before .before .check-sized) .ensures .0, (c .before .before .enum-told) .given .1) ((c .test-checked) .ensures)
 
 pub test-within-spec : {M : Type 1} → statement M
 test-within-spec =
     tie.close
     (tie.spec
-    check-counted-requires
+    check-sized-requires
     enum-known-answer
     enum-told
     cast-t17

@@ -1,0 +1,56 @@
+use borrow.Author.Needs.{needs}
+use Rattle.row_test.proofs.test.check_sized.Statement.{statement}
+use Rattle.row_test.proofs.test.check_sized.Tie as tie
+use Rattle.row_test.proofs.test.check_sized.Reads as reads
+use Rattle.row_test.proofs.test.check_sized.Lts as lts
+use Rattle.checking.proofs.check.check_counted.Reads as check-counted-reads
+use Rattle.checking.proofs.check.check_few_counted.Reads as check-few-counted-reads
+use native.Mathlib.Omega.{arith}
+
+-- src/test.rt:66:9
+check-few-counted-requires : tie.Need-check-few-counted-requires
+check-few-counted-requires c κs =
+    let st = c .before .before .before .before .before .before .before .before in
+    let if1 = c .before .before .if1 in
+    (if1 .taken, (st .pre .0 (omega (arith, if1 .taken)), st .pre .1 (omega (arith, if1 .taken))))
+
+-- src/test.rt:66:9
+same-length : tie.Need-same-length
+same-length c = search needs
+
+-- src/test.rt:66:9
+same-length-2 : tie.Need-same-length-2
+same-length-2 c = search needs
+
+-- src/test.rt:66:9
+returns : tie.Need-returns
+returns c = search needs
+
+-- src/test.rt:68:5
+check-counted-requires : tie.Need-check-counted-requires
+check-counted-requires c κs = search needs
+
+-- src/test.rt:51:1
+same-length-3 : tie.Need-same-length-3
+same-length-3 c = search needs
+
+-- src/test.rt:51:1
+same-length-4 : tie.Need-same-length-4
+same-length-4 c = search needs
+
+-- src/test.rt:51:1
+returns-2 : tie.Need-returns-2
+returns-2 c = search needs
+
+pub check-sized-spec : {M : Type 1} → statement M
+check-sized-spec =
+    tie.close
+    (tie.spec
+    check-few-counted-requires
+    same-length
+    same-length-2
+    returns
+    check-counted-requires
+    same-length-3
+    same-length-4
+    returns-2)
