@@ -1,7 +1,7 @@
 /*
  * The hedge list over a chain of 1,024 rows. First a screen of 10 lines beside C written by hand for that very screen, which
  * makes the same checks of the rows, knows the screen and so checks none: goal 2 times. Then the slowest families of screens
- * known for rows: a full tree, the deepest ones, divisions, long lists; goal 15 ms each.
+ * known for rows: a full tree, the deepest ones, divisions, long lists, symbols; goal 15 ms each.
  *
  * A refused answer, or another list than screen_test_row or the C by hand gives, fails the run; a time never does.
  */
@@ -301,26 +301,73 @@ static uint64_t drawn(void)
     return drawn_state ^= drawn_state << 17;
 }
 
-/* 64 columns: odd numbers below 16,384, or numbers of any size and sign. */
-static void make_wide_chain(int any)
+/* 64 columns, the values by one of these. */
+static void make_wide_chain(int64_t value(void))
 {
     cells = wide;
     cells_len = sizeof wide;
     memset(nulls, 0, sizeof nulls);
-    for (size_t i = 0; i < sizeof wide / 8; i++) {
-        int64_t size = (int64_t)(drawn() >> 1 >> drawn() % 63);
-        screen_store_value(wide + 8 * i, !any ? 2 * (int64_t)(drawn() % 8192) + 1 : drawn() % 2 == 0 ? size : -size);
-    }
+    for (size_t i = 0; i < sizeof wide / 8; i++)
+        screen_store_value(wide + 8 * i, value());
+}
+
+static int64_t odd_value(void) /* below 16,384 */
+{
+    return 2 * (int64_t)(drawn() % 8192) + 1;
+}
+
+static int64_t any_value(void) /* of any size and sign */
+{
+    int64_t size = (int64_t)(drawn() >> 1 >> drawn() % 63);
+    return drawn() % 2 == 0 ? size : -size;
+}
+
+static int64_t signed_value(void) /* odd, on both sides of 0 */
+{
+    return odd_value() - 8192;
+}
+
+static int64_t skew_value(void) /* every eighth is 2,001 */
+{
+    return drawn() % 8 == 0 ? 2001 : odd_value();
+}
+
+static int64_t great_value(void) /* every second is the greatest number */
+{
+    return drawn() % 2 == 0 ? INT64_MAX : 2 * (int64_t)(drawn() % 3000) + 1;
 }
 
 enum asked { COLUMN, QUOTIENT, LITERAL };
 
-/* A pool of so many different odd numbers. */
-static void make_wide_pool(unsigned different)
+/* A pool of so many different odd numbers, from one on. */
+static void make_pool_from(unsigned different, int64_t least)
 {
     make(&now, SCREEN_MAX_COLUMNS, SCREEN_TYPE_INT);
     for (unsigned i = 0; i < SCREEN_MAX_POOL_VALUES; i++)
-        screen_put_pool(&now.s, 2 * (int64_t)(i * 2654435761u % different) + 1);
+        screen_put_pool(&now.s, 2 * (int64_t)(i * 2654435761u % different) + least);
+}
+
+static void make_wide_pool(unsigned different)
+{
+    make_pool_from(different, 1);
+}
+
+/* 2,001 so many times, all others once: a search among the places of 2,001 takes longest. */
+static void make_skew_pool(unsigned often)
+{
+    make(&now, SCREEN_MAX_COLUMNS, SCREEN_TYPE_INT);
+    for (unsigned i = 0; i < SCREEN_MAX_POOL_VALUES; i++) {
+        unsigned n = i * 2654435761u % 8192;
+        screen_put_pool(&now.s, n < often ? 2001 : 2 * (int64_t)n + 1);
+    }
+}
+
+/* The greatest number at the first and the last place. */
+static void make_great_pool(void)
+{
+    make(&now, SCREEN_MAX_COLUMNS, SCREEN_TYPE_INT);
+    for (unsigned i = 0; i < SCREEN_MAX_POOL_VALUES; i++)
+        screen_put_pool(&now.s, i % 8191 == 0 ? INT64_MAX : 2 * (int64_t)(i * 2654435761u % 3000) + 1);
 }
 
 /* is_in of a column, each in its turn, of its quotient by 1 or of a literal, over half of the pool. */
@@ -349,13 +396,11 @@ static int wide_lists(const char *name, unsigned count, unsigned different, enum
     return family(name);
 }
 
-/* The same, whether what is told so far lies between the next two: three and a half records a list instead of four. */
-static int between_lists(const char *name, unsigned count, unsigned different, enum asked of)
+/* The same over a pool that was made, whether what is told so far lies between the next two: three and a half records a list
+   instead of four. */
+static int between_lists(const char *name, unsigned count, enum asked of)
 {
-    uint32_t top, one;
-    make_wide_pool(different);
-    one = screen_put_int(&now.s, 1);
-    top = wide_list(0, of, one);
+    uint32_t one = screen_put_int(&now.s, 1), top = wide_list(0, of, one);
     for (unsigned n = 1; n + 1 < count; n += 2) {
         uint32_t low = wide_list(n, of, one);
         top = screen_put_between(&now.s, SCREEN_CLOSED_BOTH, top, low, wide_list(n + 1, of, one));
@@ -398,6 +443,102 @@ static int nested_lists(void)
     return family("2,047 lists of truths, one of the other");
 }
 
+/* ------------------------------------------------------------------------------------------------------------- symbols */
+
+enum { SYMBOLS = 8192 - 15 };
+
+/* Symbol number i of a text that has many: 16 bytes from any start on, the first dozen alike in most. */
+static int64_t symbol_number(unsigned i)
+{
+    return screen_symbol(i * 2654435761u % SYMBOLS, 16 - i % 3);
+}
+
+/* Text columns alone, or the first of them and Ints behind it. */
+static void make_symbols(unsigned texts, unsigned columns)
+{
+    make(&now, texts, SCREEN_TYPE_TEXT);
+    while (now.s.table_len < columns)
+        screen_declare(&now.s, SCREEN_TYPE_INT);
+    for (unsigned i = 0; i < sizeof now.text; i++)
+        now.text[i] = (uint8_t)(drawn() % 13 == 0 ? 'B' + drawn() % 20 : 'A');
+    now.s.text_len = sizeof now.text;
+}
+
+static void make_symbol_chain(void)
+{
+    cells = wide;
+    cells_len = 8 * now.s.table_len * ROWS;
+    memset(nulls, 0, sizeof nulls);
+    for (size_t i = 0; i < now.s.table_len * ROWS; i++) {
+        int64_t value = now.table[i % now.s.table_len] == SCREEN_TYPE_TEXT ? symbol_number((unsigned)(drawn() % 65536)) : 10;
+        screen_store_value(wide + 8 * i, value);
+    }
+}
+
+static uint32_t symbol_line(unsigned code, uint32_t number, unsigned i)
+{
+    return line(&now, code, number, symbol_number(i));
+}
+
+/* What a desk types: one line on the underlying, the others on numbers. */
+static int ten_with_symbol(void)
+{
+    uint32_t top;
+    make_symbols(1, COLUMNS);
+    top = symbol_line(SCREEN_OP_NOT_EQ, 0, 7);
+    for (unsigned n = 1; n < 10; n++)
+        top = screen_put_and(&now.s, top, line(&now, SCREEN_OP_GT, 1 + n % (COLUMNS - 1), 2));
+    make_symbol_chain();
+    return family("10 lines, one of them on a symbol");
+}
+
+static int symbol_lines(const char *name, unsigned texts, unsigned count)
+{
+    uint32_t top;
+    make_symbols(texts, texts);
+    top = symbol_line(SCREEN_OP_GT, 0, 1);
+    for (unsigned n = 1; n < count; n++)
+        top = screen_put_or(&now.s, top, symbol_line(n % 2 ? SCREEN_OP_LT : SCREEN_OP_GT_EQ, n % texts, n));
+    make_symbol_chain();
+    return family(name);
+}
+
+/* Every column against every other. */
+static int symbol_columns(void)
+{
+    uint32_t top = 0;
+    make_symbols(SCREEN_MAX_COLUMNS, SCREEN_MAX_COLUMNS);
+    for (unsigned n = 0; n < 1022; n++) {
+        uint32_t left = screen_put_column(&now.s, n % 64);
+        uint32_t next = screen_put_binary(&now.s, SCREEN_OP_LT, left, screen_put_column(&now.s, (n / 64 + n + 1) % 64));
+        top = n == 0 ? next : screen_put_and(&now.s, top, next);
+    }
+    make_symbol_chain();
+    return family("1,022 comparisons of 64 columns of symbols");
+}
+
+/* Lists over parts of a pool of symbols; where a pool entry is shared, a list of Ints lies there too. */
+static int symbol_lists(const char *name, unsigned texts, unsigned count, int shared)
+{
+    uint32_t top = 0;
+    make_symbols(texts, texts + 1);
+    for (unsigned i = 0; i < SCREEN_MAX_POOL_VALUES; i++)
+        screen_put_pool(&now.s, symbol_number(i));
+    for (unsigned n = 0; n < count; n++) {
+        uint32_t x = screen_put_column(&now.s, n % texts);
+        uint32_t part = screen_put(&now.s, SCREEN_KIND_LIST, 0, SCREEN_TYPE_TEXT, n * 977 % 4097, 4096, 0);
+        uint32_t next = screen_put_is_in(&now.s, x, part, 0);
+        top = n == 0 ? next : screen_put_or(&now.s, top, next);
+    }
+    if (shared) {
+        uint32_t x = screen_put_column(&now.s, texts);
+        uint32_t next = screen_put_is_in(&now.s, x, screen_put(&now.s, SCREEN_KIND_LIST, 0, SCREEN_TYPE_INT, 0, 1, 0), 0);
+        screen_put_or(&now.s, top, next);
+    }
+    make_symbol_chain();
+    return family(name);
+}
+
 int main(void)
 {
     int differ = ten_lines();
@@ -413,17 +554,40 @@ int main(void)
     differ |= lists("1,024 lists over parts of 8,192 values", 1024, 0);
     differ |= lists("1,024 lists that have every row's value", 1024, 1);
     differ |= nested_lists();
-    make_wide_chain(0);
+    make_wide_chain(odd_value);
     differ |= wide_lists("1,023 lists over 64 columns", 1023, 8192, COLUMN);
     differ |= wide_lists("the same, each value twice in the pool", 1023, 4096, COLUMN);
     differ |= wide_lists("the same, each value 91 times", 1023, 90, COLUMN);
-    differ |= between_lists("1,169 lists between one another, each value twice", 1169, 4096, COLUMN);
+    make_wide_pool(4096);
+    differ |= between_lists("1,169 lists between one another, each value twice", 1169, COLUMN);
     differ |= wide_lists("1,023 lists of literals, each value twice", 1023, 4096, LITERAL);
     differ |= wide_lists("682 lists of divisions over 64 columns", 682, 8192, QUOTIENT);
     differ |= wide_lists("the same, each value twice in the pool", 682, 4096, QUOTIENT);
-    differ |= between_lists("743 lists of divisions between one another, so too", 743, 4096, QUOTIENT);
-    make_wide_chain(1);
+    make_wide_pool(4096);
+    differ |= between_lists("743 lists of divisions between one another, so too", 743, QUOTIENT);
+    make_wide_chain(signed_value);
+    make_pool_from(4096, -4095);
+    differ |= between_lists("the same, with signs that change", 743, QUOTIENT);
+    make_wide_chain(skew_value);
+    make_skew_pool(4096);
+    differ |= between_lists("the same, one value 4,096 times, all others once", 743, QUOTIENT);
+    make_skew_pool(200);
+    differ |= between_lists("the same, one value 200 times", 743, QUOTIENT);
+    make_wide_chain(great_value);
+    make_great_pool();
+    differ |= between_lists("the same, with the greatest number", 743, QUOTIENT);
+    make_great_pool();
+    differ |= between_lists("1,169 lists between one another, so too", 1169, COLUMN);
+    make_wide_chain(any_value);
     differ |= division_trees();
+    differ |= ten_with_symbol();
+    differ |= symbol_lines("1,022 lines on a column of symbols", 1, 1022);
+    differ |= symbol_lines("1,022 lines on 64 columns of symbols", 64, 1022);
+    differ |= symbol_columns();
+    differ |= symbol_lists("one list of 4,096 symbols", 1, 1, 0);
+    differ |= symbol_lists("1,021 lists of symbols on one column", 1, 1021, 0);
+    differ |= symbol_lists("1,021 lists of symbols over 63 columns", 63, 1021, 0);
+    differ |= symbol_lists("8 such lists, and one of Ints in their place", 1, 8, 1);
     printf("goals met: %u of %u\n", met, goals);
     return differ;
 }

@@ -63,17 +63,19 @@
  *
  * Each call checks every used record first, whether the root reaches it or not, so its time grows with `used`: a
  * screen that is kept for many calls should hold no record that its root does not reach. Checking a short screen
- * takes some 50 ns, a full one 15 to 30 us, whatever its lists. The slowest screen known to rewrite, 64 lists and a
- * bound carried from column to column by 63 equalities, takes some 4 ms. A hedge list checks the screen once for all
+ * takes some 50 ns, a full one 15 to 30 us, whatever its lists. The slowest screen known to rewrite, 65 lists
+ * carried from column to column by 63 equalities, takes some 4 ms. A hedge list checks the screen once for all
  * rows and takes them 64 at a time: 1,024 rows of 10 lines take some 0.02 ms, of a full screen of comparisons 0.7
- * ms; the slowest known, 743 lists of divisions, takes some 17 ms. A screen with symbols takes longer: where it is
- * rewritten its symbols are put in order first, which of a full text pool takes some 2 ms; the slowest found, 65
- * negated lists along 63 equalities, takes 22 ms. In a hedge list its rows are taken one by one and its lists looked
- * through: 1,024 rows of 10 lines take 0.2 ms, of 1,022 lines 30 ms, and each list of 8,192 symbols 10 ms more.
+ * ms; the slowest known, 743 lists of divisions, takes some 19 ms. A screen with symbols takes longer. Where it is
+ * rewritten its symbols are put in order first, which of a full text pool takes some 2 ms, and its lists have no
+ * index: the slowest found, 65 lists of 100 symbols, every other one negated, along 63 equalities, takes some 90 ms.
+ * In a hedge list its symbols become numbers first: 1,024 rows of 10 lines take some 0.05 ms, of 1,022 lines 1.2 ms,
+ * the slowest found, 1,021 lists over 63 columns of symbols, some 40 ms. Where a list of symbols and one of numbers
+ * share a value of the pool, rows are taken one by one, and each list of 4,096 symbols takes 14 ms.
  *
  * PLATFORM
  *
- * x86-64 Linux, two's complement. The archive needs nothing but memcpy and memset, has some 208 KB of code, keeps no
+ * x86-64 Linux, two's complement. The archive needs nothing but memcpy and memset, has some 222 KB of code, keeps no
  * state and opens no file. MIT licence: LICENSE, and NOTICE for the Rust sources that it follows.
  *
  * "Document 01" in this file and in the sources is docs/01-scope.md, the paper that the library is made from.
@@ -639,7 +641,7 @@ enum screen_hedge_list_answer {
  * The call needs less than 128 KB of stack, and less than 384 KB if the screen asks its lists for 4,096 values or more,
  * those of all is_in together. With divisions of divisions its need follows their depth: the deepest screen, 2,046 of
  * them, needs less than 768 KB, and with such lists beside them less than 1,088 KB. Where a column or a record is of type
- * Text it needs what screen_test_row needs, less than 1.5 MB.
+ * Text it needs less than 1.5 MB, as screen_test_row does.
  */
 SCREEN_MUST_USE
 uint32_t screen_hedge_list(const uint8_t *table, size_t table_len, const uint8_t *records, size_t records_len,

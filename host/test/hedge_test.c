@@ -430,6 +430,137 @@ static void test_divisions(void)
     }
 }
 
+/* ----------------------------------------------------------------------------------------------------------- symbols */
+
+enum { TEXT = SCREEN_TYPE_TEXT, POOLED = 40 };
+
+/* A text of few different letters: many symbols in it are equal, or one is the front of another. */
+static void some_text(uint32_t length)
+{
+    static const char letters[] = {'A', 'A', 'A', 'B', '\0', '\xff'};
+    static char text[SCREEN_MAX_TEXT_BYTES];
+    for (uint32_t i = 0; i < length; i++)
+        text[i] = letters[below(6)];
+    screen_put_text(&sent, text, length);
+}
+
+static int64_t some_symbol(void)
+{
+    uint32_t length = below(6) == 0 ? 16 : below(4);
+    return screen_symbol(below((unsigned)sent.text_len - length + 1), length);
+}
+
+static uint32_t symbol_operand(void)
+{
+    switch (below(6)) {
+    case 0:
+        return null_of(TEXT);
+    case 1:
+    case 2:
+        return literal(TEXT, some_symbol());
+    default:
+        return column(4 + below((unsigned)sent.table_len - 4));
+    }
+}
+
+/* The pool begins with four values for lists of any type; lists of symbols lie behind them in its first half, those of Ints in
+   the second, or where `shared` is set in either. */
+static uint32_t symbol_line(int shared)
+{
+    uint32_t x = symbol_operand();
+    switch (below(7)) {
+    case 0:
+        return below(2) ? is_null(x) : is_not_null(x);
+    case 1: {
+        uint32_t low = symbol_operand(), high = symbol_operand();
+        return is_between(below(4), x, low, high);
+    }
+    case 2:
+    case 3: {
+        uint32_t start = shared ? below(POOLED / 2) : 4 + below(POOLED / 2 - 4);
+        return is_in(below(2), x, list(below(2), TEXT, start, below(POOLED / 2 - start)));
+    }
+    case 4: {
+        uint32_t start = shared ? below(POOLED) : POOLED / 2 + below(POOLED / 2);
+        uint32_t number = column(3);
+        return is_in(below(2), number, list(below(2), INT, start, below(POOLED - start)));
+    }
+    default: {
+        uint32_t y = symbol_operand();
+        return binary(below(8), x, y);
+    }
+    }
+}
+
+static uint32_t symbol_truth(unsigned depth, int shared)
+{
+    if (depth == 0)
+        return symbol_line(shared);
+    if (below(6) == 0)
+        return truth(1);
+    if (below(6) == 0)
+        return not_of(symbol_truth(depth - 1, shared));
+    uint32_t x = symbol_truth(depth - 1, shared), y = symbol_truth(depth - 1, shared);
+    return binary(15 + below(5), x, y);
+}
+
+/* The four columns of begin_mixed and behind them `texts` Text columns. */
+static void begin_texts(unsigned texts)
+{
+    uint8_t table[64] = {INT, DAY, TRUTH, INT};
+    memset(table + 4, TEXT, texts);
+    begin(table, 4 + texts);
+}
+
+static void some_rows(size_t n)
+{
+    zero_chain(n);
+    for (size_t r = 0; r < n; r++)
+        for (unsigned c = 0; c < sent.table_len; c++)
+            if (below(5) == 0)
+                null_cell(r, c);
+            else
+                cell(r, c, c >= 4 ? some_symbol() : c % 3 == 0 ? some_int() : (int64_t)below(c == 2 ? 2 : 5));
+}
+
+static void test_symbols(void)
+{
+    static const unsigned texts[] = {1, 2, 3, 8, 60};
+    memset(&seen, 0, sizeof seen);
+    for (unsigned k = 0; k < 200; k++) {
+        begin_texts(texts[k % 5]);
+        some_text(k % 7 == 0 ? 16 : 200);
+        for (unsigned i = 0; i < POOLED; i++)
+            pool_value(i < 4 ? i == 1 || i == 2 : i < POOLED / 2 || k % 3 == 0 ? some_symbol() : some_int());
+        symbol_truth(3 + k % 3, k % 3 == 0);
+        some_rows(k % 10 == 0 ? 1024 : k % 10 == 1 ? below(12) : below(300));
+        expect("a random screen with symbols", SCREEN_HEDGED);
+    }
+    report(seen.passed > 1000 && seen.is_false > 1000 && seen.unknown > 1000, "random screens with symbols", "a class is rare");
+}
+
+/* Long lists of symbols, parts of one pool; and the last row's symbol past the text. */
+static void test_symbol_lists(void)
+{
+    for (unsigned k = 0; k < 6; k++) {
+        uint32_t top = 0;
+        begin_texts(2);
+        some_text(k % 2 == 0 ? 40 : SCREEN_MAX_TEXT_BYTES);
+        for (unsigned i = 0; i < SCREEN_MAX_POOL_VALUES; i++)
+            pool_value(k % 3 == 2 && i >= 4096 ? some_int() : some_symbol());
+        for (unsigned n = 0; n < 12; n++) {
+            uint32_t x = column(4 + n % 2);
+            uint32_t next = is_in(below(2), x, list(below(2), TEXT, below(2000), below(2000)));
+            top = n == 0 ? next : binary(SCREEN_OP_XOR, top, next);
+        }
+        some_rows(k == 0 ? 1024 : 150);
+        expect("long lists of symbols", SCREEN_HEDGED);
+        cell(rows - 1, 5, screen_symbol((uint32_t)sent.text_len, 1));
+        nulls[rows - 1] = 0;
+        expect("a symbol past the text in the last row", SCREEN_REFUSED_ROW);
+    }
+}
+
 /* ----------------------------------------------------------------------------------------------------------- the stack */
 
 static void *deep(void *unused)
@@ -506,6 +637,20 @@ static void test_deep(void)
     zero_chain(128);
     on_stack(alone, &answer, 1088 << 10);
     report(answer == SCREEN_HEDGED, "2,044 divisions and the longest list", "not every row on a thread of 1,088 KB");
+
+    begin_texts(1);
+    some_text(200);
+    for (unsigned i = 0; i < SCREEN_MAX_POOL_VALUES; i++)
+        pool_value(i);
+    divisor = literal(INT, -1);
+    top = column(0);
+    for (unsigned n = 0; n < 2038; n++)
+        top = binary(SCREEN_OP_FLOOR_DIVIDE, top, divisor);
+    top = is_in(0, top, list(0, INT, 0, SCREEN_MAX_POOL_VALUES));
+    binary(SCREEN_OP_AND, top, is_not_null(column(4)));
+    zero_chain(128);
+    on_stack(alone, &answer, (size_t)3 << 19);
+    report(answer == SCREEN_HEDGED, "the same and a symbol", "not every row on a thread of 1.5 MB");
 }
 
 static void test_texts(void)
@@ -526,6 +671,8 @@ int main(void)
     test_wide();
     test_lists();
     test_divisions();
+    test_symbols();
+    test_symbol_lists();
     test_deep();
     test_texts();
     return finish();

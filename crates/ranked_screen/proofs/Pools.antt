@@ -52,7 +52,7 @@ module _ (l : List ℕ) (k x : ℕ) (room : 8 * k + 8 ≤ length l) where
       )
       (word-back (x / 4294967296) (omega arith))
 
-  value-new : x < 18446744073709551616 → valueAt (writeValue l k x) k ≡ x
+  pub value-new : x < 18446744073709551616 → valueAt (writeValue l k x) k ≡ x
   unfolding valueAt writeValue
   value-new h = rw (low-word, high-word h) (omega arith)
 
@@ -69,7 +69,7 @@ module _ (l : List ℕ) (k x : ℕ) (room : 8 * k + 8 ≤ length l) where
         byte-old (j + 3) (omega arith),
       )
 
-  value-old : (j : ℕ) → j < k → valueAt (writeValue l k x) j ≡ valueAt l j
+  pub value-old : (j : ℕ) → j < k → valueAt (writeValue l k x) j ≡ valueAt l j
   unfolding valueAt writeValue
   value-old j h = rw (word-old (8 * j) (omega arith), word-old (8 * j + 4) (omega arith))
 

@@ -23,7 +23,8 @@ fn put_word(s: &mut [u8], at: usize, x: u32)
     s[at + 3] = low_byte(x / 16777216);
 }
 
-fn put_value(pool: &mut [u8], k: usize, x: u64)
+/// The pool with x as its value number k.
+pub fn put_value(pool: &mut [u8], k: usize, x: u64)
     requires { ⌜ 8 * k + 8 ≤ length (now pool) ⌝ }
     ensures { λ _. ⌜ now (pool .exit) ≡ writeValue (now (pool .entry)) k x ⌝ }
 {

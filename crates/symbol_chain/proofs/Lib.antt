@@ -1,1 +1,2 @@
 pub mod RowClasses
+pub mod NumberedRows

@@ -1,64 +1,50 @@
-//! The class of each row of a chain, of a screen with symbols (02, 2.10 and 2.14). The screen was checked once, and its records were
-//! copied once: from row to row only the constants of its reduction change.
+//! The class of each row of a chain, of a screen with symbols (02, 2.10 and 2.14). The screen was checked once. A few rows, and rows of
+//! many columns under a short screen, are tested one by one (each), others by their numbers (ranked).
 ghost use mathlib.Core.Path.{_≡_};
-ghost use mathlib.Core.Bool.{true};
+ghost use mathlib.Core.Bool.{true, false};
 ghost use mathlib.Core.List.{[]};
 ghost use Prim.Native.Nat.{ℕ, _+_, _*_, _≤_, _<_};
-ghost use lib.ListN.{length, getD};
+ghost use lib.ListN.{length};
 ghost use Rattle.records.specs.Bytes.{all};
 ghost use Rattle.checking.specs.Checked.{CheckedIn};
 ghost use Rattle.checking.specs.Tree.{treeCount};
-ghost use Rattle.chain_rows.specs.Chain.{rowAt, isTested};
-ghost use Rattle.chain_rows.specs.Classes.{truthClass, classOf, Judged};
+ghost use Rattle.chain_rows.specs.Chain.{isTested};
+ghost use Rattle.chain_rows.specs.Classes.{Judged};
 ghost use Rattle.symbol_screens.specs.Rewriting.{lent};
-ghost use Rattle.symbol_rows.specs.RowTestWith.{testRowAnswerWith};
 ghost use Rattle.symbol_reduction.specs.Reduction.{Reduced};
 ghost use Rattle.symbol_chain.specs.ChainWith.{answerAtWith};
+use crate::each::judge_each;
+use crate::ranked::judge_ranked;
 use records::record::Node;
-use symbol_reduction::reduce::reduced_truth;
-use symbol_row_fault::row_fault_with;
-use three_valued::logic::Truth;
 
-// 0 false, 1 unknown, 2 passes.
-fn class_of(s: Truth) -> u8
-    ensures { λ r. ⌜ r ≡ truthClass s ⌝ }
-{
-    match s {
-        Truth::False => 0,
-        Truth::Unknown => 1,
-        Truth::True => 2,
+pub mod each;
+pub mod ranked;
+
+// Whether ranking the symbols of the screen, and of all columns, takes longer than to test the rows. Of few columns few are
+// symbols, as a rule.
+fn is_narrow(columns: usize, places: usize) -> bool {
+    if columns <= 16 {
+        return false;
     }
+    places / 12 < columns
 }
 
-// The class of one row; 3 refused.
-fn row_class(
-    table: &[u8],
-    records: &[u8],
-    pool: &[u8],
-    text: &[u8],
-    used: u32,
-    root: Node,
-    row: &[u8],
-    nulls: u64,
-    out: &mut [u8],
-) -> u8
-    requires { ⌜ CheckedIn (lent (now text)) (now table) (now records) (now pool) used (root .0) ⌝ }
-    requires { ⌜ treeCount (now records) (root .0) ≤ 4096 ⌝ }
-    requires { ⌜ 16 * used ≤ length (now out) ⌝ }
-    requires { ⌜ Reduced (now text) (now table) (now records) (now pool) [] 0 used 0 (now out) ⌝ }
-    ensures { λ r. ⌜ r ≡ classOf (testRowAnswerWith (now (text .entry)) (now (table .entry)) (now (records .entry))
-        (now (pool .entry)) used (root .0) (now (row .entry)) nulls) ⌝ }
-    ensures { λ _. ⌜ Reduced (now (text .entry)) (now (table .entry)) (now (records .entry)) (now (pool .entry)) [] 0 used 0
-        (now (out .exit)) ⌝ }
+// In a short chain.
+fn is_short(rows: usize, columns: usize, places: usize) -> bool
+    ensures { λ r. ⌜ (r ≡ false → 32 ≤ rows) ⌝ }
 {
-    if row_fault_with(table, text, row, nulls) != 0 {
-        return 3;
+    if rows < 32 {
+        return true;
     }
-    class_of(reduced_truth(table, records, pool, text, used, root, row, nulls, out))
+    if places < 64 {
+        return true;
+    }
+    is_narrow(columns, places)
 }
 
-// Of row r of the chain.
-fn chain_class(
+// A short chain. The tables of `judge_ranked` are large: with one caller it would be a part of it, and they would lie below the calls of
+// `judge_each` too, which are deep.
+fn judge_short(
     table: &[u8],
     records: &[u8],
     pool: &[u8],
@@ -66,35 +52,134 @@ fn chain_class(
     used: u32,
     root: Node,
     values: &[u8],
-    r: usize,
-    nulls: u64,
+    nulls: &[u64],
+    classes: &mut [u8],
     out: &mut [u8],
-) -> u8
+) -> bool
     requires { ⌜ CheckedIn (lent (now text)) (now table) (now records) (now pool) used (root .0) ⌝ }
     requires { ⌜ treeCount (now records) (root .0) ≤ 4096 ⌝ }
     requires { ⌜ 16 * used ≤ length (now out) ⌝ }
     requires { ⌜ Reduced (now text) (now table) (now records) (now pool) [] 0 used 0 (now out) ⌝ }
-    requires { ⌜ r < 1024 ⌝ }
-    requires { ⌜ 8 * length (now table) * r + 8 * length (now table) ≤ length (now values) ⌝ }
-    ensures { λ k. ⌜ k ≡ classOf (testRowAnswerWith (now (text .entry)) (now (table .entry)) (now (records .entry))
-        (now (pool .entry)) used (root .0) (rowAt (now (table .entry)) (now (values .entry)) r) nulls) ⌝ }
-    ensures { λ _. ⌜ Reduced (now (text .entry)) (now (table .entry)) (now (records .entry)) (now (pool .entry)) [] 0 used 0
-        (now (out .exit)) ⌝ }
+    requires { ⌜ length (now values) ≡ 8 * length (now table) * length (now nulls) ⌝ }
+    requires { ⌜ length (now nulls) ≤ 1024 ⌝ }
+    requires { ⌜ length (now nulls) ≤ length (now classes) ⌝ }
+    ensures { λ r. ⌜ r ≡ all (λ i. isTested (answerAtWith (now (text .entry)) (now (table .entry)) (now (records .entry))
+        (now (pool .entry)) used (root .0) (now (values .entry)) (now (nulls .entry)) i)) (length (now (nulls .entry))) ⌝ }
+    ensures { λ r. ⌜ (r ≡ true → Judged (answerAtWith (now (text .entry)) (now (table .entry)) (now (records .entry))
+        (now (pool .entry)) used (root .0) (now (values .entry)) (now (nulls .entry))) (now (classes .exit))
+        (length (now (nulls .entry)))) ⌝ }
 {
-    let wide = 8 * table.len();
-    let start = wide * r;
-    let end = start + wide;
-    row_class(
+    if is_short(nulls.len(), table.len(), used as usize + pool.len() / 8) {
+        return judge_each(
+            table,
+            records,
+            pool,
+            text,
+            used,
+            root,
+            values,
+            nulls,
+            classes,
+            out,
+        );
+    }
+    let k = judge_ranked(
         table,
         records,
         pool,
         text,
         used,
         root,
-        &values[start..end],
+        values,
         nulls,
+        classes,
         out,
-    )
+    );
+    if k == 2 {
+        return judge_each(
+            table,
+            records,
+            pool,
+            text,
+            used,
+            root,
+            values,
+            nulls,
+            classes,
+            out,
+        );
+    }
+    k == 1
+}
+
+// A long one.
+fn judge_long(
+    table: &[u8],
+    records: &[u8],
+    pool: &[u8],
+    text: &[u8],
+    used: u32,
+    root: Node,
+    values: &[u8],
+    nulls: &[u64],
+    classes: &mut [u8],
+    out: &mut [u8],
+) -> bool
+    requires { ⌜ CheckedIn (lent (now text)) (now table) (now records) (now pool) used (root .0) ⌝ }
+    requires { ⌜ treeCount (now records) (root .0) ≤ 4096 ⌝ }
+    requires { ⌜ 16 * used ≤ length (now out) ⌝ }
+    requires { ⌜ Reduced (now text) (now table) (now records) (now pool) [] 0 used 0 (now out) ⌝ }
+    requires { ⌜ length (now values) ≡ 8 * length (now table) * length (now nulls) ⌝ }
+    requires { ⌜ length (now nulls) ≤ 1024 ⌝ }
+    requires { ⌜ length (now nulls) ≤ length (now classes) ⌝ }
+    requires { ⌜ 64 ≤ length (now nulls) ⌝ }
+    ensures { λ r. ⌜ r ≡ all (λ i. isTested (answerAtWith (now (text .entry)) (now (table .entry)) (now (records .entry))
+        (now (pool .entry)) used (root .0) (now (values .entry)) (now (nulls .entry)) i)) (length (now (nulls .entry))) ⌝ }
+    ensures { λ r. ⌜ (r ≡ true → Judged (answerAtWith (now (text .entry)) (now (table .entry)) (now (records .entry))
+        (now (pool .entry)) used (root .0) (now (values .entry)) (now (nulls .entry))) (now (classes .exit))
+        (length (now (nulls .entry)))) ⌝ }
+{
+    if is_narrow(table.len(), used as usize + pool.len() / 8) {
+        return judge_each(
+            table,
+            records,
+            pool,
+            text,
+            used,
+            root,
+            values,
+            nulls,
+            classes,
+            out,
+        );
+    }
+    let k = judge_ranked(
+        table,
+        records,
+        pool,
+        text,
+        used,
+        root,
+        values,
+        nulls,
+        classes,
+        out,
+    );
+    if k == 2 {
+        return judge_each(
+            table,
+            records,
+            pool,
+            text,
+            used,
+            root,
+            values,
+            nulls,
+            classes,
+            out,
+        );
+    }
+    k == 1
 }
 
 /// Every row's class, 0 false, 1 unknown, 2 passes; false if a row is refused (13). `out` holds the records.
@@ -123,9 +208,8 @@ pub fn judge_symbols(
         (now (pool .entry)) used (root .0) (now (values .entry)) (now (nulls .entry))) (now (classes .exit))
         (length (now (nulls .entry)))) ⌝ }
 {
-    let mut r: usize = 0;
-    while r < nulls.len() {
-        let k = chain_class(
+    if nulls.len() < 64 {
+        return judge_short(
             table,
             records,
             pool,
@@ -133,15 +217,21 @@ pub fn judge_symbols(
             used,
             root,
             values,
-            r,
-            nulls[r],
+            nulls,
+            classes,
             out,
         );
-        if k == 3 {
-            return false;
-        }
-        classes[r] = k;
-        r += 1;
     }
-    true
+    judge_long(
+        table,
+        records,
+        pool,
+        text,
+        used,
+        root,
+        values,
+        nulls,
+        classes,
+        out,
+    )
 }

@@ -1,5 +1,5 @@
 //! The hedge list of a chain under a screen that may have symbols (02, 2.10 and 2.14): one without symbols as ever (crate
-//! `hedge`), one with symbols row by row (crate `symbol_chain`). Refusals in the same order.
+//! `hedge`), one with symbols by crate `symbol_chain`. Refusals in the same order.
 ghost use mathlib.Core.Path.{_≡_};
 ghost use Prim.Native.Nat.{_*_, _≤_, min};
 ghost use lib.ListN.{length};

@@ -340,7 +340,7 @@ module _ (rs out : List ℕ) (used : ℕ) (copied : Copied rs out (16 * used)) (
         copied (16 * n + o + 3) (omega (arith, h, k)),
       )
 
-  fields-copied : fieldsAt out (node n) ≡ fieldsAt rs (node n)
+  pub fields-copied : fieldsAt out (node n) ≡ fieldsAt rs (node n)
   unfolding fieldsAt
   fields-copied =
       rw (

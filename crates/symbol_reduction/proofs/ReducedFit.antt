@@ -63,20 +63,20 @@ served code h e = go (leb 8 code) (leb code 12) refl refl (rw (code-back code (o
     go true true ea eb q = absurd (true≢false (sym q))
 
 module _ (f : Fields) where
-  binary-served : f .kind ≡ 4 → f .code < 20 → servedOk (decode f) ≡ true → Served (f .code)
+  pub binary-served : f .kind ≡ 4 → f .code < 20 → servedOk (decode f) ≡ true → Served (f .code)
   unfolding decode servedOk
   binary-served k h e = served (f .code) h (rw k at e)
 
-  is-in : (t rs : List ℕ) → f .kind ≡ 10 → typesOk t rs (decode f) ≡ true →
+  pub is-in : (t rs : List ℕ) → f .kind ≡ 10 → typesOk t rs (decode f) ≡ true →
       memberFits (typeAt t rs (node (f .a))) (recordAt rs (node (f .b))) ≡ true
   unfolding decode typesOk
   is-in t rs k e = rw k at e
 
-  is-in-below : (lentText : ℕ) (t p : List ℕ) (n : ℕ) → f .kind ≡ 10 → reachOkIn lentText t p (decode f) (node n) ≡ true → f .b < n
+  pub is-in-below : (lentText : ℕ) (t p : List ℕ) (n : ℕ) → f .kind ≡ 10 → reachOkIn lentText t p (decode f) (node n) ≡ true → f .b < n
   unfolding decode reachOkIn
   is-in-below lentText t p n k e = two n (f .a) (f .b) (rw k at e) .1
 
-  member-list : (x : ℕ) → (1 ≤ f .kind) × (f .kind ≤ 10) → memberFits x (decode f) ≡ true → f .kind ≡ 9
+  pub member-list : (x : ℕ) → (1 ≤ f .kind) × (f .kind ≤ 10) → memberFits x (decode f) ≡ true → f .kind ≡ 9
   unfolding memberFits
   member-list x l =
       decode-ind (λ r. memberFits x r ≡ true → f .kind ≡ 9) f l (λ k e. no e) (λ k e. no e) (λ k e. no e)

@@ -77,7 +77,7 @@ module _ (text t row : List ℕ) (nulls : ℕ) where
   pub row-long : rowFaultWith text t row nulls ≡ 0 → length row ≡ 8 * length t
   row-long h = fault-free h .0
 
-  column-pooled : rowFaultWith text t row nulls ≡ 0 → (c : ℕ) → c < length t → getD t c 0 ≡ 4 → nullMarked nulls c ≡ false →
+  pub column-pooled : rowFaultWith text t row nulls ≡ 0 → (c : ℕ) → c < length t → getD t c 0 ≡ 4 → nullMarked nulls c ≡ false →
       inPool (length text) (valueAt row c) ≡ true
   unfolding columnsOkWith columnOkWith
   column-pooled h c l e m =

@@ -83,7 +83,7 @@ returns c =
     .before .before .before .symbol-ranks in
     let rank-records = c .before .before .before .before .before .before .before .rank-records in
     let rank-pool = c .before .before .rank-pool in
-    ranks-of _ _ _ _ (st .pre .0) _ _ _ _ (search needs) (fill-values .ensures) (symbol-ranks .ensures)
+    ranks-of _ _ _ _ (st .pre .0) _ _ _ _ (search needs) (fill-values .ensures) (symbol-ranks .ensures .0)
     (rank-records .ensures) (rank-pool .ensures)
 
 pub rank-screen-spec : {M : Type 1} → statement M

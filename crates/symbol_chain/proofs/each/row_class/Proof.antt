@@ -1,16 +1,16 @@
 use borrow.Author.Needs.{needs}
-use Rattle.symbol_chain.proofs.row_class.Statement.{statement}
-use Rattle.symbol_chain.proofs.row_class.Tie as tie
-use Rattle.symbol_chain.proofs.row_class.Reads as reads
-use Rattle.symbol_chain.proofs.row_class.Lts as lts
-use Rattle.symbol_chain.proofs.class_of.Reads as class-of-reads
+use Rattle.symbol_chain.proofs.each.row_class.Statement.{statement}
+use Rattle.symbol_chain.proofs.each.row_class.Tie as tie
+use Rattle.symbol_chain.proofs.each.row_class.Reads as reads
+use Rattle.symbol_chain.proofs.each.row_class.Lts as lts
+use Rattle.symbol_chain.proofs.each.class_of.Reads as class-of-reads
 use Rattle.symbol_reduction.proofs.reduce.reduced_truth.Reads as reduced-truth-reads
 use Rattle.symbol_row_fault.proofs.row_fault_with.Reads as row-fault-with-reads
 use mathlib.Core.Path.{sym, _∙_}
 use Rattle.symbol_row_test.proofs.AnswersWith.{columns-small, text-small}
 use Rattle.symbol_chain.proofs.RowClasses.{class-refused, class-tested, reduced-again}
 
--- src/lib.rt:54:8
+-- src/each.rt:54:8
 row-fault-with-requires : tie.Need-row-fault-with-requires
 row-fault-with-requires c κs =
     let st = c .before .before .before .before .before .before in (
@@ -20,7 +20,7 @@ row-fault-with-requires c κs =
           (st .args .records .now) (st .args .pool .now) (st .args .used) (st .args .root .0) (st .pre .0),
     )
 
--- src/lib.rt:55:9
+-- src/each.rt:55:9
 returns : tie.Need-returns
 returns c =
     let st = c .before .before .before .before .before .before .before .before in
@@ -32,7 +32,7 @@ returns c =
       st .pre .1 .1 .1,
     )
 
--- src/lib.rt:57:14
+-- src/each.rt:57:14
 reduced-truth-requires : tie.Need-reduced-truth-requires
 reduced-truth-requires c κs =
     let st = c .before .before .before .before .before .before .before .before .before in
@@ -49,15 +49,15 @@ reduced-truth-requires c κs =
       ),
     )
 
--- src/lib.rt:57:5
+-- src/each.rt:57:5
 class-of-requires : tie.Need-class-of-requires
 class-of-requires c κs = search needs
 
--- src/lib.rt:34:1
+-- src/each.rt:34:1
 same-length : tie.Need-same-length
 same-length c = search needs
 
--- src/lib.rt:34:1
+-- src/each.rt:34:1
 returns-2 : tie.Need-returns-2
 returns-2 c =
     let st = c .before .before .before .before .before .before .before .before .before .before .before .before

@@ -1,0 +1,2 @@
+pub mod RankedChain
+pub mod Chunks

@@ -1,0 +1,2 @@
+pub mod RowRanks
+pub mod Between
