@@ -66,7 +66,7 @@ typed : (b : Bool) (ty : ℕ) → cond b (knownTypeIn 0 ty) (eqb ty 0) ≡ true 
 typed true ty h = not-text ty h
 typed false ty h = let k = eqb-true ty 0 h in ne-eqb ty 4 (λ e. omega (arith, k, e))
 
-accepted-free : (t rs p : List ℕ) (used root : ℕ) → checkAnswer t rs p used root ≡ Accepted → NoText t rs used
+pub accepted-free : (t rs p : List ℕ) (used root : ℕ) → checkAnswer t rs p used root ≡ Accepted → NoText t rs used
 unfolding typesKnownIn shapeOkIn knownOkIn
 accepted-free t rs p used root e =
     let ok = checked t rs p used root e in

@@ -1,5 +1,5 @@
 -- A row of a screen without Text is tested as ever, whatever text pool is lent.
-use mathlib.Core.Path.{_≡_, refl, sym, _∙_, ap, fun-ext}
+use mathlib.Core.Path.{_≡_, refl, sym, _∙_, ap, subst, fun-ext}
 use mathlib.Core.Bool.{Bool, true, false, cond, _&&_, _||_}
 use mathlib.Core.List.{List}
 use mathlib.Core.Logic.{_⊎_, ⊎-elim}
@@ -15,6 +15,10 @@ use Rattle.records.specs.Record.{node, fieldsAt, recordAt}
 use Rattle.records.specs.Shape.{inPool, inTypeIn}
 use Rattle.checking.specs.Tree.{treeCount}
 use Rattle.checking.specs.Check.{checkAnswer, checkAnswerIn}
+use Rattle.checking.specs.declared.check.CheckAnswer.{CheckAnswer}
+use Rattle.checking.specs.declared.check.CheckAnswer.the-variants as check
+use Rattle.checking.proofs.Answers.{refused-numbered}
+use Rattle.check_lent.proofs.Lent.{accepted-free}
 use Rattle.row_test.specs.declared.test.RowAnswer.{RowAnswer}
 use Rattle.row_test.specs.declared.test.RowAnswer.the-variants.{Refused, Tested}
 use Rattle.row_test.specs.RowTest.{columnOk, columnsOk, marksOk, rowFault, checkedAnswer, answerIf, testRowAnswer}
@@ -26,6 +30,7 @@ use Rattle.symbol_screens.specs.Rows.{rowKeysWith, truthWith}
 use Rattle.symbol_screens.proofs.NumbersChecked.{NoText, value-type, check-same}
 use Rattle.symbol_screens.proofs.Numbers.{NoSymbol}
 use Rattle.symbol_screens.proofs.NumbersTested.{numbers-truth, numbers-row}
+use Rattle.symbol_row_test.specs.Stands.{Accepts}
 use Rattle.symbol_rows.specs.RowTestWith.{columnOkWith, columnsOkWith, rowFaultWith, checkedAnswerWith, testRowAnswerWith}
 
 all-same : (f g : ℕ → Bool) (n : ℕ) → ((k : ℕ) → k < n → f k ≡ g k) → all f n ≡ all g n
@@ -83,3 +88,21 @@ module _ (text t rs p row : List ℕ) (nulls used root : ℕ) (short : length te
       sym (λ i. answerIf (check-same (lent text) t rs p used (le-leb (lent text) 8193 (omega (arith, short))) free root i)
       (cond (ltb 4096 (treeCount rs root)) (Refused 8)
       (cond (eqb (fault-same i) 0) (Tested (truth-same i)) (Refused (fault-same i)))))
+
+-- ---- An answer that only an accepted screen gives.
+accepted : (t rs p row : List ℕ) (used root nulls : ℕ) → Accepts (testRowAnswer t rs p used root row nulls) →
+    checkAnswer t rs p used root ≡ check.Accepted
+unfolding testRowAnswer
+accepted t rs p row used root nulls h = go (checkAnswer t rs p used root) refl h
+  where
+    go : (a : CheckAnswer) → checkAnswer t rs p used root ≡ a →
+        Accepts (answerIf a (checkedAnswer t rs p used root row nulls)) → a ≡ check.Accepted
+    go (check.Refused k) e l = absurd (omega (arith, l, refused-numbered t rs p used root k e .1))
+    go check.Accepted e l = refl
+
+pub stands-alike : (text t rs p row : List ℕ) (nulls used root : ℕ) (a : RowAnswer) →
+    a ≡ testRowAnswer t rs p used root row nulls → (length text ≤ 8192) × (Accepts a ⊎ NoText t rs used) →
+    a ≡ testRowAnswerWith text t rs p used root row nulls
+stands-alike text t rs p row nulls used root a e h =
+    e ∙ same-answer text t rs p row nulls used root (h .0)
+    (⊎-elim (λ l. accepted-free t rs p used root (accepted t rs p row used root nulls (subst Accepts e l))) (λ f. f) (h .1))

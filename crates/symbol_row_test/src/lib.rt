@@ -1,12 +1,16 @@
 //! Testing a row of a screen that may have symbols (02, 2.10). A screen without symbols is tested as ever (crate `row_test`), one
 //! with symbols by the row's reduction (crate `symbol_reduction`).
 ghost use mathlib.Core.Path.{_≡_};
+ghost use mathlib.Core.Bool.{true};
+ghost use mathlib.Core.Logic.{_⊎_};
 ghost use Prim.Native.Nat.{_*_, _≤_, min};
 ghost use lib.ListN.{length};
 ghost use Rattle.checking.specs.Checked.{CheckedIn};
 ghost use Rattle.checking.specs.Tree.{treeCount};
 ghost use Rattle.symbol_screens.specs.Rewriting.{lent};
+ghost use Rattle.symbol_screens.proofs.NumbersChecked.{NoText};
 ghost use Rattle.symbol_rows.specs.RowTestWith.{checkedAnswerWith, testRowAnswerWith};
+ghost use Rattle.symbol_row_test.specs.Stands.{Accepts};
 use check_lent::check_lent_counted;
 use checking::check::CheckAnswer;
 use records::record::Node;
@@ -47,6 +51,54 @@ fn test_checked_with(
     RowAnswer::Tested(reduced_truth(table, records, pool, text, used, root, row, nulls, out))
 }
 
+// The copy of the records that the reduction works in. Its frame stays below that of a function with two callers, so that a
+// screen without symbols does not pay for it.
+fn test_accepted(
+    table: &[u8],
+    records: &[u8],
+    pool: &[u8],
+    text: &[u8],
+    used: u32,
+    root: Node,
+    row: &[u8],
+    nulls: u64,
+    tree: u16,
+) -> RowAnswer
+    requires { ⌜ CheckedIn (lent (now text)) (now table) (now records) (now pool) used (root .0) ⌝ }
+    requires { ⌜ tree ≡ min (treeCount (now records) (root .0)) 4097 ⌝ }
+    ensures { λ r. ⌜ r ≡ checkedAnswerWith (now (text .entry)) (now (table .entry)) (now (records .entry))
+        (now (pool .entry)) used (root .0) (now (row .entry)) nulls ⌝ }
+{
+    if used <= 64 {
+        let mut short = [0u8; 1024];
+        return test_checked_with(
+            table,
+            records,
+            pool,
+            text,
+            used,
+            root,
+            row,
+            nulls,
+            tree,
+            &mut short,
+        );
+    }
+    let mut out = [0u8; 65536];
+    test_checked_with(
+        table,
+        records,
+        pool,
+        text,
+        used,
+        root,
+        row,
+        nulls,
+        tree,
+        &mut out,
+    )
+}
+
 fn test_within(
     table: &[u8],
     records: &[u8],
@@ -58,18 +110,16 @@ fn test_within(
     nulls: u64,
     types: &mut [u8],
     trees: &mut [u16],
-    out: &mut [u8],
 ) -> RowAnswer
     requires { ⌜ (used ≤ 4096 → used ≤ length (now types)) ⌝ }
     requires { ⌜ (used ≤ 4096 → used ≤ length (now trees)) ⌝ }
-    requires { ⌜ (used ≤ 4096 → 16 * used ≤ length (now out)) ⌝ }
     ensures { λ r. ⌜ r ≡ testRowAnswerWith (now (text .entry)) (now (table .entry)) (now (records .entry))
         (now (pool .entry)) used root (now (row .entry)) nulls ⌝ }
 {
     let answer = check_lent_counted(table, records, pool, text.len(), used, root, types, trees);
     match answer {
         CheckAnswer::Refused(number) => RowAnswer::Refused(number),
-        CheckAnswer::Accepted => test_checked_with(
+        CheckAnswer::Accepted => test_accepted(
             table,
             records,
             pool,
@@ -79,7 +129,6 @@ fn test_within(
             row,
             nulls,
             trees[root as usize],
-            out,
         ),
     }
 }
@@ -101,7 +150,6 @@ fn test_symbols(
     if used <= 64 {
         let mut few = [0u8; 64];
         let mut small = [0u16; 64];
-        let mut short = [0u8; 1024];
         return test_within(
             table,
             records,
@@ -113,12 +161,10 @@ fn test_symbols(
             nulls,
             &mut few,
             &mut small,
-            &mut short,
         );
     }
     let mut types = [0u8; 4096];
     let mut trees = [0u16; 4096];
-    let mut out = [0u8; 65536];
     test_within(
         table,
         records,
@@ -130,8 +176,26 @@ fn test_symbols(
         nulls,
         &mut types,
         &mut trees,
-        &mut out,
     )
+}
+
+// Whether the answer of a screen taken as one without symbols is that beside a text pool of so many bytes: it has none if it
+// was accepted, and was not refused by checking, 1 to 7.
+fn stands(a: RowAnswer, text: usize, table: &[u8], records: &[u8], used: u64) -> bool
+    ensures { λ r. ⌜ (r ≡ true → (text ≤ 8192) × (Accepts a ⊎ NoText (now (table .entry)) (now (records .entry)) used)) ⌝ }
+{
+    if 8192 < text {
+        return false;
+    }
+    match a {
+        RowAnswer::Tested(_) => true,
+        RowAnswer::Refused(k) => {
+            if 7 < k {
+                return true;
+            }
+            !has_symbols(table, records, used)
+        }
+    }
 }
 
 /// What testing a row answers, whatever text pool is lent.
@@ -148,11 +212,9 @@ pub fn test_row_with(
     ensures { λ r. ⌜ r ≡ testRowAnswerWith (now (text .entry)) (now (table .entry)) (now (records .entry))
         (now (pool .entry)) used root (now (row .entry)) nulls ⌝ }
 {
-    if 8192 < text.len() {
-        return test_symbols(table, records, pool, text, used, root, row, nulls);
+    let a = test_row(table, records, pool, used, root, row, nulls);
+    if stands(a, text.len(), table, records, used) {
+        return a;
     }
-    if has_symbols(table, records, used) {
-        return test_symbols(table, records, pool, text, used, root, row, nulls);
-    }
-    test_row(table, records, pool, used, root, row, nulls)
+    test_symbols(table, records, pool, text, used, root, row, nulls)
 }
