@@ -594,10 +594,34 @@ static void *alone(void *answer)
     return NULL;
 }
 
+/* A call alone on a thread of so many KB. */
+static void alone_on(unsigned kilobytes, const char *name)
+{
+    uint32_t answer = 0;
+    on_stack(alone, &answer, (size_t)kilobytes << 10);
+    report(answer == SCREEN_HEDGED, name, "not every row on a thread of the header's stack");
+}
+
+/* c0, divided by -1 so many times. */
+static uint32_t divided(unsigned times)
+{
+    uint32_t divisor = literal(INT, -1), top = column(0);
+    for (unsigned n = 0; n < times; n++)
+        top = binary(SCREEN_OP_FLOOR_DIVIDE, top, divisor);
+    return top;
+}
+
+/* A value in the longest list. */
+static uint32_t in_longest(uint32_t value)
+{
+    for (unsigned i = 0; i < SCREEN_MAX_POOL_VALUES; i++)
+        pool_value(i);
+    return is_in(0, value, list(0, INT, 0, SCREEN_MAX_POOL_VALUES));
+}
+
 /* The deepest screens, on threads with as much stack as the header asks for. */
 static void test_deep(void)
 {
-    uint32_t answer = 0;
     on_stack(deep, NULL, (size_t)3 << 19);
 
     begin_mixed();
@@ -605,52 +629,29 @@ static void test_deep(void)
     for (unsigned n = 0; n < 4094; n++)
         top = not_of(top);
     zero_chain(64);
-    on_stack(alone, &answer, 128 << 10);
-    report(answer == SCREEN_HEDGED, "4,094 Nots", "not every row on a thread of 128 KB");
+    alone_on(128, "4,094 Nots");
 
     begin_mixed();
-    uint32_t divisor = literal(INT, -1);
-    top = column(0);
-    for (unsigned n = 0; n < 2046; n++)
-        top = binary(SCREEN_OP_FLOOR_DIVIDE, top, divisor);
-    is_not_null(top);
+    is_not_null(divided(2046));
     zero_chain(64);
-    on_stack(alone, &answer, 768 << 10);
-    report(answer == SCREEN_HEDGED, "2,046 divisions", "not every row on a thread of 768 KB");
+    alone_on(768, "2,046 divisions");
 
     begin_mixed();
-    for (unsigned i = 0; i < SCREEN_MAX_POOL_VALUES; i++)
-        pool_value(i);
-    is_in(0, column(0), list(0, INT, 0, SCREEN_MAX_POOL_VALUES));
+    in_longest(column(0));
     zero_chain(128);
-    on_stack(alone, &answer, 384 << 10);
-    report(answer == SCREEN_HEDGED, "the longest list", "not every row on a thread of 384 KB");
+    alone_on(384, "the longest list");
 
     begin_mixed();
-    for (unsigned i = 0; i < SCREEN_MAX_POOL_VALUES; i++)
-        pool_value(i);
-    divisor = literal(INT, -1);
-    top = column(0);
-    for (unsigned n = 0; n < 2044; n++)
-        top = binary(SCREEN_OP_FLOOR_DIVIDE, top, divisor);
-    is_in(0, top, list(0, INT, 0, SCREEN_MAX_POOL_VALUES));
+    in_longest(divided(2044));
     zero_chain(128);
-    on_stack(alone, &answer, 1088 << 10);
-    report(answer == SCREEN_HEDGED, "2,044 divisions and the longest list", "not every row on a thread of 1,088 KB");
+    alone_on(1088, "2,044 divisions and the longest list");
 
     begin_texts(1);
     some_text(200);
-    for (unsigned i = 0; i < SCREEN_MAX_POOL_VALUES; i++)
-        pool_value(i);
-    divisor = literal(INT, -1);
-    top = column(0);
-    for (unsigned n = 0; n < 2038; n++)
-        top = binary(SCREEN_OP_FLOOR_DIVIDE, top, divisor);
-    top = is_in(0, top, list(0, INT, 0, SCREEN_MAX_POOL_VALUES));
+    top = in_longest(divided(2038));
     binary(SCREEN_OP_AND, top, is_not_null(column(4)));
     zero_chain(128);
-    on_stack(alone, &answer, (size_t)3 << 19);
-    report(answer == SCREEN_HEDGED, "the same and a symbol", "not every row on a thread of 1.5 MB");
+    alone_on(1536, "the same and a symbol");
 }
 
 static void test_texts(void)

@@ -187,16 +187,18 @@ static void test_lists(void)
     uint32_t x = column(0);
     uint32_t low = symbol_at(4, 3);
     is_between(SCREEN_CLOSED_LEFT, x, low, symbol_at(0, 3));
-    row_of(4, 3, 0, 0);
-    truth("at the low end", 0, T);
-    row_of(0, 3, 0, 0);
-    truth("at the high end", 0, F);
-    row_of(0, 2, 0, 0);
-    truth("between", 0, T);
-    row_of(24, 1, 0, 0);
-    truth("a row's symbol past the text", 0, SCREEN_REFUSED_ROW);
-    row_of(0, 17, 0, 0);
-    truth("a row's symbol of 17 bytes", 0, SCREEN_REFUSED_ROW);
+    static const struct {
+        const char *name;
+        uint32_t start, length, want;
+    } rows[] = {{"at the low end", 4, 3, T},
+                {"at the high end", 0, 3, F},
+                {"between", 0, 2, T},
+                {"a row's symbol past the text", 24, 1, SCREEN_REFUSED_ROW},
+                {"a row's symbol of 17 bytes", 0, 17, SCREEN_REFUSED_ROW}};
+    for (unsigned i = 0; i < sizeof rows / sizeof *rows; i++) {
+        row_of(rows[i].start, rows[i].length, 0, 0);
+        truth(rows[i].name, 0, rows[i].want);
+    }
     row_of(0, 0, 3, 1);
     truth("a null that is not zero", 2, SCREEN_REFUSED_ROW);
 }
