@@ -1,8 +1,8 @@
 /*
  * Searches for the screen that takes screen_rewrite longest, among those that the code's loops make slow: lists, negated
  * lists and excluded values, on one column or on many, carried along equalities that a pass follows whole or by one step;
- * lists on one column; lists that checking looks through. Prints the slowest of each family and the slowest of all, in
- * processor time.
+ * lists on one column; lists that checking looks through; the same of symbols. Prints the slowest of each family and the
+ * slowest of all, in processor time.
  * Every screen here is accepted, or refused only when the room for its comparisons is reckoned, which is the last thing.
  */
 #define _POSIX_C_SOURCE 199309L
@@ -17,10 +17,25 @@ static struct made now;
 static uint32_t top;
 static unsigned lines;
 
-static void begin(unsigned columns, unsigned type)
+static unsigned type = SCREEN_TYPE_INT;
+
+/* Columns of the type, and for symbols a full text pool. */
+static void begin(unsigned columns)
 {
+    uint32_t drawn = 1;
     make(&now, columns, type);
+    for (unsigned i = 0; i < sizeof now.text && type == SCREEN_TYPE_TEXT; i++) {
+        drawn = drawn * 1664525u + 1013904223u;
+        now.text[i] = (uint8_t)(drawn >> 24);
+    }
+    now.s.text_len = type == SCREEN_TYPE_TEXT ? sizeof now.text : 0;
     lines = 0;
+}
+
+/* Different numbers from -5 up to 8,171 are different symbols of 16 bytes. */
+static int64_t typed(int64_t number)
+{
+    return type == SCREEN_TYPE_TEXT ? screen_symbol((uint32_t)(number + 5), 16) : number;
 }
 
 static void join(uint32_t next)
@@ -66,15 +81,15 @@ static uint32_t list_line(unsigned number, int pattern, unsigned n, unsigned lis
     int64_t values[LIST];
     uint32_t x = screen_put_column(&now.s, number);
     for (unsigned i = 0; i < LIST; i++)
-        values[i] = value_of(pattern, n, lists, i);
-    return screen_put_is_in(&now.s, x, screen_put_list(&now.s, SCREEN_TYPE_INT, values, LIST, 0), 0);
+        values[i] = typed(value_of(pattern, n, lists, i));
+    return screen_put_is_in(&now.s, x, screen_put_list(&now.s, type, values, LIST, 0), 0);
 }
 
 /* A list over values that the pool has already. */
 static uint32_t shared_line(unsigned number, uint32_t start, uint32_t count)
 {
     uint32_t x = screen_put_column(&now.s, number);
-    return screen_put_is_in(&now.s, x, screen_put(&now.s, SCREEN_KIND_LIST, 0, SCREEN_TYPE_INT, start, count, 0), 0);
+    return screen_put_is_in(&now.s, x, screen_put(&now.s, SCREEN_KIND_LIST, 0, type, start, count, 0), 0);
 }
 
 static void fill_pool(uint32_t values, int64_t modulus)
@@ -82,8 +97,8 @@ static void fill_pool(uint32_t values, int64_t modulus)
     int64_t list[LIST];
     for (uint32_t from = 0; from < values; from += LIST) {
         for (unsigned i = 0; i < LIST; i++)
-            list[i] = (int64_t)(from + i) % modulus;
-        screen_put_list(&now.s, SCREEN_TYPE_INT, list, LIST, 0);
+            list[i] = typed((int64_t)(from + i) % modulus);
+        screen_put_list(&now.s, type, list, LIST, 0);
     }
 }
 
@@ -136,10 +151,11 @@ static void time_screen(const char *name)
 
 static void close_family(const char *family)
 {
-    printf("%-24s %10.3f ms   %s\n", family, slowest_here / 1e6, here_name);
+    const char *of = type == SCREEN_TYPE_TEXT ? "symbols: " : "";
+    printf("%-32s %10.3f ms   %s%s\n", family, slowest_here / 1e6, of, here_name);
     if (slowest_here > slowest_of_all) {
         slowest_of_all = slowest_here;
-        snprintf(slowest_name, sizeof slowest_name, "%s: %s", family, here_name);
+        snprintf(slowest_name, sizeof slowest_name, "%s%s: %s", of, family, here_name);
     }
     slowest_here = 0;
 }
@@ -159,7 +175,7 @@ static void search_lists(int negated, const char *family)
                 for (int far = 0; far < 2; far++) {
                     unsigned equalities = chains[c] - 1;
                     unsigned lists = LINES - equalities > 81 ? 81 : LINES - equalities;
-                    begin(chains[c], SCREEN_TYPE_INT);
+                    begin(chains[c]);
                     for (unsigned n = 0; n < lists; n++) {
                         uint32_t listed = list_line(spread ? n % chains[c] : 0, pattern, n, lists);
                         join(negated == 2 ? (n % 2 ? not_of(listed) : listed) : negated ? not_of(listed) : listed);
@@ -179,9 +195,9 @@ static void search_exclusions(void)
         for (int spread = 0; spread < 2; spread++)
             for (int far = 0; far < 2; far++) {
                 unsigned count = LINES - (columns - 1);
-                begin(columns, SCREEN_TYPE_INT);
+                begin(columns);
                 for (unsigned n = 0; n < count; n++)
-                    join(line(&now, SCREEN_OP_NOT_EQ, spread ? n % columns : 0, n));
+                    join(line(&now, SCREEN_OP_NOT_EQ, spread ? n % columns : 0, typed(n)));
                 join_chain(columns, far);
                 snprintf(name, sizeof name, "%u, %s, %u equalities%s", count, spread ? "on all columns" : "on one column",
                          columns - 1, far ? " from the far end" : "");
@@ -203,14 +219,14 @@ static void search_shared(void)
                 for (int far = 0; far < 2; far++) {
                     unsigned lists = counts[c];
                     unsigned columns = LINES - lists > 64 ? 64 : LINES - lists;
-                    begin(columns, SCREEN_TYPE_INT);
+                    begin(columns);
                     fill_pool(8000, pattern == 3 ? 150 : 8000);
                     for (unsigned n = 0; n < lists; n++) {
                         uint32_t start = pattern == 0 ? 0 : pattern == 1 ? n : 61 * n;
                         uint32_t listed = shared_line(pattern == 2 ? 0 : n % columns, start, LIST);
                         join(negated == 2 ? (n % 2 ? not_of(listed) : listed) : negated ? not_of(listed) : listed);
                     }
-                    join(line(&now, SCREEN_OP_GT, 0, -5));
+                    join(line(&now, SCREEN_OP_GT, 0, typed(-5)));
                     join_chain(columns, far);
                     snprintf(name, sizeof name, "%u lists, parts %d, %s, a bound, %u equalities%s", lists, pattern,
                              negated == 2 ? "in turn" : negated ? "negated" : "allowed", columns - 1,
@@ -221,7 +237,7 @@ static void search_shared(void)
     for (unsigned short_ones = 4; short_ones <= 60; short_ones += 8)
         for (int negated = 0; negated < 3; negated++)
             for (int far = 0; far < 2; far++) {
-                begin(64, SCREEN_TYPE_INT);
+                begin(64);
                 fill_pool(200, 200);
                 join(shared_line(0, 0, LIST));
                 for (unsigned n = 0; n < short_ones; n++) {
@@ -236,9 +252,9 @@ static void search_shared(void)
     close_family("short lists");
     for (unsigned different = 1; different <= 64; different *= 2)
         for (int far = 0; far < 2; far++) {
-            begin(64, SCREEN_TYPE_INT);
+            begin(64);
             for (unsigned n = 0; n < 64; n++)
-                join(line(&now, SCREEN_OP_NOT_EQ, n, n % different));
+                join(line(&now, SCREEN_OP_NOT_EQ, n, typed(n % different)));
             join_chain(64, far);
             snprintf(name, sizeof name, "64 of %u values, one a column%s", different, far ? ", far end" : "");
             time_screen(name);
@@ -251,7 +267,7 @@ static void search_one_column(void)
     char name[120];
     for (int pattern = 0; pattern < PATTERNS; pattern++)
         for (int negated = 0; negated < 3; negated++) {
-            begin(1, SCREEN_TYPE_INT);
+            begin(1);
             for (unsigned n = 0; n < 81; n++) {
                 uint32_t listed = list_line(0, pattern, n, 81);
                 join(negated == 2 ? (n % 2 ? not_of(listed) : listed) : negated ? not_of(listed) : listed);
@@ -267,27 +283,35 @@ static void search_checking(void)
 {
     static const char *const names[4] = {"", "Int", "Day", "Truth"};
     char name[120];
-    for (unsigned type = SCREEN_TYPE_INT; type <= SCREEN_TYPE_TRUTH; type++) {
-        begin(1, SCREEN_TYPE_TRUTH);
+    for (unsigned listed = SCREEN_TYPE_INT; listed <= SCREEN_TYPE_TRUTH; listed++) {
+        begin(1);
+        now.table[0] = SCREEN_TYPE_TRUTH;
         now.s.pool_len = sizeof now.pool;
         for (unsigned n = 0; n + 1 < 4096; n++)
-            screen_put(&now.s, SCREEN_KIND_LIST, 0, type, 0, 8192, 0);
+            screen_put(&now.s, SCREEN_KIND_LIST, 0, listed, 0, 8192, 0);
         screen_put_column(&now.s, 0);
-        snprintf(name, sizeof name, "4095 lists of %s over the whole pool", names[type]);
+        snprintf(name, sizeof name, "4095 lists of %s over the whole pool", names[listed]);
         time_screen(name);
     }
     close_family("checking");
 }
 
-int main(void)
+static void search(void)
 {
-    search_checking();
     search_one_column();
     search_exclusions();
     search_lists(0, "lists, equalities");
     search_lists(1, "negated, equalities");
     search_lists(2, "in turn, equalities");
     search_shared();
+}
+
+int main(void)
+{
+    search_checking();
+    search();
+    type = SCREEN_TYPE_TEXT;
+    search();
     printf("slowest screen found: %.3f ms (%s); ceiling %d ms %s, desk's %d ms %s\n", slowest_of_all / 1e6, slowest_name,
            CEILING_MS, slowest_of_all <= CEILING_MS * 1e6 ? "met" : "missed", DESK_MS,
            slowest_of_all <= DESK_MS * 1e6 ? "met" : "missed");

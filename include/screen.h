@@ -426,8 +426,8 @@ enum screen_rewrite_answer {
  *
  * A conjunct with a FloorDivide or Modulus in it is none of these: it stays as it is and says nothing of its columns.
  *
- * The call needs less than 96 KB of stack, less than 400 KB where many lists are carried by many equalities, and less than
- * 576 KB where a column or a record is of type Text.
+ * The call needs less than 96 KB of stack, less than 400 KB where many lists are carried by many equalities, less than 576 KB
+ * where a column or a record is of type Text, and less than 896 KB where both.
  */
 SCREEN_MUST_USE
 uint32_t screen_rewrite(const uint8_t *table, size_t table_len, uint8_t *records, size_t records_len,

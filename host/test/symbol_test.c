@@ -378,9 +378,36 @@ static void *hedge_there(void *answer)
     return NULL;
 }
 
+/* 63 lists of 100 symbols along 63 equalities of Text columns, and two lines on the first. */
+static void carry_lists(void)
+{
+    static uint8_t table[SCREEN_MAX_COLUMNS];
+    memset(table, TEXT, sizeof table);
+    begin(table, sizeof table);
+    memcpy(sent.text, "abcdefghijklmnopqrstuvwx", 24);
+    sent.text_len = 24;
+    for (unsigned i = 0; i < 100; i++)
+        pool_value(screen_symbol(i % 8, 1 + i / 8));
+    uint32_t top = says(GE, 0, 1, 1);
+    top = both(top, says(GE, 0, 0, 2));
+    for (uint32_t c = 0; c + 1 < SCREEN_MAX_COLUMNS; c++) {
+        uint32_t left = column(c);
+        top = both(top, binary(EQ, left, column(c + 1)));
+    }
+    for (uint32_t n = 0; n < 63; n++) {
+        uint32_t value = column(n);
+        top = both(top, is_in(0, value, list(0, TEXT, 0, 100)));
+    }
+    sent.records_len = 16 * SCREEN_MAX_RECORDS; /* room for the records added */
+}
+
 /* A full screen and a full pool with a symbol or a Text column, and the deepest one. */
 static void test_stack(void)
 {
+    carry_lists();
+    on_thread("rewriting with lists of symbols carried far", rewrite_there, 896 << 10, SCREEN_REWRITTEN);
+    sent.records_len = 16 * sent.used;
+
     begin_symbols();
     for (unsigned i = 0; i < SCREEN_MAX_POOL_VALUES; i++)
         pool_value(screen_symbol(i % 8, 1));

@@ -62,8 +62,8 @@ fn at_most_64(left: usize) -> usize
     64
 }
 
-// The rows in blocks of 64.
-fn judge_blocks(
+/// The rows in blocks of 64; `truths` has the depths of the divisions, and `order` is the pool's or one word.
+pub fn judge_blocks(
     records: &[u8],
     pool: &[u8],
     order: &[u64],
@@ -121,23 +121,24 @@ fn judge_plain(
     nulls: &[u64],
     root: Node,
     marks: &[u8],
-    truths: &mut [u64],
-    unknowns: &mut [u64],
-    keys: &mut [u64],
     classes: &mut [u8],
 )
     requires { ⌜ Evaluates (now records) (now pool) columns (now values) (now nulls) (root .0) ⌝ }
     requires { ⌜ getD (now marks) (root .0) 0 ≡ 1 ⌝ }
     requires { ⌜ Closed (now records) (now marks) 0 (root .0) ⌝ }
     requires { ⌜ 4096 ≤ length (now marks) ⌝ }
-    requires { ⌜ 4096 ≤ length (now truths) ⌝ }
-    requires { ⌜ 4096 ≤ length (now unknowns) ⌝ }
-    requires { ⌜ 192 ≤ length (now keys) ⌝ }
     requires { ⌜ length (now nulls) ≤ length (now classes) ⌝ }
+    requires { ⌜ 16 * root .0 + 15 < length (now records) ⌝ }
     ensures { λ _. ⌜ Classed (now (records .entry)) (now (pool .entry)) columns (now (values .entry)) (now (nulls .entry))
         (root .0) (now (classes .exit)) (length (now (nulls .entry))) ⌝ }
 {
     let none = [0u64; 1];
+    let mut truths = [0u64; 4096];
+    let mut unknowns = [0u64; 4096];
+    // Three inputs of 64 rows; the rest is for divisions in divisions, which note_depths says is enough for every tree.
+    let mut keys = [0u64; 832];
+    // A division has no truth: its word in the table has its depth.
+    note_depths(records, root, &mut truths);
     judge_blocks(
         records,
         pool,
@@ -147,9 +148,9 @@ fn judge_plain(
         nulls,
         root,
         marks,
-        truths,
-        unknowns,
-        keys,
+        &mut truths,
+        &mut unknowns,
+        &mut keys,
         classes,
     );
 }
@@ -163,25 +164,23 @@ fn judge_ordered(
     nulls: &[u64],
     root: Node,
     marks: &[u8],
-    truths: &mut [u64],
-    unknowns: &mut [u64],
-    keys: &mut [u64],
     classes: &mut [u8],
 )
     requires { ⌜ Evaluates (now records) (now pool) columns (now values) (now nulls) (root .0) ⌝ }
     requires { ⌜ getD (now marks) (root .0) 0 ≡ 1 ⌝ }
     requires { ⌜ Closed (now records) (now marks) 0 (root .0) ⌝ }
     requires { ⌜ 4096 ≤ length (now marks) ⌝ }
-    requires { ⌜ 4096 ≤ length (now truths) ⌝ }
-    requires { ⌜ 4096 ≤ length (now unknowns) ⌝ }
-    requires { ⌜ 192 ≤ length (now keys) ⌝ }
     requires { ⌜ length (now nulls) ≤ length (now classes) ⌝ }
+    requires { ⌜ 16 * root .0 + 15 < length (now records) ⌝ }
     ensures { λ _. ⌜ Classed (now (records .entry)) (now (pool .entry)) columns (now (values .entry)) (now (nulls .entry))
         (root .0) (now (classes .exit)) (length (now (nulls .entry))) ⌝ }
 {
     let mut order = [0u64; 19464];
-    // The scratch, and 17 words for each column.
-    let mut wide = [0u64; 1920];
+    let mut truths = [0u64; 4096];
+    let mut unknowns = [0u64; 4096];
+    // As above, and 17 words for each column.
+    let mut keys = [0u64; 1920];
+    note_depths(records, root, &mut truths);
     make_order(pool, &mut order);
     judge_blocks(
         records,
@@ -192,9 +191,9 @@ fn judge_ordered(
         nulls,
         root,
         marks,
-        truths,
-        unknowns,
-        &mut wide,
+        &mut truths,
+        &mut unknowns,
+        &mut keys,
         classes,
     );
 }
@@ -217,8 +216,8 @@ fn asked_count(records: &[u8], n: u32, mark: u8) -> u32
     list.b
 }
 
-// All of them together.
-fn asked_values(records: &[u8], root: Node, marks: &[u8]) -> u64
+/// How many values the marked records ask their lists for.
+pub fn asked_values(records: &[u8], root: Node, marks: &[u8]) -> u64
     requires { ⌜ 16 * root .0 + 15 < length (now records) ⌝ }
     requires { ⌜ root .0 < 4096 ⌝ }
     requires { ⌜ 4096 ≤ length (now marks) ⌝ }
@@ -242,51 +241,21 @@ fn judge_short(
     nulls: &[u64],
     root: Node,
     marks: &[u8],
-    truths: &mut [u64],
-    unknowns: &mut [u64],
-    keys: &mut [u64],
     classes: &mut [u8],
 )
     requires { ⌜ Evaluates (now records) (now pool) columns (now values) (now nulls) (root .0) ⌝ }
     requires { ⌜ getD (now marks) (root .0) 0 ≡ 1 ⌝ }
     requires { ⌜ Closed (now records) (now marks) 0 (root .0) ⌝ }
     requires { ⌜ 4096 ≤ length (now marks) ⌝ }
-    requires { ⌜ 4096 ≤ length (now truths) ⌝ }
-    requires { ⌜ 4096 ≤ length (now unknowns) ⌝ }
-    requires { ⌜ 192 ≤ length (now keys) ⌝ }
     requires { ⌜ length (now nulls) ≤ length (now classes) ⌝ }
     requires { ⌜ 16 * root .0 + 15 < length (now records) ⌝ }
     ensures { λ _. ⌜ Classed (now (records .entry)) (now (pool .entry)) columns (now (values .entry)) (now (nulls .entry))
         (root .0) (now (classes .exit)) (length (now (nulls .entry))) ⌝ }
 {
     if asked_values(records, root, marks) < 65536 {
-        judge_plain(
-            records,
-            pool,
-            columns,
-            values,
-            nulls,
-            root,
-            marks,
-            truths,
-            unknowns,
-            keys,
-            classes,
-        );
+        judge_plain(records, pool, columns, values, nulls, root, marks, classes);
     } else {
-        judge_ordered(
-            records,
-            pool,
-            columns,
-            values,
-            nulls,
-            root,
-            marks,
-            truths,
-            unknowns,
-            keys,
-            classes,
-        );
+        judge_ordered(records, pool, columns, values, nulls, root, marks, classes);
     }
 }
 
@@ -298,112 +267,26 @@ fn judge_long(
     nulls: &[u64],
     root: Node,
     marks: &[u8],
-    truths: &mut [u64],
-    unknowns: &mut [u64],
-    keys: &mut [u64],
     classes: &mut [u8],
 )
     requires { ⌜ Evaluates (now records) (now pool) columns (now values) (now nulls) (root .0) ⌝ }
     requires { ⌜ getD (now marks) (root .0) 0 ≡ 1 ⌝ }
     requires { ⌜ Closed (now records) (now marks) 0 (root .0) ⌝ }
     requires { ⌜ 4096 ≤ length (now marks) ⌝ }
-    requires { ⌜ 4096 ≤ length (now truths) ⌝ }
-    requires { ⌜ 4096 ≤ length (now unknowns) ⌝ }
-    requires { ⌜ 192 ≤ length (now keys) ⌝ }
     requires { ⌜ length (now nulls) ≤ length (now classes) ⌝ }
     requires { ⌜ 16 * root .0 + 15 < length (now records) ⌝ }
     ensures { λ _. ⌜ Classed (now (records .entry)) (now (pool .entry)) columns (now (values .entry)) (now (nulls .entry))
         (root .0) (now (classes .exit)) (length (now (nulls .entry))) ⌝ }
 {
     if asked_values(records, root, marks) < 4096 {
-        judge_plain(
-            records,
-            pool,
-            columns,
-            values,
-            nulls,
-            root,
-            marks,
-            truths,
-            unknowns,
-            keys,
-            classes,
-        );
+        judge_plain(records, pool, columns, values, nulls, root, marks, classes);
     } else {
-        judge_ordered(
-            records,
-            pool,
-            columns,
-            values,
-            nulls,
-            root,
-            marks,
-            truths,
-            unknowns,
-            keys,
-            classes,
-        );
+        judge_ordered(records, pool, columns, values, nulls, root, marks, classes);
     }
 }
 
-fn judge_marked(
-    records: &[u8],
-    pool: &[u8],
-    columns: usize,
-    values: &[u8],
-    nulls: &[u64],
-    root: Node,
-    marks: &[u8],
-    truths: &mut [u64],
-    unknowns: &mut [u64],
-    keys: &mut [u64],
-    classes: &mut [u8],
-)
-    requires { ⌜ Evaluates (now records) (now pool) columns (now values) (now nulls) (root .0) ⌝ }
-    requires { ⌜ getD (now marks) (root .0) 0 ≡ 1 ⌝ }
-    requires { ⌜ Closed (now records) (now marks) 0 (root .0) ⌝ }
-    requires { ⌜ 4096 ≤ length (now marks) ⌝ }
-    requires { ⌜ 4096 ≤ length (now truths) ⌝ }
-    requires { ⌜ 4096 ≤ length (now unknowns) ⌝ }
-    requires { ⌜ 192 ≤ length (now keys) ⌝ }
-    requires { ⌜ length (now nulls) ≤ length (now classes) ⌝ }
-    requires { ⌜ 16 * root .0 + 15 < length (now records) ⌝ }
-    ensures { λ _. ⌜ Classed (now (records .entry)) (now (pool .entry)) columns (now (values .entry)) (now (nulls .entry))
-        (root .0) (now (classes .exit)) (length (now (nulls .entry))) ⌝ }
-{
-    if nulls.len() < 128 {
-        judge_short(
-            records,
-            pool,
-            columns,
-            values,
-            nulls,
-            root,
-            marks,
-            truths,
-            unknowns,
-            keys,
-            classes,
-        );
-    } else {
-        judge_long(
-            records,
-            pool,
-            columns,
-            values,
-            nulls,
-            root,
-            marks,
-            truths,
-            unknowns,
-            keys,
-            classes,
-        );
-    }
-}
-
-/// The class of each row that the records and the pool evaluate.
-pub fn judge_fitting(
+// The class of each row that the records and the pool evaluate.
+fn judge_fitting(
     records: &[u8],
     pool: &[u8],
     columns: usize,
@@ -419,26 +302,12 @@ pub fn judge_fitting(
         (root .0) (now (classes .exit)) (length (now (nulls .entry))) ⌝ }
 {
     let mut marks = [0u8; 4096];
-    let mut truths = [0u64; 4096];
-    let mut unknowns = [0u64; 4096];
-    // Three inputs of 64 rows; the rest is for divisions in divisions, which note_depths says is enough for every tree.
-    let mut keys = [0u64; 832];
     mark_reached(records, root, &mut marks);
-    // A division has no truth: its word in the table has its depth.
-    note_depths(records, root, &mut truths);
-    judge_marked(
-        records,
-        pool,
-        columns,
-        values,
-        nulls,
-        root,
-        &marks,
-        &mut truths,
-        &mut unknowns,
-        &mut keys,
-        classes,
-    );
+    if nulls.len() < 128 {
+        judge_short(records, pool, columns, values, nulls, root, &marks, classes);
+    } else {
+        judge_long(records, pool, columns, values, nulls, root, &marks, classes);
+    }
 }
 
 // Every row's class; false if a row is refused.

@@ -1,4 +1,2 @@
 // The merging of the conjuncts of an accepted screen: which tables and which index it is lent.
-pub mod far;
-pub mod indexed;
 pub mod sized;

@@ -19,8 +19,8 @@ ghost use Rattle.rewrite.specs.Told.{ToldConjunct};
 ghost use Rattle.stages.specs.Columns.{ColumnsBelow};
 ghost use Rattle.stages.specs.Rows.{stride};
 ghost use Rattle.merge_conjuncts.specs.Merged.{MergedNodes};
-use crate::far::travels_far;
-use crate::indexed::merge_indexed;
+use far_lists::far::travels_far;
+use filter_constraint::indexed::merge_indexed;
 use filter_constraint::merging::merge_filter_constraints;
 use merge::answer::Rewriting;
 use records::record::Node;
@@ -56,6 +56,7 @@ fn merge_few_read(
     ensures { λ r. ⌜ MergedNodes (now (t .entry)) (now (rs .entry)) (now (p .entry)) used (now (trees .entry))
         (now (nodes .entry)) n (now (reasons .entry)) r (now (rs .exit)) (now (reasons .exit)) ⌝ }
 {
+    let empty = [0u8; 0];
     if travels_far(rs, nodes, n, starts, counts) {
         return merge_indexed(
             t,
@@ -75,11 +76,13 @@ fn merge_few_read(
             lefts,
             rights,
             equals,
+            values,
+            &empty,
+            &empty,
             reasons,
         );
     }
     let none = [0u64; 1];
-    let empty = [0u8; 0];
     merge_filter_constraints(
         t,
         rs,
@@ -204,6 +207,7 @@ fn merge_many_read(
     ensures { λ r. ⌜ MergedNodes (now (t .entry)) (now (rs .entry)) (now (p .entry)) used (now (trees .entry))
         (now (nodes .entry)) n (now (reasons .entry)) r (now (rs .exit)) (now (reasons .exit)) ⌝ }
 {
+    let empty = [0u8; 0];
     if travels_far(rs, nodes, n, starts, counts) {
         return merge_indexed(
             t,
@@ -223,11 +227,13 @@ fn merge_many_read(
             lefts,
             rights,
             equals,
+            values,
+            &empty,
+            &empty,
             reasons,
         );
     }
     let none = [0u64; 1];
-    let empty = [0u8; 0];
     merge_filter_constraints(
         t,
         rs,

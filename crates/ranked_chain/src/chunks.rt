@@ -1,12 +1,19 @@
 // The classes of the rows, some rows at a time: their numbers into a lent block, which is then judged as a chain of numbers.
+// The records are marked and the pool is put in order once for all rows.
 ghost use mathlib.Core.Path.{_≡_};
 ghost use Prim.Native.Nat.{ℕ, _+_, _*_, _≤_, _<_};
-ghost use lib.ListN.{length};
+ghost use lib.ListN.{length, getD};
 ghost use Rattle.three_valued.specs.declared.logic.Truth.{Truth};
+ghost use Rattle.masks.specs.Block.{Closed};
+ghost use Rattle.pool_order.specs.Order.{Ordered};
 ghost use Rattle.row_ranks.specs.RowRanks.{Entries, FitRows};
 ghost use Rattle.ranked_chain.specs.Chunks.{EveryRow, RowTruths, ClassesOf};
-use chain_rows::judge::judge_fitting;
+use chain_rows::judge::asked_values;
+use chain_rows::judge::judge_blocks;
+use masks::reach::mark_reached;
+use pool_order::making::make_order;
 use records::record::Node;
+use row_blocks::depths::note_depths;
 use row_ranks::block::block_ranks;
 
 // How many rows of so many columns a block of 16,384 values holds; 1,024 are a chain.
@@ -41,11 +48,16 @@ fn judge_chunk(
     m: usize,
     records: &[u8],
     pool: &[u8],
+    order: &[u64],
     root: Node,
     values: &[u8],
     nulls: &[u64],
     base: usize,
     count: usize,
+    marks: &[u8],
+    truths: &mut [u64],
+    unknowns: &mut [u64],
+    keys: &mut [u64],
     block: &mut [u8],
     classes: &mut [u8],
 )
@@ -56,6 +68,9 @@ fn judge_chunk(
     requires { ⌜ length (now values) ≡ 8 * length (now table) * length (now nulls) ⌝ }
     requires { ⌜ 8 * length (now table) * count ≤ length (now block) ⌝ }
     requires { ⌜ EveryRow (length (now table)) (now records) (now pool) (root .0) ⌝ }
+    requires { ⌜ (getD (now marks) (root .0) 0 ≡ 1) × Closed (now records) (now marks) 0 (root .0) × (4096 ≤ length (now marks)) ⌝ }
+    requires { ⌜ (4096 ≤ length (now truths)) × (4096 ≤ length (now unknowns)) × (192 ≤ length (now keys)) ⌝ }
+    requires { ⌜ Ordered (now pool) (now order) ⌝ }
     ensures { λ _. ⌜ ((f : ℕ → Truth) → RowTruths (now (text .entry)) (now (table .entry)) (now (symbols .entry)) m
         (now (values .entry)) (now (nulls .entry)) (now (records .entry)) (now (pool .entry)) (root .0) f
         → ClassesOf f (now (classes .entry)) base → ClassesOf f (now (classes .exit)) (base + count)) ⌝ }
@@ -64,15 +79,187 @@ fn judge_chunk(
     block_ranks(text, table, symbols, m, values, nulls, base, count, block);
     let end = base + count;
     let size = 8 * columns * count;
-    judge_fitting(
+    judge_blocks(
         records,
         pool,
+        order,
         columns,
         &block[..size],
         &nulls[base..end],
         root,
+        marks,
+        truths,
+        unknowns,
+        keys,
         &mut classes[base..end],
     );
+}
+
+// All rows, over what was made once.
+fn judge_parts(
+    table: &[u8],
+    text: &[u8],
+    symbols: &[u64],
+    m: usize,
+    records: &[u8],
+    pool: &[u8],
+    order: &[u64],
+    root: Node,
+    values: &[u8],
+    nulls: &[u64],
+    marks: &[u8],
+    truths: &mut [u64],
+    unknowns: &mut [u64],
+    keys: &mut [u64],
+    classes: &mut [u8],
+)
+    requires { ⌜ Entries (now text) (now symbols) m ⌝ }
+    requires { ⌜ (m ≤ length (now symbols)) × (m ≤ 12288) × (length (now table) ≤ 64) ⌝ }
+    requires { ⌜ FitRows (now text) (now table) (now values) (now nulls) 0 (length (now nulls)) ⌝ }
+    requires { ⌜ (length (now nulls) ≤ 1024) × (length (now nulls) ≤ length (now classes)) ⌝ }
+    requires { ⌜ length (now values) ≡ 8 * length (now table) * length (now nulls) ⌝ }
+    requires { ⌜ EveryRow (length (now table)) (now records) (now pool) (root .0) ⌝ }
+    requires { ⌜ (getD (now marks) (root .0) 0 ≡ 1) × Closed (now records) (now marks) 0 (root .0) × (4096 ≤ length (now marks)) ⌝ }
+    requires { ⌜ (4096 ≤ length (now truths)) × (4096 ≤ length (now unknowns)) × (192 ≤ length (now keys)) ⌝ }
+    requires { ⌜ Ordered (now pool) (now order) ⌝ }
+    ensures { λ _. ⌜ ((f : ℕ → Truth) → RowTruths (now (text .entry)) (now (table .entry)) (now (symbols .entry)) m
+        (now (values .entry)) (now (nulls .entry)) (now (records .entry)) (now (pool .entry)) (root .0) f
+        → ClassesOf f (now (classes .exit)) (length (now (nulls .entry)))) ⌝ }
+{
+    let mut block = [0u8; 131072];
+    let most = chunk_rows(table.len());
+    let mut base: usize = 0;
+    while base < nulls.len() {
+        let count = at_most(nulls.len() - base, most);
+        judge_chunk(
+            table,
+            text,
+            symbols,
+            m,
+            records,
+            pool,
+            order,
+            root,
+            values,
+            nulls,
+            base,
+            count,
+            marks,
+            truths,
+            unknowns,
+            keys,
+            &mut block,
+            classes,
+        );
+        base += count;
+    }
+}
+
+// Without an order of the pool; the tables are those of judge_plain in crate chain_rows.
+fn judge_searching(
+    table: &[u8],
+    text: &[u8],
+    symbols: &[u64],
+    m: usize,
+    records: &[u8],
+    pool: &[u8],
+    root: Node,
+    values: &[u8],
+    nulls: &[u64],
+    marks: &[u8],
+    classes: &mut [u8],
+)
+    requires { ⌜ Entries (now text) (now symbols) m ⌝ }
+    requires { ⌜ (m ≤ length (now symbols)) × (m ≤ 12288) × (length (now table) ≤ 64) ⌝ }
+    requires { ⌜ FitRows (now text) (now table) (now values) (now nulls) 0 (length (now nulls)) ⌝ }
+    requires { ⌜ (length (now nulls) ≤ 1024) × (length (now nulls) ≤ length (now classes)) ⌝ }
+    requires { ⌜ length (now values) ≡ 8 * length (now table) * length (now nulls) ⌝ }
+    requires { ⌜ EveryRow (length (now table)) (now records) (now pool) (root .0) ⌝ }
+    requires { ⌜ (getD (now marks) (root .0) 0 ≡ 1) × Closed (now records) (now marks) 0 (root .0) × (4096 ≤ length (now marks)) ⌝ }
+    ensures { λ _. ⌜ ((f : ℕ → Truth) → RowTruths (now (text .entry)) (now (table .entry)) (now (symbols .entry)) m
+        (now (values .entry)) (now (nulls .entry)) (now (records .entry)) (now (pool .entry)) (root .0) f
+        → ClassesOf f (now (classes .exit)) (length (now (nulls .entry)))) ⌝ }
+{
+    let none = [0u64; 1];
+    let mut truths = [0u64; 4096];
+    let mut unknowns = [0u64; 4096];
+    let mut keys = [0u64; 832];
+    note_depths(records, root, &mut truths);
+    judge_parts(
+        table,
+        text,
+        symbols,
+        m,
+        records,
+        pool,
+        &none,
+        root,
+        values,
+        nulls,
+        marks,
+        &mut truths,
+        &mut unknowns,
+        &mut keys,
+        classes,
+    );
+}
+
+// With one; so too, of judge_ordered.
+fn judge_sorted(
+    table: &[u8],
+    text: &[u8],
+    symbols: &[u64],
+    m: usize,
+    records: &[u8],
+    pool: &[u8],
+    root: Node,
+    values: &[u8],
+    nulls: &[u64],
+    marks: &[u8],
+    classes: &mut [u8],
+)
+    requires { ⌜ Entries (now text) (now symbols) m ⌝ }
+    requires { ⌜ (m ≤ length (now symbols)) × (m ≤ 12288) × (length (now table) ≤ 64) ⌝ }
+    requires { ⌜ FitRows (now text) (now table) (now values) (now nulls) 0 (length (now nulls)) ⌝ }
+    requires { ⌜ (length (now nulls) ≤ 1024) × (length (now nulls) ≤ length (now classes)) ⌝ }
+    requires { ⌜ length (now values) ≡ 8 * length (now table) * length (now nulls) ⌝ }
+    requires { ⌜ EveryRow (length (now table)) (now records) (now pool) (root .0) ⌝ }
+    requires { ⌜ (getD (now marks) (root .0) 0 ≡ 1) × Closed (now records) (now marks) 0 (root .0) × (4096 ≤ length (now marks)) ⌝ }
+    ensures { λ _. ⌜ ((f : ℕ → Truth) → RowTruths (now (text .entry)) (now (table .entry)) (now (symbols .entry)) m
+        (now (values .entry)) (now (nulls .entry)) (now (records .entry)) (now (pool .entry)) (root .0) f
+        → ClassesOf f (now (classes .exit)) (length (now (nulls .entry)))) ⌝ }
+{
+    let mut order = [0u64; 19464];
+    let mut truths = [0u64; 4096];
+    let mut unknowns = [0u64; 4096];
+    let mut keys = [0u64; 1920];
+    note_depths(records, root, &mut truths);
+    make_order(pool, &mut order);
+    judge_parts(
+        table,
+        text,
+        symbols,
+        m,
+        records,
+        pool,
+        &order,
+        root,
+        values,
+        nulls,
+        marks,
+        &mut truths,
+        &mut unknowns,
+        &mut keys,
+        classes,
+    );
+}
+
+// Whether the pool is put in order, of so many values asked for, as crate chain_rows has it.
+fn order_pays(asked: u64, rows: usize) -> bool {
+    if rows < 128 {
+        return 65536 <= asked;
+    }
+    4096 <= asked
 }
 
 /// The class of every row.
@@ -98,12 +285,10 @@ pub fn judge_chunks(
         (now (values .entry)) (now (nulls .entry)) (now (records .entry)) (now (pool .entry)) (root .0) f
         → ClassesOf f (now (classes .exit)) (length (now (nulls .entry)))) ⌝ }
 {
-    let mut block = [0u8; 131072];
-    let most = chunk_rows(table.len());
-    let mut base: usize = 0;
-    while base < nulls.len() {
-        let count = at_most(nulls.len() - base, most);
-        judge_chunk(
+    let mut marks = [0u8; 4096];
+    mark_reached(records, root, &mut marks);
+    if order_pays(asked_values(records, root, &marks), nulls.len()) {
+        judge_sorted(
             table,
             text,
             symbols,
@@ -113,11 +298,22 @@ pub fn judge_chunks(
             root,
             values,
             nulls,
-            base,
-            count,
-            &mut block,
+            &marks,
             classes,
         );
-        base += count;
+    } else {
+        judge_searching(
+            table,
+            text,
+            symbols,
+            m,
+            records,
+            pool,
+            root,
+            values,
+            nulls,
+            &marks,
+            classes,
+        );
     }
 }

@@ -122,33 +122,33 @@ module _ (rs p : List ℕ) (used : ℕ) (ranks pool : List ℕ) (held : RankedPo
   rank-at : (i : ℕ) → i < placeCount p used → getD ranks i 0 ≡ standing ranks (placeCount p used) i
   rank-at i h = ap (λ j. getD ranks j 0) (sym (within-below (placeCount p used) i h))
 
-  -- behind the values stand their ranks
-  rank-value : (k : ℕ) → k < length p / 8 → valueAt pool (length p / 8 + k) ≡ standing ranks (placeCount p used) (used + k)
+  -- the ranks stand in front
+  rank-value : (k : ℕ) → k < length p / 8 → valueAt pool k ≡ standing ranks (placeCount p used) (used + k)
   unfolding poolValue
   rank-value k h =
-      held .values (length p / 8 + k) (omega arith)
-      ∙ (let q : length p / 8 + k - length p / 8 ≡ k = omega arith in
-      rw (le-ltb (length p / 8 + k) (length p / 8) (omega arith), q) (rank-at (used + k) (omega arith)))
+      held .values k (omega arith) ∙ rw (lt-ltb k (length p / 8) h) (rank-at (used + k) (omega arith))
 
-  ranks-from : (start c : ℕ) → start + c ≤ length p / 8
-      → valuesFrom pool (length p / 8 + start) c ≡ map by (placedFrom used start c)
+  ranks-from : (start c : ℕ) → start + c ≤ length p / 8 → valuesFrom pool start c ≡ map by (placedFrom used start c)
   unfolding valuesFrom
   ranks-from start zero h = refl
-  ranks-from start (suc c) h =
-      let q : suc (length p / 8 + start) ≡ length p / 8 + suc start = omega arith in
-      λ i. rank-value start (omega arith) i
-      ∷ (ap (λ m. valuesFrom pool m c) q ∙ ranks-from (suc start) c (omega arith)) i
+  ranks-from start (suc c) h = λ i. rank-value start (omega arith) i ∷ ranks-from (suc start) c (omega arith) i
 
-  -- the values stay
-  old-value : (k : ℕ) → k < length p / 8 → valueAt pool k ≡ valueAt p k
+  -- behind them the values
+  moved-value : (k : ℕ) → k < length p / 8 → valueAt pool (length p / 8 + k) ≡ valueAt p k
   unfolding poolValue
-  old-value k h = held .values k (omega arith) ∙ rw (lt-ltb k (length p / 8) h)
+  moved-value k h =
+      held .values (length p / 8 + k) (omega arith)
+      ∙ (let q : length p / 8 + k - length p / 8 ≡ k = omega arith in
+      rw (le-ltb (length p / 8 + k) (length p / 8) (omega arith), q))
 
-  values-stay : (start c : ℕ) → start + c ≤ length p / 8
-      → valuesFrom pool start c ≡ map by (map number (valuesFrom p start c))
+  values-moved : (start c : ℕ) → start + c ≤ length p / 8
+      → valuesFrom pool (length p / 8 + start) c ≡ map by (map number (valuesFrom p start c))
   unfolding valuesFrom
-  values-stay start zero h = refl
-  values-stay start (suc c) h = λ i. old-value start (omega arith) i ∷ values-stay (suc start) c (omega arith) i
+  values-moved start zero h = refl
+  values-moved start (suc c) h =
+      let q : suc (length p / 8 + start) ≡ length p / 8 + suc start = omega arith in
+      λ i. moved-value start (omega arith) i
+      ∷ (ap (λ m. valuesFrom pool m c) q ∙ values-moved (suc start) c (omega arith)) i
 
   record-read : (n : ℕ) → n < used → (r : Record) → ListIn (length p / 8) r
       → toAExpr pool (rankedRecord (length p / 8) (getD ranks n 0) r) ≡ mapAExpr by (placedAExpr used p n r)
@@ -172,10 +172,10 @@ module _ (rs p : List ℕ) (used : ℕ) (ranks pool : List ℕ) (held : RankedPo
   record-read n h (kind.List ty marked start count) l = go (eqb ty 4)
     where
       go : (b : Bool) → toAExpr pool
-          (cond b (kind.List 1 marked (length p / 8 + start) count) (kind.List ty marked start count))
+          (cond b (kind.List 1 marked start count) (kind.List ty marked (length p / 8 + start) count))
           ≡ ListLiteral marked (map by (cond b (placedFrom used start count) (map number (valuesFrom p start count))))
       go true = ap (ListLiteral marked) (ranks-from start count l)
-      go false = ap (ListLiteral marked) (values-stay start count l)
+      go false = ap (ListLiteral marked) (values-moved start count l)
   record-read n h (kind.IsIn equal x list) l = refl
 
 pub ranks-of : (text rs p : List ℕ) (used : ℕ) → Accepted text rs p used → (values ranks src pool : List ℕ)

@@ -85,7 +85,7 @@ ranked-words words rank (kind.IsNull x) k l h = h
 ranked-words words rank (kind.IsNotNull x) k l h = h
 ranked-words words rank (kind.IsBetween ends x low high) k l h = h
 ranked-words words rank (kind.List ty marked start count) k l h =
-    pick (eqb ty 4) (kind.List 1 marked (words + start) count) (kind.List ty marked start count) (l, h .1, h .2) h
+    pick (eqb ty 4) (kind.List 1 marked start count) (kind.List ty marked (words + start) count) h (l, h .1, h .2)
 ranked-words words rank (kind.IsIn equal x list) k l h = h
 
 -- ---- One record more.

@@ -1,6 +1,7 @@
 -- The screen of ranks, as bytes (02, 2.10): what merges numbers reads of these records and this pool the ranks of the
--- symbols. A literal of type Text becomes an Int, its rank. The pool's values stay, for the lists of the other types, and
--- behind them stand as many ranks, one for each value; a list of type Text becomes one of Int that lies there.
+-- symbols. A literal of type Text becomes an Int, its rank. In front of the pool stand as many ranks as it has values, one for
+-- each; a list of type Text becomes one of Int and stays where it is. Behind them stand the values, for the lists of the other
+-- types. So the lists of ranks end as early as an index of lists asks.
 use mathlib.Core.Path.{_≡_}
 use mathlib.Core.Bool.{Bool, cond}
 use mathlib.Core.List.{List, _++_}
@@ -25,13 +26,13 @@ pub record Accepted (text rs p : List ℕ) (used : ℕ) : Type 0 where
   pub root : ℕ
   pub checked : CheckedIn (lent text) table rs p used root
 
--- ---- The records. `words` are the values of the pool, behind which the ranks stand.
+-- ---- The records. `words` is the number of the pool's values, and of the ranks in front of them.
 abbrev pub rankedLiteral : ℕ → ℕ → ℕ → Record
 rankedLiteral rank ty v = cond (eqb ty 4) (kind.Literal 1 rank) (kind.Literal ty v)
 
 abbrev pub rankedList : ℕ → ℕ → Bool → ℕ → ℕ → Record
 rankedList words ty holdsNull start count =
-    cond (eqb ty 4) (kind.List 1 holdsNull (words + start) count) (kind.List ty holdsNull start count)
+    cond (eqb ty 4) (kind.List 1 holdsNull start count) (kind.List ty holdsNull (words + start) count)
 
 unfoldable pub rankedRecord : ℕ → ℕ → Record → Record
 rankedRecord words rank kind.Invalid = kind.Invalid
@@ -70,7 +71,7 @@ pub record RankedRecords (rs ranks : List ℕ) (words n : ℕ) (src : List ℕ) 
 
 -- ---- The pool.
 unfoldable pub poolValue : List ℕ → List ℕ → ℕ → ℕ → ℕ
-poolValue p ranks used k = cond (ltb k (length p / 8)) (valueAt p k) (getD ranks (used + (k - length p / 8)) 0)
+poolValue p ranks used k = cond (ltb k (length p / 8)) (getD ranks (used + k) 0) (valueAt p (k - length p / 8))
 
 pub record RankedPool (p ranks : List ℕ) (used n : ℕ) (pool : List ℕ) : Type 0 where
   pub values : (k : ℕ) → k < n → valueAt pool k ≡ poolValue p ranks used k

@@ -1,4 +1,4 @@
-// The pool of the screen of ranks: the values of the pool sent, then the rank of each.
+// The pool of the screen of ranks: the rank of each value of the pool sent, then the values.
 ghost use mathlib.Core.Path.{_≡_};
 ghost use Prim.Native.Nat.{_+_, _*_, _/_, _%_, _≤_, _<_};
 ghost use lib.ListN.{length};
@@ -40,12 +40,12 @@ fn pool_value(p: &[u8], ranks: &[u64], used: usize, k: usize) -> u64
 {
     let words = p.len() / 8;
     if k < words {
-        return value_at(p, k);
+        return ranks[used + k];
     }
-    ranks[used + (k - words)]
+    value_at(p, k - words)
 }
 
-/// The values of p and behind them their ranks into `pool`.
+/// The ranks of the values of p and behind them the values into `pool`.
 pub fn rank_pool(p: &[u8], ranks: &[u64], used: usize, pool: &mut [u8])
     requires { ⌜ (used ≤ 4096) × (length (now p) ≤ 65536) × (placeCount (now p) used ≤ length (now ranks)) ⌝ }
     requires { ⌜ 16 * (length (now p) / 8) ≤ length (now pool) ⌝ }

@@ -22,9 +22,9 @@ fn ranked_list(words: u32, ty: u8, marked: bool, start: u32, count: u32) -> Reco
     ensures { λ r. ⌜ r ≡ rankedList words ty marked start count ⌝ }
 {
     if ty == 4 {
-        return Record::List(1, marked, words + start, count);
+        return Record::List(1, marked, start, count);
     }
-    Record::List(ty, marked, start, count)
+    Record::List(ty, marked, words + start, count)
 }
 
 fn ranked_record(words: u32, rank: u64, r: Record) -> Record

@@ -24,7 +24,7 @@ use crate::indexed::show_indexed;
 use crate::merged::show_lines;
 use checking::check::CheckAnswer;
 use checking::check::check_counted;
-use merge_conjuncts::far::travels_far;
+use far_lists::far::travels_far;
 use minterm_iter::minterms;
 use plain::is_plain;
 use records::record::Node;

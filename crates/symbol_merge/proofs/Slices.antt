@@ -15,16 +15,11 @@ use Rattle.constraints.specs.Lined.{Lined, lined}
 use Rattle.constraints.specs.LineKept.{OneOf}
 use Rattle.constraints.specs.Comparisons.{ColumnComparison, collectColumnComparisons}
 use Rattle.column_constraints.specs.Abstraction.{Conjuncts, ofKind, literalAt, gather, excludedBy}
-use Rattle.column_sets.specs.Index.{Indexed}
 use Rattle.column_table.specs.State.{ColumnTable, bitsOf}
 use Rattle.merge.specs.Emit.{ofColumn, comparisons}
 use Rattle.read_operands.specs.Walk.{firstOf}
 use Rattle.stages.proofs.Reckons.{ComparedBelow}
 use Rattle.symbol_columns.proofs.Written.{excludedIn}
-
--- an index of fewer than three words covers nothing
-pub no-index : (ss cs ps index : List ℕ) → length index < 3 → Indexed ss cs ps index
-no-index ss cs ps index h = record { room = λ p l. absurd (omega arith); lists = λ p j l k. absurd (omega arith) }
 
 -- Under other literals the excluded values are those.
 pub excluded-as : (kinds values values′ a : List ℕ) (n : ℕ) →

@@ -24,6 +24,8 @@ ghost use Rattle.symbol_screens.specs.Rewriting.{lent};
 ghost use Rattle.symbol_merge.specs.Explains.{Explains};
 use crate::front::exchange_front;
 use crate::front::put_front;
+use far_lists::far::travels_far;
+use filter_constraint::indexed::merge_indexed;
 use filter_constraint::merging::merge_filter_constraints;
 use merge::answer::Rewriting;
 use records::record::Node;
@@ -31,8 +33,7 @@ use rewrite::literals::read_literals;
 
 pub mod front;
 
-// The merging of the first n nodes of the screen of ranks, `rs` and `p`. Its lists have no index: few screens have symbols in
-// lists that travel along equalities.
+// The merging of the first n nodes of the screen of ranks, `rs` and `p`.
 fn merge_ranks(
     t: &[u8],
     rs: &mut [u8],
@@ -69,6 +70,31 @@ fn merge_ranks(
     let mut lefts = [0u32; 128];
     let mut rights = [0u32; 128];
     let mut equals = [0u32; 128];
+    if travels_far(rs, nodes, n, starts, counts) {
+        return merge_indexed(
+            t,
+            rs,
+            p,
+            used,
+            trees,
+            nodes,
+            n,
+            kinds,
+            values,
+            starts,
+            counts,
+            &mut marks,
+            &mut order,
+            &mut kept,
+            &mut lefts,
+            &mut rights,
+            &mut equals,
+            bits,
+            own,
+            text,
+            reasons,
+        );
+    }
     let none = [0u64; 1];
     merge_filter_constraints(
         t,

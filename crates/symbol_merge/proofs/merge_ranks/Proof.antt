@@ -3,46 +3,123 @@ use Rattle.symbol_merge.proofs.merge_ranks.Statement.{statement}
 use Rattle.symbol_merge.proofs.merge_ranks.Tie as tie
 use Rattle.symbol_merge.proofs.merge_ranks.Reads as reads
 use Rattle.symbol_merge.proofs.merge_ranks.Lts as lts
+use Rattle.far_lists.proofs.far.travels_far.Reads as travels-far-reads
+use Rattle.filter_constraint.proofs.indexed.merge_indexed.Reads as merge-indexed-reads
 use Rattle.filter_constraint.proofs.merging.merge_filter_constraints.Reads as merge-filter-constraints-reads
 use mathlib.Core.Path.{_≡_, refl}
 use Prim.Native.Nat.{ℕ, _+_, _*_, _≤_, _<_}
 use native.Mathlib.Omega.{arith}
 use lib.ListN.{length-replicate}
-use Rattle.symbol_merge.proofs.Slices.{no-index}
+use Rattle.far_lists.proofs.Sizes.{no-index}
 
--- src/lib.rt:85:9
+-- src/lib.rt:73:8
+travels-far-requires : tie.Need-travels-far-requires
+travels-far-requires c κs = search needs
+
+-- src/lib.rt:86:13
+slice-aggregate-merge-indexed : tie.Need-slice-aggregate-merge-indexed
+slice-aggregate-merge-indexed c = search needs
+
+-- src/lib.rt:87:13
+slice-aggregate-merge-indexed-2 : tie.Need-slice-aggregate-merge-indexed-2
+slice-aggregate-merge-indexed-2 c = search needs
+
+-- src/lib.rt:88:13
+slice-aggregate-merge-indexed-3 : tie.Need-slice-aggregate-merge-indexed-3
+slice-aggregate-merge-indexed-3 c = search needs
+
+-- src/lib.rt:89:13
+slice-aggregate-merge-indexed-4 : tie.Need-slice-aggregate-merge-indexed-4
+slice-aggregate-merge-indexed-4 c = search needs
+
+-- src/lib.rt:90:13
+slice-aggregate-merge-indexed-5 : tie.Need-slice-aggregate-merge-indexed-5
+slice-aggregate-merge-indexed-5 c = search needs
+
+-- src/lib.rt:91:13
+slice-aggregate-merge-indexed-6 : tie.Need-slice-aggregate-merge-indexed-6
+slice-aggregate-merge-indexed-6 c = search needs
+
+-- src/lib.rt:74:9
+merge-indexed-requires : tie.Need-merge-indexed-requires
+merge-indexed-requires c κs =
+    let st = c .before .before .before .before .before .before .before .before .before .before .before .before
+    .before .before .before .before .before .before .before .before .before .before .before .before in
+    let travels-far = c .before .before .before .before .before .before .before .before .before .travels-far in
+    let if1 = c .before .before .before .before .before .before .before .before .if1 in
+    let z = length-replicate {A = ℕ} 8192 0 in
+    let y = length-replicate {A = ℕ} 128 0 in (
+      (
+        omega (arith, z, st .pre .0 .0),
+        omega (arith, z),
+        st .pre .0 .1,
+        st .pre .0 .2,
+        travels-far .ensures
+            (if1 .taken),
+      ),
+      (
+        (
+          omega (arith, length-replicate {A = ℕ} 256 0, st .pre .0 .0),
+          omega (
+            arith,
+            y,
+            st .pre
+                .0 .0,
+          ),
+          omega (arith, y, st .pre .0 .0),
+          omega (arith, y, st .pre .0 .0),
+          omega (arith, y, st .pre .0 .0),
+        ),
+        (st .pre .1 .0, (st .pre .1 .1 .0, st .pre .1 .1 .1)),
+      ),
+    )
+
+-- src/lib.rt:74:9
+same-length : tie.Need-same-length
+same-length c = search needs
+
+-- src/lib.rt:74:9
+same-length-2 : tie.Need-same-length-2
+same-length-2 c = search needs
+
+-- src/lib.rt:74:9
+returns : tie.Need-returns
+returns c = search needs
+
+-- src/lib.rt:111:9
 slice-aggregate-merge-filter-constraints : tie.Need-slice-aggregate-merge-filter-constraints
 slice-aggregate-merge-filter-constraints c = search needs
 
--- src/lib.rt:86:9
+-- src/lib.rt:112:9
 slice-aggregate-merge-filter-constraints-2 : tie.Need-slice-aggregate-merge-filter-constraints-2
 slice-aggregate-merge-filter-constraints-2 c = search needs
 
--- src/lib.rt:87:9
+-- src/lib.rt:113:9
 slice-aggregate-merge-filter-constraints-3 : tie.Need-slice-aggregate-merge-filter-constraints-3
 slice-aggregate-merge-filter-constraints-3 c = search needs
 
--- src/lib.rt:88:9
+-- src/lib.rt:114:9
 slice-aggregate-merge-filter-constraints-4 : tie.Need-slice-aggregate-merge-filter-constraints-4
 slice-aggregate-merge-filter-constraints-4 c = search needs
 
--- src/lib.rt:89:9
+-- src/lib.rt:115:9
 slice-aggregate-merge-filter-constraints-5 : tie.Need-slice-aggregate-merge-filter-constraints-5
 slice-aggregate-merge-filter-constraints-5 c = search needs
 
--- src/lib.rt:90:9
+-- src/lib.rt:116:9
 slice-aggregate-merge-filter-constraints-6 : tie.Need-slice-aggregate-merge-filter-constraints-6
 slice-aggregate-merge-filter-constraints-6 c = search needs
 
--- src/lib.rt:91:9
+-- src/lib.rt:117:9
 slice-aggregate-merge-filter-constraints-7 : tie.Need-slice-aggregate-merge-filter-constraints-7
 slice-aggregate-merge-filter-constraints-7 c = search needs
 
--- src/lib.rt:73:5
+-- src/lib.rt:99:5
 merge-filter-constraints-requires : tie.Need-merge-filter-constraints-requires
 merge-filter-constraints-requires c κs =
     let st = c .before .before .before .before .before .before .before .before .before .before .before .before
-    .before .before .before .before .before .before .before .before .before .before in
+    .before .before .before .before .before .before .before .before .before .before .before .before .before
+    in
     let z = length-replicate {A = ℕ} 8192 0 in
     let y = length-replicate {A = ℕ} 128 0 in (
       (
@@ -66,22 +143,33 @@ merge-filter-constraints-requires c κs =
       ),
     )
 
--- src/lib.rt:36:1
-same-length : tie.Need-same-length
-same-length c = search needs
+-- src/lib.rt:37:1
+same-length-3 : tie.Need-same-length-3
+same-length-3 c = search needs
 
--- src/lib.rt:36:1
-same-length-2 : tie.Need-same-length-2
-same-length-2 c = search needs
+-- src/lib.rt:37:1
+same-length-4 : tie.Need-same-length-4
+same-length-4 c = search needs
 
--- src/lib.rt:36:1
-returns : tie.Need-returns
-returns c = search needs
+-- src/lib.rt:37:1
+returns-2 : tie.Need-returns-2
+returns-2 c = search needs
 
 pub merge-ranks-spec : {M : Type 1} → statement M
 merge-ranks-spec =
     tie.close
     (tie.spec
+    travels-far-requires
+    slice-aggregate-merge-indexed
+    slice-aggregate-merge-indexed-2
+    slice-aggregate-merge-indexed-3
+    slice-aggregate-merge-indexed-4
+    slice-aggregate-merge-indexed-5
+    slice-aggregate-merge-indexed-6
+    merge-indexed-requires
+    same-length
+    same-length-2
+    returns
     slice-aggregate-merge-filter-constraints
     slice-aggregate-merge-filter-constraints-2
     slice-aggregate-merge-filter-constraints-3
@@ -90,6 +178,6 @@ merge-ranks-spec =
     slice-aggregate-merge-filter-constraints-6
     slice-aggregate-merge-filter-constraints-7
     merge-filter-constraints-requires
-    same-length
-    same-length-2
-    returns)
+    same-length-3
+    same-length-4
+    returns-2)

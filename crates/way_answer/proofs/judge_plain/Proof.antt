@@ -13,7 +13,7 @@ use lib.ListN.{length-replicate}
 use mathlib.Core.Path.{_∙_}
 use Rattle.checking.proofs.Accepted.{checked}
 use Rattle.stages.proofs.Screens.{node-columns}
-use Rattle.merge_conjuncts.proofs.Sizes.{no-index}
+use Rattle.far_lists.proofs.Sizes.{no-index}
 use Rattle.way_answer.proofs.Answers.{zero-says, way-lines}
 
 -- src/lib.rt:61:9

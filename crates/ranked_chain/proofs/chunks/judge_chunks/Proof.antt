@@ -1,82 +1,58 @@
+use borrow.Author.Needs.{needs}
 use Rattle.ranked_chain.proofs.chunks.judge_chunks.Statement.{statement}
 use Rattle.ranked_chain.proofs.chunks.judge_chunks.Tie as tie
 use Rattle.ranked_chain.proofs.chunks.judge_chunks.Reads as reads
 use Rattle.ranked_chain.proofs.chunks.judge_chunks.Lts as lts
-use Rattle.ranked_chain.proofs.chunks.at_most.Reads as at-most-reads
-use Rattle.ranked_chain.proofs.chunks.chunk_rows.Reads as chunk-rows-reads
-use Rattle.ranked_chain.proofs.chunks.judge_chunk.Reads as judge-chunk-reads
-use mathlib.Core.Path.{_≡_, refl, _∙_}
-use Prim.Native.Nat.{ℕ, _+_, _-_, _≤_}
+use Rattle.chain_rows.proofs.judge.asked_values.Reads as asked-values-reads
+use Rattle.masks.proofs.reach.mark_reached.Reads as mark-reached-reads
+use Rattle.ranked_chain.proofs.chunks.judge_searching.Reads as judge-searching-reads
+use Rattle.ranked_chain.proofs.chunks.judge_sorted.Reads as judge-sorted-reads
+use Rattle.ranked_chain.proofs.chunks.order_pays.Reads as order-pays-reads
 use native.Mathlib.Omega.{arith}
-use lib.ListN.{length}
-use Rattle.three_valued.specs.declared.logic.Truth.{Truth}
-use Rattle.ranked_chain.specs.Chunks.{RowTruths, ClassesOf}
-use Rattle.ranked_chain.proofs.Chunked.{fit-part, classes-none, chunk-room}
-use borrow.Author.Needs.{needs}
 
-abbrev Inv-loop : tie.InvT-loop
-Inv-loop table text symbols m records pool root values nulls classes₀ block₀ most base₀ classes block base =
-    (base ≤ length nulls) × (length classes ≡ length classes₀) × (length block ≡ 131072) × ((f : ℕ → Truth) →
-    RowTruths text table symbols m values nulls records pool (root .0) f → ClassesOf f classes base)
+-- src/chunks.rt:289:33
+slice-aggregate-mark-reached : tie.Need-slice-aggregate-mark-reached
+slice-aggregate-mark-reached c = search needs
 
-abbrev μ-loop : tie.MeasureT-loop
-μ-loop table text symbols m records pool root values nulls classes₀ block₀ most base₀ classes block base =
-    length nulls - base
+-- src/chunks.rt:289:5
+mark-reached-requires : tie.Need-mark-reached-requires
+mark-reached-requires c κs = search needs
 
--- src/chunks.rt:102:9
-chunk-rows-requires : tie.Need-chunk-rows-requires Inv-loop μ-loop
-chunk-rows-requires c κs =
-    let st = c .before .before .before .before .before .before .before .before in
-    st .pre .1 .0 .2
+-- src/chunks.rt:290:47
+slice-aggregate-asked-values : tie.Need-slice-aggregate-asked-values
+slice-aggregate-asked-values c = search needs
 
--- src/chunks.rt:104:5
-loop-holds : tie.Need-loop-holds Inv-loop μ-loop
-loop-holds c =
-    (omega arith, refl, search needs, λ f h. classes-none f _)
+-- src/chunks.rt:290:19
+asked-values-requires : tie.Need-asked-values-requires
+asked-values-requires c κs = search needs
 
--- src/chunks.rt:105:29
-sub-at-most : tie.Need-sub-at-most Inv-loop μ-loop
-sub-at-most c = search needs
+-- src/chunks.rt:290:8
+order-pays-requires : tie.Need-order-pays-requires
+order-pays-requires c κs = search needs
 
--- src/chunks.rt:105:13
-at-most-requires : tie.Need-at-most-requires Inv-loop μ-loop
-at-most-requires c κs = search needs
+-- src/chunks.rt:301:13
+slice-aggregate-judge-sorted : tie.Need-slice-aggregate-judge-sorted
+slice-aggregate-judge-sorted c = search needs
 
--- src/chunks.rt:118:13
-slice-aggregate-judge-chunk : tie.Need-slice-aggregate-judge-chunk Inv-loop μ-loop
-slice-aggregate-judge-chunk c =
-    let l1 = c .before .before .before .loop in
-    search (needs, l1 .inv .2)
-
--- src/chunks.rt:106:9
-judge-chunk-requires : tie.Need-judge-chunk-requires Inv-loop μ-loop
-judge-chunk-requires c κs =
+-- src/chunks.rt:291:9
+judge-sorted-requires : tie.Need-judge-sorted-requires
+judge-sorted-requires c κs =
     let st = c .before .before .before .before .before .before .before .before .before .before .before .before
-    .before .before in
-    let chunk-rows = c .before .before .before .before .before .chunk-rows in
-    let l1 = c .before .before .before .before .loop in
-    let t1 = c .before .before .before .loop-test in
-    let at-most = c .before .before .at-most in
-    let n = at-most .ensures .0 in (
+    .before .before .before .before .before in
+    let mark-reached = c .before .before .before .before .before .before .before .mark-reached in (
       st .pre .0,
       (
         st .pre .1 .0,
         (
-          fit-part _ _ _ _ _ _ (st .pre .1 .1 .0) (omega (arith, n, t1 .taken)),
+          st .pre .1 .1 .0,
           (
+            st .pre .1 .1 .1 .0,
             (
-              omega
-                  (arith, n, t1 .taken),
-              st .pre .1 .1 .1 .0 .0,
-              omega (arith, l1 .inv .1, st .pre .1 .1 .1 .0 .1),
-            ),
-            (
-              st .pre
-                  .1 .1 .1 .1 .0,
+              st .pre .1 .1 .1 .1 .0,
               (
-                chunk-room _ _ _ _ (n .1) (chunk-rows .ensures .2) (omega (arith, l1 .inv .2)),
                 st .pre .1
                     .1 .1 .1 .1,
+                (mark-reached .ensures .0, mark-reached .ensures .1, search needs),
               ),
             ),
           ),
@@ -84,68 +60,66 @@ judge-chunk-requires c κs =
       ),
     )
 
--- src/chunks.rt:121:9
-add-base : tie.Need-add-base Inv-loop μ-loop
-add-base c =
+-- src/chunks.rt:315:13
+slice-aggregate-judge-searching : tie.Need-slice-aggregate-judge-searching
+slice-aggregate-judge-searching c = search needs
+
+-- src/chunks.rt:305:9
+judge-searching-requires : tie.Need-judge-searching-requires
+judge-searching-requires c κs =
     let st = c .before .before .before .before .before .before .before .before .before .before .before .before
-    .before .before .before .before .before .before in
-    let t1 = c .before .before .before .before .before .before .before .loop-test in
-    let at-most = c .before .before .before .before .before .before .at-most in
-    omega (arith, at-most .ensures .0, t1 .taken, st .pre .1 .1 .1 .0 .0)
-
--- src/chunks.rt:104:5
-loop-less : tie.Need-loop-less Inv-loop μ-loop
-loop-less c =
-    let chunk-rows = c .before .before .before .before .before .before .before .before .before .chunk-rows in
-    let t1 = c .before .before .before .before .before .before .before .loop-test in
-    let at-most = c .before .before .before .before .before .before .at-most in
-    let p = at-most .ensures .1 (omega (arith, t1 .taken)) (chunk-rows .ensures .0) in
-    omega (arith, at-most .ensures .0, t1 .taken, p)
-
--- src/chunks.rt:104:5
-loop-again : tie.Need-loop-again Inv-loop μ-loop
-loop-again c =
-    let l1 = c .before .before .before .before .before .before .before .before .loop in
-    let t1 = c .before .before .before .before .before .before .before .loop-test in
-    let at-most = c .before .before .before .before .before .before .at-most in
-    let judge-chunk = c .before .before .before .judge-chunk in
-    let n = at-most .ensures .0 in (
-      omega (arith, n, t1 .taken),
-      judge-chunk .kept .1 .1 .1 .1 .1 .1 .1 .1 .1 .1 .1 .1 .0 ∙ l1 .inv .1,
-      judge-chunk .kept .1 .1 .1 .1 .1 .1 .1 .1 .1 .1 .1 .0 ∙ l1 .inv .2,
-      λ f h. judge-chunk .ensures f h (l1 .inv
-          .3 f h),
+    .before .before .before .before .before in
+    let mark-reached = c .before .before .before .before .before .before .before .mark-reached in (
+      st .pre .0,
+      (
+        st .pre .1 .0,
+        (
+          st .pre .1 .1 .0,
+          (
+            st .pre .1 .1 .1 .0,
+            (
+              st .pre .1 .1 .1 .1 .0,
+              (
+                st .pre .1
+                    .1 .1 .1 .1,
+                (mark-reached .ensures .0, mark-reached .ensures .1, search needs),
+              ),
+            ),
+          ),
+        ),
+      ),
     )
 
--- src/chunks.rt:79:1
-same-length : tie.Need-same-length Inv-loop μ-loop
-same-length c =
-    let l1 = c .before .loop in
-    l1 .inv .1
+-- src/chunks.rt:266:1
+same-length : tie.Need-same-length
+same-length c = search needs
 
--- src/chunks.rt:79:1
-returns : tie.Need-returns Inv-loop μ-loop
-returns c =
-    let st = c .before .before .before .before .before .before .before .before .before .before .before in
-    let l1 = c .before .loop in
-    let t1 = c .loop-test in
-    λ f h. let w : l1 .base ≡ length (st .args .nulls .now) = omega (arith, l1 .inv .0, t1 .left) in rw w at (l1
-    .inv .3 f h)
+-- src/chunks.rt:266:1
+returns : tie.Need-returns
+returns c = search needs
+
+-- src/chunks.rt:266:1
+same-length-2 : tie.Need-same-length-2
+same-length-2 c = search needs
+
+-- src/chunks.rt:266:1
+returns-2 : tie.Need-returns-2
+returns-2 c = search needs
 
 pub judge-chunks-spec : {M : Type 1} → statement M
 judge-chunks-spec =
     tie.close
     (tie.spec
-    Inv-loop
-    μ-loop
-    chunk-rows-requires
-    loop-holds
-    sub-at-most
-    at-most-requires
-    slice-aggregate-judge-chunk
-    judge-chunk-requires
-    add-base
-    loop-less
-    loop-again
+    slice-aggregate-mark-reached
+    mark-reached-requires
+    slice-aggregate-asked-values
+    asked-values-requires
+    order-pays-requires
+    slice-aggregate-judge-sorted
+    judge-sorted-requires
+    slice-aggregate-judge-searching
+    judge-searching-requires
     same-length
-    returns)
+    returns
+    same-length-2
+    returns-2)

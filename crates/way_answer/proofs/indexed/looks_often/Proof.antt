@@ -6,7 +6,7 @@ use mathlib.Core.Bool.{true≢false}
 use Prim.Native.Nat.{ℕ, _+_, _*_, _≤_, _<_, _-_}
 use native.Mathlib.Omega.{arith}
 use lib.ListN.{getD}
-use Rattle.merge_conjuncts.proofs.Sizes.{ends-more, work-bound}
+use Rattle.far_lists.proofs.Sizes.{ends-more, work-bound}
 
 abbrev Inv-loop : tie.InvT-loop
 Inv-loop starts counts n total₀ j₀ total j =

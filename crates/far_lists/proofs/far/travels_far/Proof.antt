@@ -1,11 +1,11 @@
-use Rattle.merge_conjuncts.proofs.Sizes.{product-fits}
+use Rattle.far_lists.proofs.Sizes.{product-fits}
 use mathlib.Core.Path.{_≡_, sym}
 use mathlib.Core.Bool.{true≢false}
 use Prim.Native.Nat.{ℕ, _≤_, _<_}
 use native.Mathlib.Omega.{arith}
 use borrow.Author.Needs.{needs}
-use Rattle.merge_conjuncts.proofs.far.travels_far.Statement.{statement}
-use Rattle.merge_conjuncts.proofs.far.travels_far.Tie as tie
+use Rattle.far_lists.proofs.far.travels_far.Statement.{statement}
+use Rattle.far_lists.proofs.far.travels_far.Tie as tie
 
 value-count-requires : tie.Need-value-count-requires
 value-count-requires c κs =

@@ -2,10 +2,10 @@ use mathlib.Core.Path.{_≡_}
 use Prim.Native.Nat.{ℕ, _+_, _*_, _≤_, _<_, _-_}
 use native.Mathlib.Omega.{arith}
 use lib.ListN.{getD}
-use Rattle.merge_conjuncts.proofs.Sizes.{ends-more, work-bound}
+use Rattle.far_lists.proofs.Sizes.{ends-more, work-bound}
 use borrow.Author.Needs.{needs}
-use Rattle.merge_conjuncts.proofs.far.list_work.Statement.{statement}
-use Rattle.merge_conjuncts.proofs.far.list_work.Tie as tie
+use Rattle.far_lists.proofs.far.list_work.Statement.{statement}
+use Rattle.far_lists.proofs.far.list_work.Tie as tie
 
 abbrev Inv-loop : tie.InvT-loop
 Inv-loop starts counts lists₀ total₀ j₀ lists total j = (j ≤ 128) × (lists ≤ j) × (total ≤ j * 8192) × ((i : ℕ) → i < j → getD starts i 0 + getD counts i 0 ≤ 8192)

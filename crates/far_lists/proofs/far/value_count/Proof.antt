@@ -1,8 +1,8 @@
 use Prim.Native.Nat.{ℕ, _*_, _≤_, _<_, _-_}
 use native.Mathlib.Omega.{arith}
 use borrow.Author.Needs.{needs}
-use Rattle.merge_conjuncts.proofs.far.value_count.Statement.{statement}
-use Rattle.merge_conjuncts.proofs.far.value_count.Tie as tie
+use Rattle.far_lists.proofs.far.value_count.Statement.{statement}
+use Rattle.far_lists.proofs.far.value_count.Tie as tie
 
 abbrev Inv-loop : tie.InvT-loop
 Inv-loop counts n total₀ j₀ total j = (j ≤ n) × (total ≤ j * 4294967296)

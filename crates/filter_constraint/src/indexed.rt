@@ -1,5 +1,5 @@
 // The merging with an index of the lists. The index is large, so it has a frame of its own and only the screens that need it
-// come here.
+// come here, with symbols or without: it has several callers, so that the compiler takes it into none of them.
 ghost use mathlib.Core.Path.{_≡_};
 ghost use mathlib.Core.List.{map};
 ghost use Prim.Native.Nat.{ℕ, _+_, _<_, _≤_};
@@ -8,20 +8,16 @@ ghost use Rattle.truth.specs.FromBytes.{aexprOf};
 ghost use Rattle.constraints.specs.Payload.{payload};
 ghost use Rattle.column_constraints.specs.Abstraction.{conjuncts};
 ghost use Rattle.merge.specs.Classify.{classify};
-ghost use Rattle.merge.specs.Emit.{mergeFilterConstraints};
 ghost use Rattle.merge.specs.Passes.{mergePasses};
-ghost use Rattle.merge.specs.Write.{outcomeBytes};
-ghost use Rattle.merge.specs.Rewrite.{writtenIf};
 ghost use Rattle.read_operands.specs.Walk.{firstOf};
 ghost use Rattle.rewrite.specs.Told.{ToldConjunct};
 ghost use Rattle.stages.specs.Columns.{ColumnsBelow};
-ghost use Rattle.reckoning.specs.Reckon.{reckonedAnswer};
 ghost use Rattle.stages.specs.Rows.{stride};
-ghost use Rattle.reasons.specs.Explained.{refuseLong, textIf, lengthIf};
-ghost use Rattle.filter_constraint.specs.Explained.{nodesText};
+ghost use Rattle.filter_constraint.specs.Concluded.{linedTo};
+ghost use Rattle.filter_constraint.specs.Merges.{Counts, Merges};
 ghost use Rattle.filter_constraint.specs.Room.{Room};
+use crate::merging::merge_filter_constraints;
 use columns::index::make_index;
-use filter_constraint::merging::merge_filter_constraints;
 use merge::answer::Rewriting;
 
 /// `merge_filter_constraints` with an index of the lists, each of which ends before place 8192.
@@ -43,6 +39,9 @@ pub fn merge_indexed(
     lefts: &mut [u32],
     rights: &mut [u32],
     equals: &mut [u32],
+    bits: &[u64],
+    own: &[u8],
+    text: &[u8],
     reasons: &mut [u8],
 ) -> Rewriting
     requires { ⌜ (n ≤ stride (now marks)) × (stride (now marks) ≤ 128) × (used ≤ 4096) × (n ≤ length (now nodes))
@@ -51,22 +50,16 @@ pub fn merge_indexed(
     requires { ⌜ ((i : ℕ) → i < n → ToldConjunct (conjuncts (now kinds) (now values) (now starts) (now counts) (now p)) i
         (classify (aexprOf (now rs) (now p)) (getD (now nodes) i 0))) ⌝ }
     requires { ⌜ ((i : ℕ) → i < n → ColumnsBelow 64 (classify (aexprOf (now rs) (now p)) (getD (now nodes) i 0))) ⌝ }
-    ensures { λ r. ⌜ r .answer ≡ refuseLong (length (nodesText (now (t .entry)) (now (rs .entry)) (now (p .entry)) (now (nodes .entry)) n))
-        (length (now (reasons .entry))) (reckonedAnswer (length (now (rs .entry))) (now (trees .entry)) used
-        (mergeFilterConstraints payload (map (classify (aexprOf (now (rs .entry)) (now (p .entry))))
-        (firstOf (now (nodes .entry)) n)))) ⌝ }
-    ensures { λ r. ⌜ now (rs .exit) ≡ writtenIf (r .answer) (now (rs .entry)) (outcomeBytes (now (t .entry)) (now (rs .entry))
-        used (mergeFilterConstraints payload (map (classify (aexprOf (now (rs .entry)) (now (p .entry))))
-        (firstOf (now (nodes .entry)) n)))) ⌝ }
+    requires { ⌜ Counts (linedTo (aexprOf (now rs) (now p)) (now nodes) n)
+        (conjuncts (now kinds) (now values) (now starts) (now counts) (now p)) (now t) (now own) (now nodes) (now bits) ⌝ }
+    ensures { λ r. ⌜ Merges (linedTo (aexprOf (now (rs .entry)) (now (p .entry))) (now (nodes .entry)) n)
+        (conjuncts (now (kinds .entry)) (now (values .entry)) (now (starts .entry)) (now (counts .entry)) (now (p .entry)))
+        (now (t .entry)) (now (rs .entry)) (now (trees .entry)) (now (nodes .entry)) (now (bits .entry)) (now (own .entry))
+        (now (text .entry)) (now (reasons .entry)) used r (now (rs .exit)) (now (reasons .exit)) ⌝ }
     ensures { λ r. ⌜ r .passes ≡ mergePasses payload (map (classify (aexprOf (now (rs .entry)) (now (p .entry))))
         (firstOf (now (nodes .entry)) n)) ⌝ }
-    ensures { λ r. ⌜ now (reasons .exit) ≡ textIf (r .answer) (now (reasons .entry))
-        (nodesText (now (t .entry)) (now (rs .entry)) (now (p .entry)) (now (nodes .entry)) n) ⌝ }
-    ensures { λ r. ⌜ r .length ≡ lengthIf (r .answer)
-        (nodesText (now (t .entry)) (now (rs .entry)) (now (p .entry)) (now (nodes .entry)) n) ⌝ }
 {
     let mut index = [0u64; 24576];
-    let none = [0u8; 0];
     make_index(starts, counts, p, &mut index);
     merge_filter_constraints(
         t,
@@ -87,9 +80,9 @@ pub fn merge_indexed(
         lefts,
         rights,
         equals,
-        values,
-        &none,
-        &none,
+        bits,
+        own,
+        text,
         reasons,
     )
 }

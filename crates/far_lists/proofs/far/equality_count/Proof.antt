@@ -1,8 +1,8 @@
 use Prim.Native.Nat.{ℕ, _≤_, _<_, _-_}
 use native.Mathlib.Omega.{arith}
 use borrow.Author.Needs.{needs}
-use Rattle.merge_conjuncts.proofs.far.equality_count.Statement.{statement}
-use Rattle.merge_conjuncts.proofs.far.equality_count.Tie as tie
+use Rattle.far_lists.proofs.far.equality_count.Statement.{statement}
+use Rattle.far_lists.proofs.far.equality_count.Tie as tie
 
 abbrev Inv-loop : tie.InvT-loop
 Inv-loop rs nodes n count₀ i₀ count i = (i ≤ n) × (count ≤ i)

@@ -1,0 +1,2 @@
+// Whether the lists of a screen travel far along its equalities (far).
+pub mod far;
