@@ -1,5 +1,5 @@
 //! Whether a screen has symbols (02, 2.10), by its bytes alone. One that has none is checked, tested and merged as ever,
-//! whatever text pool is lent, so this look comes before any other.
+//! whatever text pool is lent.
 ghost use mathlib.Core.Path.{_≡_};
 ghost use mathlib.Core.Bool.{false, not};
 ghost use Prim.Native.Nat.{ℕ, _+_, _*_, _≤_};
