@@ -327,9 +327,11 @@ static int64_t signed_value(void) /* odd, on both sides of 0 */
     return odd_value() - 8192;
 }
 
-static int64_t skew_value(void) /* every eighth is 2,001 */
+static unsigned frequent = 1, eighths = 1; /* values that stand often: how many, and in how many rows of eight */
+
+static int64_t skew_value(void)
 {
-    return drawn() % 8 == 0 ? 2001 : odd_value();
+    return drawn() % 8 < eighths ? 2001 + 2 * (int64_t)(drawn() % frequent) : odd_value();
 }
 
 static int64_t great_value(void) /* every second is the greatest number */
@@ -352,13 +354,14 @@ static void make_wide_pool(unsigned different)
     make_pool_from(different, 1);
 }
 
-/* 2,001 so many times, all others once: a search among the places of 2,001 takes longest. */
+/* 2,001 and as many odd numbers more as are frequent so many times together, all others once: a search among their places
+   takes longest. */
 static void make_skew_pool(unsigned often)
 {
     make(&now, SCREEN_MAX_COLUMNS, SCREEN_TYPE_INT);
     for (unsigned i = 0; i < SCREEN_MAX_POOL_VALUES; i++) {
         unsigned n = i * 2654435761u % 8192;
-        screen_put_pool(&now.s, n < often ? 2001 : 2 * (int64_t)n + 1);
+        screen_put_pool(&now.s, 2 * (int64_t)(n < often ? 1000 + n % frequent : n) + 1);
     }
 }
 
@@ -573,6 +576,11 @@ int main(void)
     differ |= between_lists("the same, one value 4,096 times, all others once", 743, QUOTIENT);
     make_skew_pool(200);
     differ |= between_lists("the same, one value 200 times", 743, QUOTIENT);
+    frequent = 16;
+    eighths = 6;
+    make_wide_chain(skew_value);
+    make_skew_pool(2048);
+    differ |= between_lists("the same, 16 values 128 times each, in most rows", 743, QUOTIENT);
     make_wide_chain(great_value);
     make_great_pool();
     differ |= between_lists("the same, with the greatest number", 743, QUOTIENT);

@@ -175,7 +175,7 @@ fn judge_ordered(
     ensures { λ _. ⌜ Classed (now (records .entry)) (now (pool .entry)) columns (now (values .entry)) (now (nulls .entry))
         (root .0) (now (classes .exit)) (length (now (nulls .entry))) ⌝ }
 {
-    let mut order = [0u64; 19464];
+    let mut order = [0u64; 23560];
     let mut truths = [0u64; 4096];
     let mut unknowns = [0u64; 4096];
     // As above, and 17 words for each column.

@@ -5,6 +5,7 @@
 ghost use mathlib.Core.Path.{_≡_};
 ghost use Prim.Native.Nat.{ℕ, _+_, _*_, _≤_, _<_};
 ghost use lib.ListN.{length, getD};
+use pool_guides::guides::slot_of;
 
 // A choice by arithmetic: a branch would be foretold wrongly every other time.
 fn flag(b: bool) -> usize
@@ -32,13 +33,13 @@ fn child(p: usize, word: u64, w: u64) -> usize
 }
 
 // The first five levels, in the tree of every eighth of 8,192 words that rise.
-fn enter_tree(tree: &[u64], targets: &[u64], spots: &mut [u64], at: usize)
+fn enter_tree(tree: &[u64], targets: &[u64], n: usize, spots: &mut [u64], at: usize)
     requires { ⌜ 1024 ≤ length (now tree) ⌝ }
-    requires { ⌜ 64 ≤ length (now targets) ⌝ }
-    requires { ⌜ at + 64 ≤ length (now spots) ⌝ }
+    requires { ⌜ n ≤ length (now targets) ⌝ }
+    requires { ⌜ at + n ≤ length (now spots) ⌝ }
 {
     let mut i: usize = 0;
-    while i < 64 {
+    while i < n {
         let w = targets[i];
         let a = child(1, tree[1], w);
         let b = child(a, tree[a], w);
@@ -50,13 +51,13 @@ fn enter_tree(tree: &[u64], targets: &[u64], spots: &mut [u64], at: usize)
 }
 
 // The next five.
-fn leave_tree(tree: &[u64], targets: &[u64], spots: &mut [u64], at: usize)
+fn leave_tree(tree: &[u64], targets: &[u64], n: usize, spots: &mut [u64], at: usize)
     requires { ⌜ 1024 ≤ length (now tree) ⌝ }
-    requires { ⌜ 64 ≤ length (now targets) ⌝ }
-    requires { ⌜ at + 64 ≤ length (now spots) ⌝ }
+    requires { ⌜ n ≤ length (now targets) ⌝ }
+    requires { ⌜ at + n ≤ length (now spots) ⌝ }
 {
     let mut i: usize = 0;
-    while i < 64 {
+    while i < n {
         let w = targets[i];
         let e = (spots[at + i] % 64) as usize;
         let f = child(e, tree[e], w);
@@ -69,13 +70,13 @@ fn leave_tree(tree: &[u64], targets: &[u64], spots: &mut [u64], at: usize)
 }
 
 // The last three, in the eight words that a word of the tree is the first of.
-fn end_part(words: &[u64], targets: &[u64], spots: &mut [u64], at: usize)
+fn end_part(words: &[u64], targets: &[u64], n: usize, spots: &mut [u64], at: usize)
     requires { ⌜ 8192 ≤ length (now words) ⌝ }
-    requires { ⌜ 64 ≤ length (now targets) ⌝ }
-    requires { ⌜ at + 64 ≤ length (now spots) ⌝ }
+    requires { ⌜ n ≤ length (now targets) ⌝ }
+    requires { ⌜ at + n ≤ length (now spots) ⌝ }
 {
     let mut i: usize = 0;
-    while i < 64 {
+    while i < n {
         let w = targets[i];
         let lo = 8 * (spots[at + i] % 1024) as usize;
         let a = lo + 4 * flag(words[lo + 4] <= w);
@@ -85,37 +86,100 @@ fn end_part(words: &[u64], targets: &[u64], spots: &mut [u64], at: usize)
     }
 }
 
-// The places of the greatest words that are at most the targets, of 8,192 that rise; every eighth stands in `tree`.
-fn find_places(words: &[u64], tree: &[u64], targets: &[u64], spots: &mut [u64], at: usize)
+// The places of the greatest words that are at most the first n targets, of 8,192 that rise; every eighth stands in `tree`.
+fn find_places(words: &[u64], tree: &[u64], targets: &[u64], n: usize, spots: &mut [u64], at: usize)
     requires { ⌜ 8192 ≤ length (now words) ⌝ }
     requires { ⌜ 1024 ≤ length (now tree) ⌝ }
-    requires { ⌜ 64 ≤ length (now targets) ⌝ }
+    requires { ⌜ n ≤ length (now targets) ⌝ }
+    requires { ⌜ at + n ≤ length (now spots) ⌝ }
+{
+    enter_tree(tree, targets, n, spots, at);
+    leave_tree(tree, targets, n, spots, at);
+    end_part(words, targets, n, spots, at);
+}
+
+fn number_in(order: &[u64], slot: usize) -> u64
+    requires { ⌜ 23560 ≤ length (now order) ⌝ }
+    requires { ⌜ slot < 16384 ⌝ }
+    ensures { λ r. ⌜ r < 8192 ⌝ }
+{
+    (order[19464 + slot / 4] >> (16 * (slot % 4) as u64)) % 8192
+}
+
+// The numbers by the table; the keys that it has not, one behind the other, and which they are; how many.
+fn take_known(
+    order: &[u64],
+    keys: &[u64],
+    spots: &mut [u64],
+    few: &mut [u64],
+    rows: &mut [u64],
+) -> usize
+    requires { ⌜ 23560 ≤ length (now order) ⌝ }
+    requires { ⌜ 64 ≤ length (now keys) ⌝ }
+    requires { ⌜ 128 ≤ length (now spots) ⌝ }
+    requires { ⌜ 64 ≤ length (now few) ⌝ }
+    requires { ⌜ 64 ≤ length (now rows) ⌝ }
+    ensures { λ r. ⌜ r ≤ 64 ⌝ }
+{
+    let mut n: usize = 0;
+    let mut i: usize = 0;
+    while i < 64 {
+        let w = keys[i];
+        let g = number_in(order, slot_of(w));
+        spots[i] = g;
+        few[n] = w;
+        rows[n] = i as u64;
+        n = n + flag(order[g as usize] != w);
+        i += 1;
+    }
+    n
+}
+
+// What was found of the first n of some rows, to the places of those.
+fn put_found(rows: &[u64], found: &[u64], n: usize, spots: &mut [u64], at: usize)
+    requires { ⌜ n ≤ length (now rows) ⌝ }
+    requires { ⌜ n ≤ length (now found) ⌝ }
     requires { ⌜ at + 64 ≤ length (now spots) ⌝ }
 {
-    enter_tree(tree, targets, spots, at);
-    leave_tree(tree, targets, spots, at);
-    end_part(words, targets, spots, at);
+    let mut k: usize = 0;
+    while k < n {
+        spots[at + (rows[k] % 64) as usize] = found[k];
+        k += 1;
+    }
 }
 
 fn find_numbers(order: &[u64], keys: &[u64], spots: &mut [u64])
-    requires { ⌜ 19464 ≤ length (now order) ⌝ }
+    requires { ⌜ 23560 ≤ length (now order) ⌝ }
     requires { ⌜ 64 ≤ length (now keys) ⌝ }
     requires { ⌜ 128 ≤ length (now spots) ⌝ }
 {
-    find_places(&order[0..8192], &order[17416..18440], keys, spots, 0);
+    let mut few = [0u64; 64];
+    let mut rows = [0u64; 64];
+    let mut found = [0u64; 64];
+    let n = take_known(order, keys, spots, &mut few, &mut rows);
+    find_places(
+        &order[0..8192],
+        &order[17416..18440],
+        &few,
+        n,
+        &mut found,
+        0,
+    );
+    put_found(&rows, &found, n, spots, 0);
 }
 
-fn seek_seats(order: &[u64], targets: &[u64], spots: &mut [u64])
+fn seek_seats(order: &[u64], targets: &[u64], n: usize, spots: &mut [u64], at: usize)
     requires { ⌜ 19464 ≤ length (now order) ⌝ }
-    requires { ⌜ 64 ≤ length (now targets) ⌝ }
-    requires { ⌜ 128 ≤ length (now spots) ⌝ }
+    requires { ⌜ n ≤ length (now targets) ⌝ }
+    requires { ⌜ at + n ≤ length (now spots) ⌝ }
 {
     find_places(
         &order[8192..16384],
         &order[18440..19464],
         targets,
+        n,
         spots,
-        64,
+        at,
     );
 }
 
@@ -159,23 +223,23 @@ fn set_targets(spots: &[u64], end: u64, targets: &mut [u64])
     }
 }
 
-// For each target the seat before those of its group; a number that says how many seats the greatest of these groups has.
+// For each target the seat before those of its group and, from bit 13 on, the bit of the group's size; the bits of all.
 fn enter_groups(order: &[u64], targets: &[u64], spots: &mut [u64]) -> u64
     requires { ⌜ 19464 ≤ length (now order) ⌝ }
     requires { ⌜ 64 ≤ length (now targets) ⌝ }
     requires { ⌜ 128 ≤ length (now spots) ⌝ }
 {
     let shift = order[16386] % 64;
-    let mut wide: u64 = 0;
+    let mut sizes: u64 = 0;
     let mut i: usize = 0;
     while i < 64 {
         let g = (targets[i] >> shift) % 4096;
         let e = order[16388 + (g / 4) as usize] >> (16 * (g % 4));
-        wide = wide | e;
-        spots[64 + i] = e % 8192;
+        sizes = sizes | e;
+        spots[64 + i] = e % 65536;
         i += 1;
     }
-    wide / 8192 % 8
+    sizes / 8192 % 8
 }
 
 // Two levels, from a seat on.
@@ -244,38 +308,100 @@ fn last_seats(order: &[u64], targets: &[u64], spots: &mut [u64])
     }
 }
 
-fn find_far(order: &[u64], targets: &[u64], spots: &mut [u64])
+// Where all groups have at most 16 seats; `sizes` tells whether one has more than four.
+fn find_near(order: &[u64], targets: &[u64], sizes: u64, spots: &mut [u64])
     requires { ⌜ 19464 ≤ length (now order) ⌝ }
     requires { ⌜ 64 ≤ length (now targets) ⌝ }
     requires { ⌜ 128 ≤ length (now spots) ⌝ }
 {
+    if sizes % 2 == 0 {
+        last_seats(order, targets, spots);
+    } else {
+        end_seats(order, targets, spots);
+    }
+}
+
+// Where most have more; whether one has more than 256.
+fn find_far(order: &[u64], targets: &[u64], sizes: u64, spots: &mut [u64])
+    requires { ⌜ 19464 ≤ length (now order) ⌝ }
+    requires { ⌜ 64 ≤ length (now targets) ⌝ }
+    requires { ⌜ 128 ≤ length (now spots) ⌝ }
+{
+    if 4 <= sizes {
+        seek_seats(order, targets, 64, spots, 64);
+        return;
+    }
     far_seats(order, targets, spots);
     near_seats(order, targets, spots);
     end_seats(order, targets, spots);
 }
 
-// The last seats before a list's end: where the targets' groups have few seats, from these on.
-fn find_seats(order: &[u64], end: u64, spots: &mut [u64])
+// The targets whose groups have more than 16 seats, one behind the other, and which they are; how many. A key that the pool has
+// not needs no seat.
+fn take_crowded(
+    order: &[u64],
+    keys: &[u64],
+    targets: &[u64],
+    spots: &[u64],
+    few: &mut [u64],
+    rows: &mut [u64],
+) -> usize
+    requires { ⌜ 8192 ≤ length (now order) ⌝ }
+    requires { ⌜ 64 ≤ length (now keys) ⌝ }
+    requires { ⌜ 64 ≤ length (now targets) ⌝ }
+    requires { ⌜ 128 ≤ length (now spots) ⌝ }
+    requires { ⌜ 64 ≤ length (now few) ⌝ }
+    requires { ⌜ 64 ≤ length (now rows) ⌝ }
+    ensures { λ r. ⌜ r ≤ 64 ⌝ }
+{
+    let mut n: usize = 0;
+    let mut i: usize = 0;
+    while i < 64 {
+        few[n] = targets[i];
+        rows[n] = i as u64;
+        let known = order[(spots[i] % 8192) as usize] == keys[i];
+        n = n + flag((16384 <= spots[64 + i]) & known);
+        i += 1;
+    }
+    n
+}
+
+// The seats where some groups have many: those of the others from their groups on, these apart, so that few of them are no
+// burden to all.
+fn find_crowded(order: &[u64], keys: &[u64], targets: &[u64], sizes: u64, spots: &mut [u64])
     requires { ⌜ 19464 ≤ length (now order) ⌝ }
+    requires { ⌜ 64 ≤ length (now keys) ⌝ }
+    requires { ⌜ 64 ≤ length (now targets) ⌝ }
+    requires { ⌜ 128 ≤ length (now spots) ⌝ }
+{
+    let mut few = [0u64; 64];
+    let mut rows = [0u64; 64];
+    let mut found = [0u64; 64];
+    let n = take_crowded(order, keys, targets, spots, &mut few, &mut rows);
+    if 40 < n {
+        find_far(order, targets, sizes, spots);
+        return;
+    }
+    find_near(order, targets, sizes, spots);
+    seek_seats(order, &few, n, &mut found, 0);
+    put_found(&rows, &found, n, spots, 64);
+}
+
+// The last seats before a list's end: where the targets' groups have few seats, from these on.
+fn find_seats(order: &[u64], end: u64, keys: &[u64], spots: &mut [u64])
+    requires { ⌜ 19464 ≤ length (now order) ⌝ }
+    requires { ⌜ 64 ≤ length (now keys) ⌝ }
     requires { ⌜ 128 ≤ length (now spots) ⌝ }
 {
     let mut targets = [0u64; 64];
     settle_numbers(order, spots);
     set_targets(spots, end, &mut targets);
-    let wide = enter_groups(order, &targets, spots);
-    if wide == 0 {
-        last_seats(order, &targets, spots);
+    let sizes = enter_groups(order, &targets, spots);
+    if sizes < 2 {
+        find_near(order, &targets, sizes, spots);
         return;
     }
-    if wide == 1 {
-        end_seats(order, &targets, spots);
-        return;
-    }
-    if wide == 3 {
-        find_far(order, &targets, spots);
-        return;
-    }
-    seek_seats(order, &targets, spots);
+    find_crowded(order, keys, &targets, sizes, spots);
 }
 
 // The same where no two places have one key: a key's seat has its number.
@@ -332,7 +458,7 @@ fn take_numbers(keys: &[u64], at: usize, spots: &mut [u64])
 // The numbers, from the 17 words at `hints` if they have this stamp, and into them if not. Who has no such words gives a place
 // that is not there.
 fn guess_numbers(order: &[u64], keys: &mut [u64], hints: usize, stamp: u64, spots: &mut [u64])
-    requires { ⌜ 19464 ≤ length (now order) ⌝ }
+    requires { ⌜ 23560 ≤ length (now order) ⌝ }
     requires { ⌜ 64 ≤ length (now keys) ⌝ }
     requires { ⌜ 64 ≤ hints ⌝ }
     requires { ⌜ hints ≤ 8192 ⌝ }
@@ -351,20 +477,21 @@ fn guess_numbers(order: &[u64], keys: &mut [u64], hints: usize, stamp: u64, spot
     put_numbers(spots, keys, hints, stamp);
 }
 
-fn guess_seats(order: &[u64], end: u64, spots: &mut [u64])
+fn guess_seats(order: &[u64], end: u64, keys: &[u64], spots: &mut [u64])
     requires { ⌜ 19464 ≤ length (now order) ⌝ }
+    requires { ⌜ 64 ≤ length (now keys) ⌝ }
     requires { ⌜ 128 ≤ length (now spots) ⌝ }
 {
     if order[16384] == order[16385] {
         take_seats(order, end, spots);
     } else {
-        find_seats(order, end, spots);
+        find_seats(order, end, keys, spots);
     }
 }
 
 /// Guesses for the first 64 keys and a list that ends at `end`. The first 64 keys stay.
 pub fn guess(order: &[u64], end: u64, keys: &mut [u64], hints: usize, stamp: u64, spots: &mut [u64])
-    requires { ⌜ 19464 ≤ length (now order) ⌝ }
+    requires { ⌜ 23560 ≤ length (now order) ⌝ }
     requires { ⌜ 64 ≤ length (now keys) ⌝ }
     requires { ⌜ 64 ≤ hints ⌝ }
     requires { ⌜ hints ≤ 8192 ⌝ }
@@ -372,5 +499,5 @@ pub fn guess(order: &[u64], end: u64, keys: &mut [u64], hints: usize, stamp: u64
     ensures { λ _. ⌜ ((j : ℕ) → j < 64 → getD (now (keys .exit)) j 0 ≡ getD (now (keys .entry)) j 0) ⌝ }
 {
     guess_numbers(order, keys, hints, stamp, spots);
-    guess_seats(order, end, spots);
+    guess_seats(order, end, keys, spots);
 }

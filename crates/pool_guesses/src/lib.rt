@@ -1,3 +1,2 @@
-// Guesses of where values stand in the order of the pool. Nothing is promised of them, so this crate has no must-fail edits, and
-// those of `pool_lists` prove less again.
+// Guesses of where values stand in the order of the pool. Nothing is promised of them: a wrong one costs time and no answer.
 pub mod guessing;

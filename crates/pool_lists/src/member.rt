@@ -149,7 +149,7 @@ fn find_any(
     requires { ⌜ hints ≤ 8192 ⌝ }
     ensures { λ r. ⌜ Finds (now (keys .entry)) 0 (valuesFrom (now (pool .entry)) start count) r ⌝ }
 {
-    if order.len() < 19464 {
+    if order.len() < 23560 {
         return find_keys(pool, order, start, count, keys, 0);
     }
     let mut spots = [0u64; 128];

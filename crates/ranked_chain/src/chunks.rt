@@ -229,7 +229,7 @@ fn judge_sorted(
         (now (values .entry)) (now (nulls .entry)) (now (records .entry)) (now (pool .entry)) (root .0) f
         → ClassesOf f (now (classes .exit)) (length (now (nulls .entry)))) ⌝ }
 {
-    let mut order = [0u64; 19464];
+    let mut order = [0u64; 23560];
     let mut truths = [0u64; 4096];
     let mut unknowns = [0u64; 4096];
     let mut keys = [0u64; 1920];
