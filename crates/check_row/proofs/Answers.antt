@@ -17,8 +17,8 @@ use Rattle.merge.specs.Minterms.{minterms}
 use Rattle.merge.specs.Plain.{plainScreen}
 use Rattle.merge.specs.Classify.{classify}
 use Rattle.merge.specs.Demand.{passes}
-use Rattle.stages.specs.Columns.{ColumnsBelow}
-use Rattle.stages.proofs.Screens.{node-columns}
+use Rattle.reading.specs.Columns.{ColumnsBelow}
+use Rattle.reading.proofs.Screens.{node-columns}
 use Rattle.places.specs.Places.{placesRow, placesOk}
 use Rattle.plain_lines.specs.Refusal.{checkedRefusal, refusalIf, plainRefusal, refusalIn, LinesIn}
 use Rattle.plain_lines.specs.declared.PlainLines.{PlainLines}

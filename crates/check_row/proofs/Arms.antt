@@ -12,7 +12,7 @@ use Rattle.read_operands.specs.Read.{saysIn, conjunctIn}
 use Rattle.read_operands.specs.declared.operands.Conjunct.{Conjunct}
 use Rattle.read_operands.specs.declared.operands.Conjunct.the-variants as conjunct
 use Rattle.read_operands.specs.declared.operands.Says.{Says}
-use Rattle.stages.specs.Columns.{ColumnsBelow}
+use Rattle.reading.specs.Columns.{ColumnsBelow}
 use Rattle.places.specs.Held.{placeIn}
 use Rattle.places.specs.declared.place.Place.{Place}
 use Rattle.check_row.specs.Line.{meetsAll, sameKeys, lineTrue}

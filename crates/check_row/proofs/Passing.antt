@@ -19,7 +19,7 @@ use Rattle.merge.proofs.PlainForms as forms
 use Rattle.merge.proofs.PlainForms.{plain-same}
 use Rattle.merge.proofs.Readings.{ReadsAs, classified-rightly, eq-mean}
 use Rattle.read_operands.specs.Walk.{walked, firstOf}
-use Rattle.stages.proofs.Screens.{minterms-walked, minterms-below, classify-used}
+use Rattle.reading.proofs.Screens.{minterms-walked, minterms-below, classify-used}
 use Rattle.check_row.specs.Line.{lineTrue, linesTrue, sameKeys}
 
 -- Two tests that hold together.

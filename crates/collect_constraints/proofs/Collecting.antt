@@ -27,8 +27,8 @@ use Rattle.column_table.specs.Words.{pastColumn}
 use Rattle.column_table.specs.State.{ColumnTable, Shows, Added, Entered, Keeps, Edges, Collects, collectTo, edgesOf}
 use Rattle.rewrite.proofs.Telling.{fine-same}
 use Rattle.read_operands.proofs.Walks.{first-length}
-use Rattle.stages.specs.Rows.{stride, rowOf, RowsKept}
-use Rattle.stages.proofs.Lending.{rows-same}
+use Rattle.column_table.specs.Rows.{stride, rowOf, RowsKept}
+use Rattle.column_table.proofs.Lending.{rows-same}
 use Rattle.column_table.proofs.Arrays.{entered-more, shows-set, keeps-more, edges-more, low-slot}
 
 -- ---- the conjuncts one by one

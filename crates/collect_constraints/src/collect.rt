@@ -13,8 +13,8 @@ ghost use Rattle.merge.specs.Collect as d;
 ghost use Rattle.merge.specs.Lines.{mapConjunct};
 ghost use Rattle.read_operands.specs.Read.{saysIn};
 ghost use Rattle.rewrite.specs.Told.{Told, ToldConjunct};
-ghost use Rattle.stages.specs.Columns.{ColumnsBelow};
-ghost use Rattle.stages.specs.Rows.{stride};
+ghost use Rattle.reading.specs.Columns.{ColumnsBelow};
+ghost use Rattle.column_table.specs.Rows.{stride};
 ghost use Rattle.column_table.specs.Words.{pastColumn, columnsOf};
 ghost use Rattle.collect_constraints.specs.NullLines.{isRequired, NullLines, NullKept};
 ghost use Rattle.column_table.specs.State.{ColumnTable, Shows, Fits, Entered, Added, Collects, collectTo};
@@ -22,15 +22,15 @@ use column_constraints::column::ColumnConstraints;
 use column_constraints::column::require_nullability;
 use column_table::cells::load;
 use column_table::cells::store;
+use column_table::fields::bump;
+use column_table::fields::slot;
+use column_table::rows::add_in_row;
 use constraints::column::Nullability;
 use read_operands::operands::Conjunct;
 use read_operands::operands::Says;
 use reading::classify::classify;
 use records::record::Column;
 use records::record::Node;
-use stages::fields::bump;
-use stages::fields::slot;
-use stages::rows::add_in_row;
 
 /// How many columns entered, nodes are kept, equalities there are, conjuncts were bounds; whether one of these was a
 /// negation; whether a conjunct made its column impossible.

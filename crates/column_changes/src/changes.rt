@@ -4,22 +4,23 @@ ghost use mathlib.Core.Bool.{true, false, not};
 ghost use Prim.Native.Nat.{ℕ, _+_, _^_, _<_};
 ghost use lib.ListN.{getD};
 ghost use Rattle.records.specs.Bytes.{valueAt};
-ghost use Rattle.constraints.specs.Values.{subset};
+ghost use Rattle.constraints.specs.Values.{contains, subset};
 ghost use Rattle.constraints.specs.Column as q;
 ghost use Rattle.constraints.specs.Resolve.{isFeasible, anyFeasible, allowedFeasible};
 ghost use Rattle.constraints.specs.Payload.{payload};
 ghost use Rattle.constraints.specs.Lined.{lined};
 ghost use Rattle.column_constraints.specs.Abstraction.{Conjuncts, conjuncts, numbered, columnOf, listOf};
 ghost use Rattle.column_constraints.specs.Abstraction.{literalAt, valuesOf};
-ghost use Rattle.column_constraints.specs.Abstraction.{allowedBy, disallowedBy};
+ghost use Rattle.column_constraints.specs.Abstraction.{excludedBy, allowedBy, disallowedBy};
 ghost use Rattle.column_sets.specs.Index.{Indexed, Low, KindSet};
-ghost use Rattle.column_constraints.specs.Steps.{Lists, outside, anyOf, changesIn};
+ghost use Rattle.column_constraints.specs.Steps.{Lists, outside, anyOf, anyOfKind, changesIn};
 use column_constraints::bound::clears_lower;
 use column_constraints::bound::clears_upper;
 use column_constraints::column::ColumnConstraints;
 use column_sets::marks::allows_at;
 use column_sets::marks::disallows_at;
 use column_sets::marks::excludes;
+use column_sets::marks::has_kind;
 use column_sets::marks::has_mark;
 use column_sets::marks::kind_set;
 use column_sets::marks::listed_at;
@@ -233,6 +234,25 @@ pub fn disallowed_changes(
 
 // ---- feasible values
 
+// Is v an excluded value; `excluding`: some number excludes one. Most columns with lists have none.
+fn excludes_if(
+    excluding: bool,
+    kinds: &[u8],
+    values: &[u64],
+    marks: &[u8],
+    n: usize,
+    v: Scalar,
+) -> bool
+    requires { ⌜ excluding ≡ anyOfKind (now kinds) 0 (now marks) n ⌝ }
+    ensures { λ r. ⌜ r ≡ contains lined (payload .key (v .0)) (excludedBy (now (kinds .entry)) (now (values .entry))
+        (now (marks .entry)) n) ⌝ }
+{
+    if !excluding {
+        return false;
+    }
+    excludes(kinds, values, marks, n, v)
+}
+
 /// Does the value at place p survive the bounds and the three sets.
 fn is_feasible(
     index: &[u64],
@@ -244,12 +264,14 @@ fn is_feasible(
     marks: &[u8],
     allowed: &[u64],
     disallowed: &[u64],
+    excluding: bool,
     c: ColumnConstraints,
     p: usize,
 ) -> bool
     requires { ⌜ Indexed (now starts) (now counts) (now pool) (now index) × (p < 2 ^ 34) ⌝ }
     requires { ⌜ Low (now marks) (c .len) × KindSet (now kinds) 1 (now marks) (c .len) (now allowed)
         × KindSet (now kinds) 2 (now marks) (c .len) (now disallowed) ⌝ }
+    requires { ⌜ excluding ≡ anyOfKind (now kinds) 0 (now marks) (c .len) ⌝ }
     ensures { λ r. ⌜ r ≡ isFeasible lined (columnOf (conjuncts (now (kinds .entry)) (now (values .entry))
         (now (starts .entry)) (now (counts .entry)) (now (pool .entry))) (numbered (now (marks .entry)) c))
         (payload .key (valueAt (now (pool .entry)) p)) ⌝ }
@@ -263,7 +285,7 @@ fn is_feasible(
     if !clears_upper(upp, v) {
         return false;
     }
-    if excludes(kinds, values, marks, c.len, v) {
+    if excludes_if(excluding, kinds, values, marks, c.len, v) {
         return false;
     }
     if !allows_at(index, kinds, starts, counts, pool, marks, c.len, allowed, p) {
@@ -301,6 +323,7 @@ fn any_feasible(
 {
     let allowed = kind_set(kinds, marks, c.len, 1);
     let disallowed = kind_set(kinds, marks, c.len, 2);
+    let excluding = has_kind(kinds, marks, c.len, 0);
     let s = number_at(starts, f as usize) as usize;
     let m = number_at(counts, f as usize) as usize;
     let mut i: usize = 0;
@@ -315,6 +338,7 @@ fn any_feasible(
             marks,
             &allowed,
             &disallowed,
+            excluding,
             c,
             s + i,
         ) {

@@ -1,5 +1,5 @@
 // The reasons of one column's comparisons as text: document 02, 2.6. Its places are gone through as where the comparisons
-// are written out (crate stages, emit); how long the text is comes before its first byte. t is the column table, `text` the
+// are written out (crate rewrite, emit); how long the text is comes before its first byte. t is the column table, `text` the
 // text pool.
 ghost use mathlib.Core.Path.{_≡_};
 ghost use mathlib.Core.List.{List};

@@ -17,7 +17,7 @@ use Rattle.column_constraints.specs.declared.column.ColumnConstraints.{ColumnCo
 use Rattle.merge.specs.Collect.{isIn, enter, update}
 use Rattle.read_operands.specs.Walk.{firstOf}
 use Rattle.read_operands.proofs.Walks.{first-kept, first-more}
-use Rattle.stages.specs.Rows.{stride, rowOf, RowsKept}
+use Rattle.column_table.specs.Rows.{stride, rowOf, RowsKept}
 use Rattle.column_table.specs.Words.{pastColumn, columnsOf}
 use Rattle.column_table.proofs.Encoding.{columns-size}
 use Rattle.column_table.specs.State.{columnAt, Shows, Fits, Entered, Keeps, Edges, edgesOf}

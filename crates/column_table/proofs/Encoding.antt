@@ -15,7 +15,7 @@ use Rattle.column_constraints.specs.declared.bound.Limit.{Limit}
 use Rattle.column_constraints.specs.declared.bound.Bound.{Bound}
 use Rattle.column_constraints.specs.declared.bound.Bound.the-variants.{Absent, Open, Closed}
 use Rattle.column_constraints.specs.declared.column.ColumnConstraints.{ColumnConstraints}
-use Rattle.stages.specs.Rows.{stride, rowOf, RowsKept}
+use Rattle.column_table.specs.Rows.{stride, rowOf, RowsKept}
 use Rattle.column_table.specs.Words.{pastColumn, kindWord, valueWord, lineWord, nullWord, flagWord, boundFrom, nullFrom}
 use Rattle.column_table.specs.Words.{columnFrom, wordsOf, columnsTo, columnsOf, limitLines, LineFits, limitFrom}
 

@@ -1,4 +1,5 @@
 pub mod Arrays
 pub mod Encoding
+pub mod Lending
 pub mod Propagating
 pub mod Resolving

@@ -7,24 +7,18 @@ use mathlib.Core.List.{List, [], _∷_, _++_}
 use Prim.Native.Nat.{ℕ, zero, suc, _+_, _-_, _<_, _≤_, _%_}
 use native.Mathlib.Omega.{arith}
 use native.Mathlib.Numerals.{add-one}
-use lib.ListN.{length, getD, set, length-set}
-use lib.Seq.{getD-set-same, getD-set-other}
+use lib.ListN.{getD}
 use lib.Dec.{ltb, eqb}
-use borrow.Author.Tests.{eq-eqb, ne-eqb, eqb-true, eqb-false, lt-ltb, ltb-false}
-use Rattle.records.proofs.Laws.{by-test, cond-yes}
+use borrow.Author.Tests.{eq-eqb, lt-ltb, ltb-false}
 use Rattle.constraints.specs.Column as q
-use Rattle.constraints.specs.Column.{mergeFrom, mergeEmitted, mergeAny}
-use Rattle.constraints.specs.Lined.{Lined, lined}
+use Rattle.constraints.specs.Lined.{lined}
 use Rattle.constraints.specs.Values.{isEmpty}
-use Rattle.column_constraints.specs.Abstraction.{Conjuncts, numbered, columnOf, Fine}
+use Rattle.column_constraints.specs.Abstraction.{Conjuncts}
 use Rattle.column_constraints.specs.declared.column.ColumnConstraints.{ColumnConstraints}
-use Rattle.merge.specs.Collect.{update}
-use Rattle.merge.specs.Propagate.{mergedRight, mergedLeft, mergeEdge, edgeAny, edgeEmitted, pass, passAny, passEmitted}
+use Rattle.merge.specs.Propagate.{mergeEdge, edgeAny, edgeEmitted, pass, passAny, passEmitted}
 use Rattle.merge.specs.Propagate.{propagate, propagateEmitted}
-use Rattle.stages.specs.Rows.{stride, rowOf, RowsKept}
-use Rattle.column_table.specs.Words.{pastColumn, columnsOf}
-use Rattle.column_table.specs.State.{columnAt, ColumnTable, Shows, Fits, edgesOf, EdgeMerged, EdgesMerged, Passed, Spread}
-use Rattle.column_table.proofs.Arrays.{shows-set, low-slot}
+use Rattle.column_table.specs.State.{ColumnTable, Shows, edgesOf, EdgeMerged, EdgesMerged, Passed, Spread}
+use Rattle.column_table.proofs.Arrays.{low-slot}
 
 -- ---- an edge: its two columns are one
 pub edge-self : (t : Conjuncts) (table : List ColumnConstraints) (ms : List ℕ) (T : ColumnTable) (a b x y : ℕ) → Shows t table ms T
@@ -36,77 +30,6 @@ edge-self t table ms T a b x y S la lb ex ey h =
       emits = sym (ap (λ o. edgeEmittedIf lined o a b T) e);
       changes = sym (ap (λ o. edgeAnyIf lined o a b T) e);
     }
-
--- the two columns merged both ways: f is the right one as it becomes, g the left one; the tables and rows then
-at-two : (t : Conjuncts) (table : List ColumnConstraints) (ms ms₁ ms₂ : List ℕ) (T : ColumnTable) (a b : ℕ)
-    (f g : ColumnConstraints) (em en an ao : Bool) → Shows t table ms T → a < 64 → b < 64 → (a ≡ b → ⊥)
-    → columnOf t (numbered (rowOf ms₁ b) f) ≡
-    mergeFrom lined (columnOf t (columnAt table ms b)) (columnOf t (columnAt table ms a))
-    → em ≡ mergeEmitted lined (columnOf t (columnAt table ms b)) (columnOf t (columnAt table ms a))
-    → an ≡ mergeAny lined (columnOf t (columnAt table ms b)) (columnOf t (columnAt table ms a))
-    → Fine (stride ms₁) (rowOf ms₁ b) (f .len) → RowsKept ms ms₁ b
-    → columnOf t (numbered (rowOf ms₂ a) g) ≡
-    mergeFrom lined (columnOf t (columnAt table ms₁ a)) (columnOf t (numbered (rowOf ms₁ b) f))
-    → en ≡ mergeEmitted lined (columnOf t (columnAt table ms₁ a)) (columnOf t (numbered (rowOf ms₁ b) f))
-    → ao ≡ mergeAny lined (columnOf t (columnAt table ms₁ a)) (columnOf t (numbered (rowOf ms₁ b) f))
-    → Fine (stride ms₂) (rowOf ms₂ a) (g .len) → RowsKept ms₁ ms₂ a
-    → EdgeMerged t (set (set table b f) a g) ms₂ a b (em || en) (an || ao) T
-at-two t table ms ms₁ ms₂ T a b f g em en an ao S la lb h ec fe fa fc K ed ge ga fd L =
-    let n : (b ≡ a → ⊥) = λ k. h (sym k) in
-    let sa : columnOf t (columnAt table ms a) ≡ T a = S .column a la in
-    let sb : columnOf t (columnAt table ms b) ≡ T b = S .column b lb in
-    let sc : columnOf t (columnAt table ms₁ a) ≡ T a =
-    ap (λ r. columnOf t (numbered r (getD table a pastColumn))) (K .others a la (ne-eqb b a n)) ∙ sa in
-    let right : columnOf t (numbered (rowOf ms₁ b) f) ≡ mergedRight lined a b T =
-    ec ∙ ap (λ x. mergeFrom lined x (columnOf t (columnAt table ms a))) sb
-    ∙ ap (mergeFrom lined (T b)) sa in
-    let left : columnOf t (numbered (rowOf ms₂ a) g) ≡ mergedLeft lined a b T =
-    ed ∙ ap (λ x. mergeFrom lined x (columnOf t (numbered (rowOf ms₁ b) f))) sc
-    ∙ ap (mergeFrom lined (T a)) right in
-    let e : eqb a b ≡ false = ne-eqb a b h in
-    record {
-      shows = subst (λ o. Shows t (set (set table b f) a g) ms₂ (mergeEdgeIf lined o a b T)) (sym e)
-          (shows-set t (set table b f) ms₁ ms₂ (update T b (mergedRight lined a b T)) a g (mergedLeft lined a b T)
-          (shows-set t table ms ms₁ T b f (mergedRight lined a b T) S lb K right fc) la L left fd);
-      emits = ap (λ x. x || en) (fe ∙ ap (λ x. mergeEmitted lined x (columnOf t (columnAt table ms a))) sb
-          ∙ ap (mergeEmitted lined (T b)) sa)
-          ∙ ap (λ x. mergeEmitted lined (T b) (T a) || x)
-          (ge ∙ ap (λ x. mergeEmitted lined x (columnOf t (numbered (rowOf ms₁ b) f))) sc
-          ∙ ap (mergeEmitted lined (T a)) right)
-          ∙ sym (ap (λ o. edgeEmittedIf lined o a b T) e);
-      changes = ap (λ x. x || ao) (fa ∙ ap (λ x. mergeAny lined x (columnOf t (columnAt table ms a))) sb
-          ∙ ap (mergeAny lined (T b)) sa)
-          ∙ ap (λ x. mergeAny lined (T b) (T a) || x)
-          (ga ∙ ap (λ x. mergeAny lined x (columnOf t (numbered (rowOf ms₁ b) f))) sc
-          ∙ ap (mergeAny lined (T a)) right)
-          ∙ sym (ap (λ o. edgeAnyIf lined o a b T) e);
-    }
-
--- the same, as the code has it: x and y are the places, c and d the columns loaded, table₁ and table₂ what is stored
-pub edge-two : (t : Conjuncts) (table table₁ table₂ : List ColumnConstraints) (ms ms₁ ms₂ : List ℕ) (T : ColumnTable)
-    (a b x y : ℕ) (c d f g : ColumnConstraints) (em en an ao : Bool) → Shows t table ms T → a < 64 → b < 64
-    → x ≡ a % 64 → y ≡ b % 64 → (x ≡ y → ⊥) → c ≡ getD table x pastColumn → d ≡ getD table y pastColumn
-    → (columnOf t (numbered (rowOf ms₁ y) f) ≡
-    mergeFrom lined (columnOf t (numbered (rowOf ms y) d)) (columnOf t (numbered (rowOf ms x) c)))
-    × (em ≡ mergeEmitted lined (columnOf t (numbered (rowOf ms y) d)) (columnOf t (numbered (rowOf ms x) c)))
-    × (an ≡ mergeAny lined (columnOf t (numbered (rowOf ms y) d)) (columnOf t (numbered (rowOf ms x) c)))
-    → Fine (stride ms₁) (rowOf ms₁ y) (f .len) → RowsKept ms ms₁ y → table₁ ≡ set table y f
-    → (columnOf t (numbered (rowOf ms₂ x) g) ≡
-    mergeFrom lined (columnOf t (numbered (rowOf ms₁ x) c)) (columnOf t (numbered (rowOf ms₁ y) f)))
-    × (en ≡ mergeEmitted lined (columnOf t (numbered (rowOf ms₁ x) c)) (columnOf t (numbered (rowOf ms₁ y) f)))
-    × (ao ≡ mergeAny lined (columnOf t (numbered (rowOf ms₁ x) c)) (columnOf t (numbered (rowOf ms₁ y) f)))
-    → Fine (stride ms₂) (rowOf ms₂ x) (g .len) → RowsKept ms₁ ms₂ x → table₂ ≡ set table₁ x g
-    → EdgeMerged t table₂ ms₂ a b (em || en) (an || ao) T
-edge-two t table table₁ table₂ ms ms₁ ms₂ T a b x y c d f g em en an ao S la lb ex ey h hc hd ec fc K h₁ ed fd L h₂ =
-    let p : x ≡ a = low-slot a x la ex in
-    let r : y ≡ b = low-slot b y lb ey in
-    let pc : c ≡ getD table a pastColumn = hc ∙ ap (λ z. getD table z pastColumn) p in
-    let pd : d ≡ getD table b pastColumn = hd ∙ ap (λ z. getD table z pastColumn) r in
-    let e₂ : table₂ ≡ set (set table b f) a g = h₂ ∙ rw (h₁, p, r) in
-    subst (λ u. EdgeMerged t u ms₂ a b (em || en) (an || ao) T) (sym e₂)
-    (at-two t table ms ms₁ ms₂ T a b f g em en an ao S la lb (λ k. h (p ∙ k ∙ sym r))
-    (rw (p, r, pc, pd) at (ec .0)) (rw (p, r, pc, pd) at (ec .1)) (rw (p, r, pc, pd) at (ec .2)) (rw r at fc) (rw r at K)
-    (rw (p, r, pc) at (ed .0)) (rw (p, r, pc) at (ed .1)) (rw (p, r, pc) at (ed .2)) (rw p at fd) (rw p at L))
 
 -- ---- an edge behind the others
 pub or-assoc : (x y z : Bool) → (x || (y || z)) ≡ ((x || y) || z)

@@ -25,10 +25,10 @@ use Rattle.merge.specs.Collect.{isIn, update}
 use Rattle.merge.specs.Emit.{ofColumn, anyUnsat, comparisons}
 use Rattle.merge.specs.Write.{writeComparison, writeComparisons}
 use Rattle.read_operands.specs.Walk.{firstOf}
-use Rattle.stages.specs.Rows.{stride, rowOf, RowsKept}
+use Rattle.column_table.specs.Rows.{stride, rowOf, RowsKept}
 use Rattle.column_table.specs.Words.{pastColumn}
 use Rattle.column_table.specs.State.{columnAt, ColumnTable, Shows, resolveAll, resolvedIn, Resolved, shown, bitsOf, Written}
-use Rattle.stages.proofs.Emitting.{of-column-length, write-append}
+use Rattle.rewrite.proofs.Emitting.{of-column-length, write-append}
 use Rattle.column_table.proofs.Arrays.{shows-set, is-in-snoc, low-slot}
 use Rattle.column_table.proofs.Propagating.{or-assoc}
 

@@ -19,7 +19,7 @@ use Rattle.merge.specs.Passes.{passTimes, passCount, passesMade}
 use Rattle.merge.specs.Propagate.{mergeEdge, edgeAny, edgeEmitted, pass, passAny, passEmitted, propagate, propagateEmitted}
 use Rattle.merge.specs.Write.{writeComparisons}
 use Rattle.read_operands.specs.Walk.{firstOf}
-use Rattle.stages.specs.Rows.{stride, rowOf}
+use Rattle.column_table.specs.Rows.{stride, rowOf}
 use Rattle.column_table.specs.Words.{pastColumn, columnsOf}
 
 -- The table of merging, of values of 64 bits with their lines.

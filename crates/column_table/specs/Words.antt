@@ -10,7 +10,7 @@ use Rattle.column_constraints.specs.declared.bound.Limit.{Limit}
 use Rattle.column_constraints.specs.declared.bound.Bound.{Bound}
 use Rattle.column_constraints.specs.declared.bound.Bound.the-variants.{Absent, Open, Closed}
 use Rattle.column_constraints.specs.declared.column.ColumnConstraints.{ColumnConstraints}
-use Rattle.stages.specs.Rows.{rowOf}
+use Rattle.column_table.specs.Rows.{rowOf}
 
 -- What a read past an array of columns gives: the empty column.
 abbrev pub pastColumn : ColumnConstraints

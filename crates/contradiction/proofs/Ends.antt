@@ -31,7 +31,7 @@ use Rattle.merge.proofs.ReadBack.{AsRead}
 use Rattle.merge.proofs.Witness.{HalfPoints}
 use Rattle.read_operands.specs.Walk.{firstOf}
 use Rattle.read_operands.proofs.Walks.{first-length}
-use Rattle.stages.specs.Columns.{ColumnsBelow}
+use Rattle.reading.specs.Columns.{ColumnsBelow}
 use Rattle.column_table.specs.State.{collectTo, resolveAll}
 use Rattle.contradiction.specs.Labels.{linesTo, labelAt, Labels, told, toldTo, dead}
 use Rattle.contradiction.proofs.Labelling.{lines-none, lines-step, lines-front, low-place, place-low}

@@ -16,7 +16,7 @@ use Rattle.merge.specs.Lines.{mapConjunct, linesFrom}
 use Rattle.merge.proofs.Passes.{eqb-path, eqb-self}
 use Rattle.read_operands.specs.Walk.{firstOf}
 use Rattle.read_operands.proofs.Walks.{first-length}
-use Rattle.stages.specs.Columns.{ColumnsBelow}
+use Rattle.reading.specs.Columns.{ColumnsBelow}
 use Rattle.contradiction.specs.Labels.{linesTo, renamed, labelAt, Joins, OneAt, AllAtOne, Labels}
 
 -- ---- The lines one by one.

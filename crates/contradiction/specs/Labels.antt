@@ -18,7 +18,7 @@ use Rattle.merge.specs.Collect.{Table, Collected, addTo, requireNonNull}
 use Rattle.merge.specs.Emit.{anyUnsat, resolved}
 use Rattle.merge.specs.Lines.{linesFrom}
 use Rattle.read_operands.specs.Walk.{firstOf}
-use Rattle.stages.specs.Rows.{stride, rowOf}
+use Rattle.column_table.specs.Rows.{stride, rowOf}
 use Rattle.column_table.specs.Words.{pastColumn}
 use Rattle.column_table.specs.State.{ColumnTable, Shows}
 

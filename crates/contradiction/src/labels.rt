@@ -5,13 +5,13 @@ ghost use Prim.Native.Nat.{ℕ, _<_, _≤_};
 ghost use lib.ListN.{length, getD};
 ghost use Rattle.truth.specs.FromBytes.{aexprOf};
 ghost use Rattle.merge.specs.Classify as c;
-ghost use Rattle.stages.specs.Columns.{ColumnsBelow};
+ghost use Rattle.reading.specs.Columns.{ColumnsBelow};
 ghost use Rattle.contradiction.specs.Labels.{linesTo, renamed, labelAt, Joins, Labels};
+use column_table::fields::slot;
 use read_operands::operands::Conjunct;
 use reading::classify::classify;
 use records::record::Column;
 use records::record::Node;
-use stages::fields::slot;
 
 /// Each column under its own number.
 pub fn number_columns(labels: &mut [u32])

@@ -12,8 +12,8 @@ ghost use Rattle.column_constraints.specs.Abstraction.{conjuncts};
 ghost use Rattle.column_sets.specs.Index.{Indexed};
 ghost use Rattle.merge.specs.Classify.{classify};
 ghost use Rattle.rewrite.specs.Told.{ToldConjunct};
-ghost use Rattle.stages.specs.Columns.{ColumnsBelow};
-ghost use Rattle.stages.specs.Rows.{stride};
+ghost use Rattle.reading.specs.Columns.{ColumnsBelow};
+ghost use Rattle.column_table.specs.Rows.{stride};
 ghost use Rattle.column_table.specs.State.{collectTo};
 ghost use Rattle.contradiction.specs.Labels.{dead};
 

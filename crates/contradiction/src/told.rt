@@ -12,22 +12,22 @@ ghost use Rattle.merge.specs.Collect as d;
 ghost use Rattle.merge.specs.Lines.{mapConjunct};
 ghost use Rattle.read_operands.specs.Read.{saysIn};
 ghost use Rattle.rewrite.specs.Told.{Told, ToldConjunct};
-ghost use Rattle.stages.specs.Columns.{ColumnsBelow};
-ghost use Rattle.stages.specs.Rows.{stride};
+ghost use Rattle.reading.specs.Columns.{ColumnsBelow};
+ghost use Rattle.column_table.specs.Rows.{stride};
 ghost use Rattle.column_table.specs.Words.{pastColumn, columnsOf};
 ghost use Rattle.column_table.specs.State.{ColumnTable, Shows, Fits, Added};
 ghost use Rattle.contradiction.specs.Labels.{labelAt, tellOne, Tells, ToldLines};
 use column_constraints::column::require_nullability;
 use column_table::cells::load;
 use column_table::cells::store;
+use column_table::fields::slot;
+use column_table::rows::add_in_row;
 use constraints::column::Nullability;
 use read_operands::operands::Conjunct;
 use read_operands::operands::Says;
 use reading::classify::classify;
 use records::record::Column;
 use records::record::Node;
-use stages::fields::slot;
-use stages::rows::add_in_row;
 
 fn label_of(labels: &[u32], a: Column) -> Column
     requires { ⌜ length (now labels) ≡ 64 ⌝ }

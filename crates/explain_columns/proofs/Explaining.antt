@@ -19,7 +19,7 @@ use Rattle.merge.specs.Write.{splice}
 use Rattle.merge.proofs.Splices.{splice-then}
 use Rattle.read_operands.specs.Walk.{firstOf}
 use Rattle.reasons.specs.Text.{reasonText, reasonsText}
-use Rattle.stages.specs.Rows.{rowOf}
+use Rattle.column_table.specs.Rows.{rowOf}
 use Rattle.column_table.specs.State.{ColumnTable, columnAt, shown}
 use Rattle.column_table.specs.Words.{pastColumn}
 use Rattle.column_table.proofs.Arrays.{low-slot}

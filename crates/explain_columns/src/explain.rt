@@ -11,15 +11,15 @@ ghost use Rattle.column_reasons.specs.ColumnText.{columnText, tableText};
 ghost use Rattle.merge.specs.Reasons.{shownIn};
 ghost use Rattle.merge.specs.Write.{splice};
 ghost use Rattle.read_operands.specs.Walk.{firstOf};
-ghost use Rattle.stages.specs.Rows.{stride, rowOf};
+ghost use Rattle.column_table.specs.Rows.{stride, rowOf};
 ghost use Rattle.column_table.specs.Words.{columnsOf};
 ghost use Rattle.column_table.specs.State.{Fits, shown};
 use column_constraints::column::ColumnConstraints;
 use column_reasons::column_length;
 use column_reasons::write_column_reasons;
 use column_table::cells::load;
+use column_table::fields::slot;
 use records::record::Column;
-use stages::fields::slot;
 
 /// How many bytes the reasons of the column c in row x have.
 fn row_length(

@@ -5,10 +5,10 @@ ghost use mathlib.Core.Bool.{true};
 ghost use Prim.Native.Nat.{ℕ, _+_, _<_, _≤_};
 ghost use lib.ListN.{length, getD};
 use column_sets::marks::number_at;
+use column_table::fields::bump;
 use read_operands::operands::Conjunct;
 use reading::classify::classify_by_record;
 use records::record::Node;
-use stages::fields::bump;
 
 fn is_equality(k: Conjunct) -> bool {
     match k {

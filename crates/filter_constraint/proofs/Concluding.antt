@@ -30,20 +30,20 @@ use Rattle.merge.specs.declared.answer.RewriteAnswer.the-variants as answer
 use Rattle.read_operands.specs.Walk.{firstOf}
 use Rattle.rewrite.specs.Written.{chainAt, andsTo}
 use Rattle.reckoning.specs.Reckon.{reckoned, reckonedAnswer}
-use Rattle.stages.specs.Rewritten.{isRewritten}
-use Rattle.stages.specs.Rows.{stride, rowOf}
+use Rattle.reckoning.specs.Rewritten.{isRewritten}
+use Rattle.column_table.specs.Rows.{stride, rowOf}
 use Rattle.column_table.specs.State.{columnAt, ColumnTable, Shows, Entered, Keeps, Edges, edgesOf, Collects, collectTo}
 use Rattle.column_table.specs.Words.{pastColumn}
 use Rattle.column_table.specs.State.{Spread, Kept, resolveAll, resolvedIn, Resolved, shown, bitsOf, Written}
-use Rattle.stages.proofs.Answers.{chain-written, chain-unwritten}
+use Rattle.reckoning.proofs.Answers.{chain-written, chain-unwritten}
 use Rattle.merge.specs.Lines.{mapOutcome}
 use Rattle.merge.proofs.Compared.{rebuilt-compares}
 use Rattle.merge.proofs.Carried.{carried, carried-passes}
 use Rattle.filter_constraint.specs.Concluded.{linedTo, Concluded}
 use Rattle.read_operands.proofs.Walks.{first-length}
 use Rattle.column_table.proofs.Arrays.{low-slot}
-use Rattle.stages.proofs.Chains.{chain-bytes, chain-not-empty}
-use Rattle.stages.proofs.Reckons.{ChainRoom, rewritten-room}
+use Rattle.reckoning.proofs.Chains.{chain-bytes, chain-not-empty}
+use Rattle.reckoning.proofs.Reckons.{ChainRoom, rewritten-room}
 use Rattle.column_table.proofs.Resolving.{comparisons-more, comparisons-upto, comparisons-agree, in-first, same-comparisons}
 use Rattle.column_table.proofs.Resolving.{bits-length}
 

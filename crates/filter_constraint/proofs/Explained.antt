@@ -21,7 +21,7 @@ use Rattle.read_operands.specs.Walk.{firstOf}
 use Rattle.reasons.specs.Explained.{refuseLong, textIf, lengthIf}
 use Rattle.reasons.specs.Text.{reasonsText}
 use Rattle.reckoning.specs.Reckon.{roomFor, reckoned, reckonedAnswer}
-use Rattle.stages.specs.Rewritten.{isRewritten}
+use Rattle.reckoning.specs.Rewritten.{isRewritten}
 use Rattle.filter_constraint.specs.Explained.{nodesText}
 use Rattle.column_constraints.specs.Abstraction.{Conjuncts, conjuncts}
 use Rattle.column_table.specs.State.{ColumnTable, Fits, shown, bitsOf}

@@ -17,10 +17,10 @@ ghost use Rattle.column_table.specs.State.{Fits, shown, bitsOf};
 use explain_columns::explain::reasons_length;
 use explain_columns::explain::write_reasons;
 use merge::answer::RewriteAnswer;
+use reckoning::reckon::is_rewritten;
 use reckoning::reckon::rebuilt_answer;
 use resolve_columns::conclude::write_comparisons;
 use rewrite::write::write_ands;
-use stages::fields::is_rewritten;
 
 /// The answer for a rebuilt chain, and how many bytes the text of its reasons has.
 pub struct Rebuilding {

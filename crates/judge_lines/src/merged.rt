@@ -8,8 +8,8 @@ ghost use Rattle.column_sets.specs.Index.{Indexed};
 ghost use Rattle.merge.specs.Classify.{classify};
 ghost use Rattle.read_operands.specs.Walk.{firstOf};
 ghost use Rattle.rewrite.specs.Told.{ToldConjunct};
-ghost use Rattle.stages.specs.Columns.{ColumnsBelow};
-ghost use Rattle.stages.specs.Rows.{stride};
+ghost use Rattle.reading.specs.Columns.{ColumnsBelow};
+ghost use Rattle.column_table.specs.Rows.{stride};
 ghost use Rattle.judge_lines.specs.Lines.{nothingPasses};
 use contradiction::contradict;
 

@@ -35,8 +35,8 @@ use Rattle.filter_constraint.specs.Explained.{nodesText}
 use Rattle.merge_conjuncts.specs.Merged.{mergedNodes, MergedNodes}
 use Rattle.read_operands.specs.Walk.{walked, firstOf}
 use Rattle.reckoning.specs.Reckon.{reckonedAnswer}
-use Rattle.stages.proofs.Answers.{walkedOutcome, rewrite-on}
-use Rattle.stages.proofs.Screens.{nodes-count, conjuncts-used}
+use Rattle.reckoning.proofs.Answers.{walkedOutcome, rewrite-on}
+use Rattle.reading.proofs.Screens.{nodes-count, conjuncts-used}
 
 -- The table of an accepted screen has no Text column where no text pool is lent, so every value is shown as a number.
 no-symbols : (t : List ℕ) → tableOkIn 0 t ≡ true → shownIn t [] ≡ asNumber

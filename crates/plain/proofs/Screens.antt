@@ -27,7 +27,7 @@ use Rattle.merge.specs.Classify.{classify}
 use Rattle.merge.specs.Plain.{readsStep, readsColumn, isNumberColumn, readsOnlyNumbers, plainConjunct, plainConjuncts, plainScreen}
 use Rattle.merge.proofs.Chains.{Below}
 use Rattle.read_operands.specs.Walk.{walked, firstOf}
-use Rattle.stages.proofs.Screens.{minterms-walked, minterms-below, classify-used}
+use Rattle.reading.proofs.Screens.{minterms-walked, minterms-below, classify-used}
 use Rattle.plain.proofs.Readings.{isNot, readPlain, plain-read}
 
 eqb-swap : (a b : ℕ) → eqb a b ≡ eqb b a

@@ -18,7 +18,7 @@ use Rattle.truth.specs.FromBytes.{aexprAt}
 use Rattle.merge.specs.Minterms.{minterms}
 use Rattle.merge.specs.Plain.{plainScreen}
 use Rattle.read_operands.specs.Walk.{walked}
-use Rattle.stages.proofs.Screens.{minterms-walked}
+use Rattle.reading.proofs.Screens.{minterms-walked}
 use Rattle.plain_lines.specs.Refusal.{checkedRefusal, refusalIf, plainRefusal}
 
 -- A screen that is refused in checking is refused.

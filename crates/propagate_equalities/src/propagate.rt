@@ -11,12 +11,13 @@ ghost use Rattle.column_sets.specs.Index.{Indexed};
 ghost use Rattle.column_table.specs.Words.{columnsOf, pastColumn};
 ghost use Rattle.column_table.specs.State.{ColumnTable, Shows, Fits, EdgesBelow, edgesOf, EdgeMerged, EdgesMerged, Spread};
 ghost use Rattle.column_table.specs.State.{shown};
+ghost use Rattle.propagate_equalities.specs.Taken.{TakenIn};
 ghost use Rattle.propagate_equalities.specs.Quiet.{QuietUnless, QuietEdges, Noted};
 use column_table::cells::load;
 use column_table::cells::store;
+use column_table::fields::slot;
+use column_table::rows::merge_rows;
 use records::record::Column;
-use stages::fields::slot;
-use stages::rows::merge_rows;
 
 /// Whether anything that is written out was propagated, and whether anything was.
 pub struct Moved {
@@ -34,6 +35,51 @@ pub struct Swept {
 pub struct Propagated {
     pub emitted: bool,
     pub passes: usize,
+}
+
+// The column at x takes in what the one at y says. Both are loaded here: a column that crosses a call is copied with the seven
+// bytes between a bound's tag and its value, as two words that overlap, and loading these waits for both to be stored.
+fn take_in(
+    index: &[u64],
+    kinds: &[u8],
+    values: &[u64],
+    starts: &[u32],
+    counts: &[u32],
+    pool: &[u8],
+    cells: &mut [u64],
+    marks: &mut [u8],
+    x: usize,
+    y: usize,
+) -> Moved
+    requires { ⌜ Fits (now cells) (now marks) × (x < 64) × (y < 64)
+        × Indexed (now starts) (now counts) (now pool) (now index) ⌝ }
+    ensures { λ r. ⌜ (let t = conjuncts (now (kinds .entry)) (now (values .entry)) (now (starts .entry))
+        (now (counts .entry)) (now (pool .entry)) in (T : ColumnTable) →
+        Shows t (columnsOf (now (cells .entry))) (now (marks .entry)) T →
+        TakenIn t (columnsOf (now (cells .exit))) (now (marks .exit)) x y (r .emitted) (r .any) T) ⌝ }
+    ensures { λ _. ⌜ Fits (now (cells .exit)) (now (marks .exit)) ⌝ }
+{
+    let c = load(cells, x);
+    let d = load(cells, y);
+    let m = merge_rows(
+        index,
+        kinds,
+        values,
+        starts,
+        counts,
+        pool,
+        marks,
+        x,
+        c,
+        y,
+        d,
+    );
+    let f = m.column;
+    store(cells, x, f);
+    Moved {
+        emitted: m.emitted,
+        any: m.any,
+    }
 }
 
 /// The right column takes in what the left says, then the left what the right now says.
@@ -65,38 +111,30 @@ pub fn merge_edge(
             any: false,
         };
     }
-    let c = load(cells, x);
-    let d = load(cells, y);
-    let right = merge_rows(
+    let right = take_in(
         index,
         kinds,
         values,
         starts,
         counts,
         pool,
+        cells,
         marks,
         y,
-        d,
         x,
-        c,
     );
-    let f = right.column;
-    store(cells, y, f);
-    let left = merge_rows(
+    let left = take_in(
         index,
         kinds,
         values,
         starts,
         counts,
         pool,
+        cells,
         marks,
         x,
-        c,
         y,
-        f,
     );
-    let g = left.column;
-    store(cells, x, g);
     Moved {
         emitted: right.emitted | left.emitted,
         any: right.any | left.any,

@@ -25,7 +25,7 @@ use Rattle.merge.proofs.Forms.{Forms, classify-ind}
 use Rattle.merge.proofs.ReadMapped.{minterms-mapped}
 use Rattle.read_operands.specs.Walk.{walked, firstOf, recordSides}
 use Rattle.read_operands.proofs.Walks.{walked-minterms}
-use Rattle.stages.specs.Columns.{ColumnsBelow}
+use Rattle.reading.specs.Columns.{ColumnsBelow}
 use Rattle.symbol_ranks.proofs.SameComparisons.{standingOrNot}
 use Rattle.symbol_screens.specs.Placed.{number, placedAExpr, placedAt, placeCount}
 use Rattle.symbol_screens.specs.Rewriting.{lent}

@@ -23,7 +23,7 @@ use Rattle.merge.proofs.Accepted.{binary-ind, one, two, three}
 use Rattle.merge.proofs.Chains.{Below, below-more, minterms-low}
 use Rattle.read_operands.specs.Walk.{walked, firstOf, recordSides}
 use Rattle.read_operands.proofs.Walks.{walked-sides, walked-minterms}
-use Rattle.stages.proofs.Screens.{below-first}
+use Rattle.reading.proofs.Screens.{below-first}
 use Rattle.symbol_screens.specs.Reading.{heldAt}
 
 -- ---- Other values, the same records.

@@ -1,1 +1,4 @@
+pub mod Answers
+pub mod Chains
 pub mod Reckoning
+pub mod Reckons

@@ -1,1 +1,2 @@
 pub mod Reckon
+pub mod Rewritten

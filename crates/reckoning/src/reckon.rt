@@ -8,6 +8,7 @@ ghost use Rattle.merge.specs.Emit.{NothingPasses};
 ghost use Rattle.merge.specs.Write.{outcomeBytes};
 ghost use Rattle.merge.specs.Rewrite.{writtenIf};
 ghost use Rattle.read_operands.specs.Walk.{firstOf};
+ghost use Rattle.reckoning.specs.Rewritten.{isRewritten};
 ghost use Rattle.reckoning.specs.Reckon.{roomFor, reckoned, reckonedAnswer};
 use merge::answer::RewriteAnswer;
 use records::record::Node;
@@ -89,4 +90,15 @@ pub fn nothing_passes(rs: &mut [u8], used: u32) -> RewriteAnswer
     }
     write_false(rs, Node(used));
     RewriteAnswer::NothingPasses(used as u64, used as u64 + 1)
+}
+
+pub fn is_rewritten(a: RewriteAnswer) -> bool
+    ensures { λ r. ⌜ r ≡ isRewritten a ⌝ }
+{
+    match a {
+        RewriteAnswer::Refused(_) => false,
+        RewriteAnswer::Unchanged => false,
+        RewriteAnswer::NothingPasses(_, _) => false,
+        RewriteAnswer::Rewritten(_, _) => true,
+    }
 }

@@ -20,7 +20,7 @@ use Rattle.merge.specs.Collect.{update}
 use Rattle.merge.specs.Emit.{isFixed, keptEqualities, droppedEquality}
 use Rattle.read_operands.specs.Walk.{firstOf}
 use Rattle.read_operands.proofs.Walks.{first-kept}
-use Rattle.stages.specs.Rows.{stride, rowOf, RowsKept}
+use Rattle.column_table.specs.Rows.{stride, rowOf, RowsKept}
 use Rattle.column_table.specs.Words.{pastColumn}
 use Rattle.column_table.specs.State.{columnAt, ColumnTable, Shows, Keeps, edgesOf, Kept}
 use Rattle.column_table.proofs.Arrays.{keeps-more, low-slot}

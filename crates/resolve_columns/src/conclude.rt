@@ -14,13 +14,13 @@ ghost use Rattle.column_table.specs.Words.{columnsOf};
 ghost use Rattle.column_table.specs.State.{ColumnTable, Shows, Fits, Keeps, edgesOf, Kept, Resolved, shown, Written};
 use column_table::cells::load;
 use column_table::cells::store;
+use column_table::fields::bump;
+use column_table::fields::slot;
+use column_table::rows::count_row;
+use column_table::rows::resolve_row;
+use column_table::rows::write_row;
 use records::record::Column;
-use stages::emit::is_fixed;
-use stages::fields::bump;
-use stages::fields::slot;
-use stages::rows::count_row;
-use stages::rows::resolve_row;
-use stages::rows::write_row;
+use rewrite::emit::is_fixed;
 
 pub struct KeptNodes {
     pub keeps: usize,

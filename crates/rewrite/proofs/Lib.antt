@@ -1,2 +1,4 @@
-pub mod Writing
+pub mod Adding
+pub mod Emitting
 pub mod Telling
+pub mod Writing

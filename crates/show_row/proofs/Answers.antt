@@ -22,7 +22,7 @@ use Rattle.merge.specs.Plain.{plainScreen}
 use Rattle.masks.specs.Masks.{maskTo}
 use Rattle.read_operands.specs.Walk.{walked, firstOf}
 use Rattle.read_operands.proofs.Walks.{first-length}
-use Rattle.stages.proofs.Screens.{minterms-walked, conjuncts-used}
+use Rattle.reading.proofs.Screens.{minterms-walked, conjuncts-used}
 use Rattle.judge_lines.specs.Lines.{isNothing}
 use Rattle.row_shown.specs.Shown.{nullShown, placeShown, placesBytes}
 use Rattle.show_row.specs.declared.answer.ShowAnswer.{ShowAnswer}

@@ -19,7 +19,7 @@ use Rattle.column_constraints.specs.declared.column.ColumnConstraints.{ColumnCo
 use Rattle.column_table.specs.State.{ColumnTable, columnAt, Shows}
 use Rattle.column_table.specs.Words.{pastColumn}
 use Rattle.column_table.proofs.Arrays.{shows-set}
-use Rattle.stages.specs.Rows.{rowOf, stride}
+use Rattle.column_table.specs.Rows.{rowOf, stride}
 use Rattle.symbol_columns.specs.Literals.{literalLimit, literalColumn, literalTable}
 
 -- The table with the columns below n converted.

@@ -17,7 +17,7 @@ use column_constraints::bound::Limit;
 use column_constraints::column::ColumnConstraints;
 use column_table::cells::load;
 use column_table::cells::store;
-use stages::emit::is_fixed;
+use rewrite::emit::is_fixed;
 use truth::scalar::Scalar;
 
 fn literal_limit(rs: &[u8], nodes: &[u32], v: Limit, upper: bool) -> Limit

@@ -52,8 +52,8 @@ use Rattle.reasons.specs.Explained.{refuseLong, textIf, lengthIf}
 use Rattle.reasons.specs.Text.{reasonsText}
 use Rattle.reckoning.specs.Reckon.{reckoned, reckonedAnswer}
 use Rattle.rewrite.specs.Told.{ToldConjunct}
-use Rattle.stages.proofs.Reckons.{reckoned-rebuilt}
-use Rattle.stages.specs.Rewritten.{isRewritten}
+use Rattle.reckoning.proofs.Reckons.{reckoned-rebuilt}
+use Rattle.reckoning.specs.Rewritten.{isRewritten}
 use Rattle.filter_constraint.specs.Concluded.{linedTo, Concluded}
 use Rattle.filter_constraint.proofs.Concluding.{Answered, answered-as, compared-some, without-lines, total-same}
 use Rattle.filter_constraint.specs.Merges.{Counts, Chained, Merges}

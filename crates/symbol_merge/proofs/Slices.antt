@@ -18,7 +18,7 @@ use Rattle.column_constraints.specs.Abstraction.{Conjuncts, ofKind, literalAt, 
 use Rattle.column_table.specs.State.{ColumnTable, bitsOf}
 use Rattle.merge.specs.Emit.{ofColumn, comparisons}
 use Rattle.read_operands.specs.Walk.{firstOf}
-use Rattle.stages.proofs.Reckons.{ComparedBelow}
+use Rattle.reckoning.proofs.Reckons.{ComparedBelow}
 use Rattle.symbol_columns.proofs.Written.{excludedIn}
 
 -- Under other literals the excluded values are those.

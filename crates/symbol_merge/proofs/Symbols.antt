@@ -22,7 +22,7 @@ use Rattle.read_operands.specs.Walk.{walked, firstOf}
 use Rattle.ranked_screen.specs.Screen.{RanksOf}
 use Rattle.ranked_reading.proofs.Conjuncts.{node-columns}
 use Rattle.rewrite.specs.Told.{ToldConjunct}
-use Rattle.stages.specs.Columns.{ColumnsBelow}
+use Rattle.reading.specs.Columns.{ColumnsBelow}
 use Rattle.symbol_screens.specs.Rewriting.{lent}
 use Rattle.symbol_merge.specs.Explains.{Explains}
 use Rattle.symbol_merge.specs.Fronts.{fronted}

@@ -19,7 +19,7 @@ ghost use Rattle.merge.specs.Passes.{mergePasses};
 ghost use Rattle.read_operands.specs.Walk.{walked, firstOf};
 ghost use Rattle.ranked_screen.specs.Screen.{RanksOf};
 ghost use Rattle.rewrite.specs.Told.{ToldConjunct};
-ghost use Rattle.stages.specs.Columns.{ColumnsBelow};
+ghost use Rattle.reading.specs.Columns.{ColumnsBelow};
 ghost use Rattle.symbol_screens.specs.Rewriting.{lent};
 ghost use Rattle.symbol_merge.specs.Explains.{Explains};
 use crate::front::exchange_front;

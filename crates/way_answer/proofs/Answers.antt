@@ -23,7 +23,7 @@ use Rattle.merge.proofs.Chains.{Below}
 use Rattle.merge.proofs.Accepted.{inputs-fall}
 use Rattle.read_operands.specs.Walk.{walked, firstOf}
 use Rattle.read_operands.proofs.Walks.{first-length}
-use Rattle.stages.proofs.Screens.{minterms-walked, minterms-below, classify-used, classify-all-used}
+use Rattle.reading.proofs.Screens.{minterms-walked, minterms-below, classify-used, classify-all-used}
 use Rattle.judge_lines.specs.declared.answer.WayAnswer.the-variants as way
 use Rattle.judge_lines.specs.Lines.{without, isNothing, nothingPasses, firstTrue}
 use Rattle.judge_lines.specs.Answer.{lineOf, lineAnswer}

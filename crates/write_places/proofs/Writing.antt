@@ -19,7 +19,7 @@ use Rattle.merge.proofs.Splices.{set4, splice-splice}
 use Rattle.masks.proofs.Bits.{mask-none}
 use Rattle.masks.proofs.Blocks.{mark-more}
 use Rattle.read_operands.specs.Walk.{firstOf}
-use Rattle.stages.specs.Rows.{rowOf}
+use Rattle.column_table.specs.Rows.{rowOf}
 use Rattle.column_table.specs.State.{ColumnTable, Shows}
 use Rattle.column_table.specs.Words.{pastColumn}
 use Rattle.column_table.proofs.Arrays.{is-in-snoc}

@@ -8,7 +8,7 @@ ghost use Rattle.column_constraints.specs.Abstraction.{conjuncts, numbered, col
 ghost use Rattle.merge.specs.Collect.{isIn};
 ghost use Rattle.merge.specs.Write.{splice, wordBytes};
 ghost use Rattle.read_operands.specs.Walk.{firstOf};
-ghost use Rattle.stages.specs.Rows.{rowOf};
+ghost use Rattle.column_table.specs.Rows.{rowOf};
 ghost use Rattle.column_table.specs.State.{ColumnTable, Shows};
 ghost use Rattle.column_table.specs.Words.{columnsOf};
 ghost use Rattle.row_shown.specs.Shown.{exactly, valuePlace, valueBytes, placeBytes};

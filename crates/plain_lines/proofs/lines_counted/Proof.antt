@@ -13,7 +13,7 @@ use borrow.Author.Tests.{not-true, not-false}
 use Rattle.checking.proofs.Accepted.{checked, accepted-root}
 use Rattle.merge.specs.Minterms as mt
 use Rattle.read_operands.specs.Walk.{walked}
-use Rattle.stages.proofs.Screens.{walked-inputs}
+use Rattle.reading.proofs.Screens.{walked-inputs}
 use Rattle.plain_lines.proofs.Refusals.{refused-9, refused-17, refused-not, table-few}
 
 -- src/lib.rt:37:9

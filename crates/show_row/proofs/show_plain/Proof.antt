@@ -5,7 +5,7 @@ use Prim.Native.Nat.{ℕ}
 use native.Mathlib.Omega.{arith}
 use lib.ListN.{length-replicate}
 use Rattle.checking.proofs.Accepted.{checked}
-use Rattle.stages.proofs.Screens.{node-columns}
+use Rattle.reading.proofs.Screens.{node-columns}
 use Rattle.far_lists.proofs.Sizes.{no-index}
 use Rattle.plain_lines.proofs.Refusals.{table-few}
 use Rattle.show_row.proofs.Answers as answers

@@ -12,7 +12,7 @@ use native.Mathlib.Omega.{arith}
 use lib.ListN.{length-replicate}
 use mathlib.Core.Path.{_∙_}
 use Rattle.checking.proofs.Accepted.{checked}
-use Rattle.stages.proofs.Screens.{node-columns}
+use Rattle.reading.proofs.Screens.{node-columns}
 use Rattle.far_lists.proofs.Sizes.{no-index}
 use Rattle.way_answer.proofs.Answers.{zero-says, way-lines}
 

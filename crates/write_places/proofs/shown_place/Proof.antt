@@ -11,7 +11,7 @@ use Prim.Native.Nat.{ℕ}
 use Rattle.column_constraints.specs.Abstraction.{conjuncts, numbered, columnOf}
 use Rattle.row_shown.specs.Shown.{valuePlace}
 use Rattle.row_shown.specs.Bits.{bitsColumn}
-use Rattle.stages.proofs.Lending.{row-ends, row-part}
+use Rattle.column_table.proofs.Lending.{row-ends, row-part}
 use Rattle.write_places.proofs.Writing.{place-null, place-value}
 
 -- src/lib.rt:105:9

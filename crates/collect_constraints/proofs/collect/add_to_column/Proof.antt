@@ -5,15 +5,15 @@ use Rattle.collect_constraints.proofs.collect.add_to_column.Reads as re
 use Rattle.collect_constraints.proofs.collect.add_to_column.Lts as lts
 use Rattle.column_table.proofs.cells.load.Reads as load-reads
 use Rattle.column_table.proofs.cells.store.Reads as store-reads
-use Rattle.stages.proofs.fields.slot.Reads as slot-reads
-use Rattle.stages.proofs.rows.add_in_row.Reads as add-in-row-reads
+use Rattle.column_table.proofs.fields.slot.Reads as slot-reads
+use Rattle.column_table.proofs.rows.add_in_row.Reads as add-in-row-reads
 use mathlib.Core.Path.{_≡_, refl, _∙_}
 use mathlib.Core.List.{map}
 use native.Mathlib.Omega.{arith}
 use Rattle.constraints.specs.Lined.{onLine}
 use Rattle.constraints.specs.Mapped.{mapConstraint}
 use Rattle.read_operands.specs.Read.{saysIn}
-use Rattle.stages.specs.Rows.{rowOf}
+use Rattle.column_table.specs.Rows.{rowOf}
 use Rattle.collect_constraints.proofs.Collecting.{added}
 use Rattle.column_table.proofs.Encoding.{columns-size}
 use Rattle.collect_constraints.proofs.NullLines.{null-added}

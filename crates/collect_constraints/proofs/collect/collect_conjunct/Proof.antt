@@ -13,7 +13,7 @@ use native.Mathlib.Omega.{arith}
 use Rattle.truth.specs.FromBytes.{aexprOf}
 use Rattle.merge.specs.Classify as m
 use Rattle.rewrite.specs.Told.{ToldConjunct}
-use Rattle.stages.specs.Columns.{ColumnsBelow}
+use Rattle.reading.specs.Columns.{ColumnsBelow}
 use Rattle.collect_constraints.proofs.Collecting.{read-as, bounds-turn, normalized-turn, recorded-turn}
 use Rattle.collect_constraints.proofs.Collecting.{opaque-turn, equality-turn, pair-turn}
 use Rattle.collect_constraints.proofs.NullLines.{null-both, null-same}

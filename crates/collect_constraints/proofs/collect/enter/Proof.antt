@@ -3,8 +3,8 @@ use Rattle.collect_constraints.proofs.collect.enter.Statement.{statemen
 use Rattle.collect_constraints.proofs.collect.enter.Tie as tie
 use Rattle.collect_constraints.proofs.collect.enter.Reads as reads
 use Rattle.collect_constraints.proofs.collect.enter.Lts as lts
-use Rattle.stages.proofs.fields.bump.Reads as bump-reads
-use Rattle.stages.proofs.fields.slot.Reads as slot-reads
+use Rattle.column_table.proofs.fields.bump.Reads as bump-reads
+use Rattle.column_table.proofs.fields.slot.Reads as slot-reads
 use mathlib.Core.Path.{_≡_, refl}
 use native.Mathlib.Omega.{arith}
 use Rattle.collect_constraints.proofs.Collecting.{entered-at}

@@ -7,9 +7,9 @@ use Rattle.column_table.proofs.words.read_words.Reads as read-words-rea
 use mathlib.Core.Path.{_≡_, refl, sym, _∙_, ap}
 use Rattle.column_table.specs.Words.{columnFrom}
 use Rattle.column_table.proofs.Encoding.{column-loaded}
-use Rattle.stages.proofs.Lending.{row-lent}
+use Rattle.column_table.proofs.Lending.{row-lent}
 use Prim.Native.Nat.{_*_, _/_, _+_}
-use Rattle.stages.specs.Rows.{stride}
+use Rattle.column_table.specs.Rows.{stride}
 
 -- src/cells.rt:14:14
 mul-at : tie.Need-mul-at

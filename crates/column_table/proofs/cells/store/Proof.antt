@@ -6,9 +6,9 @@ use Rattle.column_table.proofs.cells.store.Lts as lts
 use Rattle.column_table.proofs.words.write_words.Reads as write-words-reads
 use mathlib.Core.Path.{_≡_, refl, sym, _∙_, ap}
 use Rattle.column_table.proofs.Encoding.{column-stored}
-use Rattle.stages.proofs.Lending.{row-back}
+use Rattle.column_table.proofs.Lending.{row-back}
 use Prim.Native.Nat.{_*_, _/_, _+_}
-use Rattle.stages.specs.Rows.{stride}
+use Rattle.column_table.specs.Rows.{stride}
 use lib.ListN.{length}
 
 -- src/cells.rt:24:14

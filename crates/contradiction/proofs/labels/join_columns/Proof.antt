@@ -4,7 +4,7 @@ use Rattle.contradiction.proofs.labels.join_columns.Tie as tie
 use Rattle.contradiction.proofs.labels.join_columns.Reads as reads
 use Rattle.contradiction.proofs.labels.join_columns.Lts as lts
 use Rattle.contradiction.proofs.labels.rename_all.Reads as rename-all-reads
-use Rattle.stages.proofs.fields.slot.Reads as slot-reads
+use Rattle.column_table.proofs.fields.slot.Reads as slot-reads
 use mathlib.Core.Path.{_≡_, refl, _∙_}
 use native.Mathlib.Omega.{arith}
 use lib.ListN.{length, getD}

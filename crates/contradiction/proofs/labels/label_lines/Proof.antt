@@ -10,7 +10,7 @@ use native.Mathlib.Omega.{arith}
 use lib.ListN.{length, getD}
 use Rattle.truth.specs.FromBytes.{aexprOf}
 use Rattle.merge.specs.Classify.{classify}
-use Rattle.stages.specs.Columns.{ColumnsBelow}
+use Rattle.reading.specs.Columns.{ColumnsBelow}
 use Rattle.contradiction.specs.Labels.{linesTo, Labels}
 use Rattle.contradiction.proofs.Labelling.{lines-none, labels-none, labels-more}
 use borrow.Author.Needs.{needs}

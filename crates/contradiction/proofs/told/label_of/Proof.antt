@@ -3,7 +3,7 @@ use Rattle.contradiction.proofs.told.label_of.Statement.{statement}
 use Rattle.contradiction.proofs.told.label_of.Tie as tie
 use Rattle.contradiction.proofs.told.label_of.Reads as reads
 use Rattle.contradiction.proofs.told.label_of.Lts as lts
-use Rattle.stages.proofs.fields.slot.Reads as slot-reads
+use Rattle.column_table.proofs.fields.slot.Reads as slot-reads
 use mathlib.Core.Path.{_≡_, ap}
 use lib.ListN.{getD}
 

@@ -5,8 +5,8 @@ use Rattle.contradiction.proofs.told.tell_column.Reads as reads
 use Rattle.contradiction.proofs.told.tell_column.Lts as lts
 use Rattle.column_table.proofs.cells.load.Reads as load-reads
 use Rattle.column_table.proofs.cells.store.Reads as store-reads
-use Rattle.stages.proofs.fields.slot.Reads as slot-reads
-use Rattle.stages.proofs.rows.add_in_row.Reads as add-in-row-reads
+use Rattle.column_table.proofs.fields.slot.Reads as slot-reads
+use Rattle.column_table.proofs.rows.add_in_row.Reads as add-in-row-reads
 use mathlib.Core.Path.{_≡_, refl, _∙_}
 use native.Mathlib.Omega.{arith}
 use Rattle.collect_constraints.proofs.Collecting.{added}

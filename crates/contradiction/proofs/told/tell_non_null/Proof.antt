@@ -6,7 +6,7 @@ use Rattle.contradiction.proofs.told.tell_non_null.Lts as lts
 use Rattle.column_constraints.proofs.column.require_nullability.Reads as require-nullability-reads
 use Rattle.column_table.proofs.cells.load.Reads as load-reads
 use Rattle.column_table.proofs.cells.store.Reads as store-reads
-use Rattle.stages.proofs.fields.slot.Reads as slot-reads
+use Rattle.column_table.proofs.fields.slot.Reads as slot-reads
 use mathlib.Core.Path.{_≡_, refl, _∙_}
 use Rattle.collect_constraints.proofs.Collecting.{required}
 

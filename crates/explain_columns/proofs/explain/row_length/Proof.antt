@@ -5,7 +5,7 @@ use Rattle.explain_columns.proofs.explain.row_length.Reads as reads
 use Rattle.explain_columns.proofs.explain.row_length.Lts as lts
 use Rattle.column_reasons.proofs.column_length.Reads as column-length-reads
 use native.Mathlib.Omega.{arith}
-use Rattle.stages.proofs.Lending.{row-ends, row-part, part-length, fine-lent, fine-wider}
+use Rattle.column_table.proofs.Lending.{row-ends, row-part, part-length, fine-lent, fine-wider}
 
 -- src/explain.rt:41:14
 mul-at : tie.Need-mul-at

@@ -5,7 +5,7 @@ use Rattle.explain_columns.proofs.explain.write_row_reasons.Reads as re
 use Rattle.explain_columns.proofs.explain.write_row_reasons.Lts as lts
 use Rattle.column_reasons.proofs.write_column_reasons.Reads as write-column-reasons-reads
 use native.Mathlib.Omega.{arith}
-use Rattle.stages.proofs.Lending.{row-ends, row-part, part-length, fine-lent, fine-wider}
+use Rattle.column_table.proofs.Lending.{row-ends, row-part, part-length, fine-lent, fine-wider}
 
 -- src/explain.rt:71:14
 mul-at : tie.Need-mul-at

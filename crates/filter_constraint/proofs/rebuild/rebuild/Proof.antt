@@ -8,7 +8,7 @@ use Rattle.explain_columns.proofs.explain.write_reasons.Reads as write-reasons-
 use Rattle.reckoning.proofs.reckon.rebuilt_answer.Reads as rebuilt-answer-reads
 use Rattle.resolve_columns.proofs.conclude.write_comparisons.Reads as write-comparisons-reads
 use Rattle.rewrite.proofs.write.write_ands.Reads as write-ands-reads
-use Rattle.stages.proofs.fields.is_rewritten.Reads as is-rewritten-reads
+use Rattle.reckoning.proofs.reckon.is_rewritten.Reads as is-rewritten-reads
 use mathlib.Core.Path.{_≡_, refl, sym, _∙_, ap}
 use mathlib.Core.List.{List, []}
 use Prim.Native.Nat.{ℕ, _+_, _-_, _*_, _≤_, _<_}
@@ -26,7 +26,7 @@ use mathlib.Core.Bool.{true, false}
 use borrow.Author.Tests.{not-true, not-false}
 use Rattle.merge.specs.Emit.{comparisons}
 use Rattle.reckoning.specs.Reckon.{reckoned}
-use Rattle.stages.specs.Rewritten.{isRewritten}
+use Rattle.reckoning.specs.Rewritten.{isRewritten}
 use Rattle.filter_constraint.proofs.Concluding.{chain-refused, chain-room, chain-answered, ands-asked}
 use Rattle.filter_constraint.proofs.Explained.{kept-answer, kept-text, kept-length, long-answer, fitting-answer, fitting-text, fitting-length}
 

@@ -12,7 +12,7 @@ use Rattle.truth.specs.FromBytes.{aexprOf}
 use Rattle.column_constraints.specs.Abstraction.{conjuncts}
 use Rattle.read_operands.specs.Walk.{firstOf}
 use Rattle.rewrite.specs.Told.{ToldConjunct}
-use Rattle.stages.specs.Columns.{ColumnsBelow}
+use Rattle.reading.specs.Columns.{ColumnsBelow}
 use Rattle.judge_lines.specs.Lines.{without, nothingPasses, firstTrue}
 use Rattle.judge_lines.proofs.LeftOut.{at-set, line-helps, set-back, true-none, true-more, true-found, true-done}
 use borrow.Author.Needs.{needs}

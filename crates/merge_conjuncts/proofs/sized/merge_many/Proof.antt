@@ -9,7 +9,7 @@ use Prim.Native.Nat.{ℕ}
 use native.Mathlib.Omega.{arith}
 use lib.ListN.{length-replicate}
 use Rattle.checking.proofs.Accepted.{checked, checked-used}
-use Rattle.stages.proofs.Screens.{node-columns}
+use Rattle.reading.proofs.Screens.{node-columns}
 use Rattle.merge_conjuncts.proofs.Merged.{rewrite-merged}
 
 -- src/sized.rt:289:9

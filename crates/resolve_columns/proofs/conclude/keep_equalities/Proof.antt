@@ -3,9 +3,9 @@ use Rattle.resolve_columns.proofs.conclude.keep_equalities.Tie as tie
 use Rattle.resolve_columns.proofs.conclude.keep_equalities.Reads as reads
 use Rattle.resolve_columns.proofs.conclude.keep_equalities.Lts as lts
 use Rattle.column_table.proofs.cells.load.Reads as load-reads
-use Rattle.stages.proofs.emit.is_fixed.Reads as is-fixed-reads
-use Rattle.stages.proofs.fields.bump.Reads as bump-reads
-use Rattle.stages.proofs.fields.slot.Reads as slot-reads
+use Rattle.rewrite.proofs.emit.is_fixed.Reads as is-fixed-reads
+use Rattle.column_table.proofs.fields.bump.Reads as bump-reads
+use Rattle.column_table.proofs.fields.slot.Reads as slot-reads
 use mathlib.Core.Path.{_≡_, refl, sym, _∙_, ap, subst}
 use mathlib.Core.List.{List}
 use Prim.Native.Nat.{ℕ, _+_, _-_, _≤_, _<_}
@@ -15,7 +15,7 @@ use Rattle.constraints.specs.Lined.{lined}
 use Rattle.constraints.specs.Resolve.{fixedAt}
 use Rattle.column_constraints.specs.Abstraction.{Conjuncts, numbered, columnOf}
 use Rattle.merge.specs.Emit.{isFixed}
-use Rattle.stages.specs.Rows.{rowOf}
+use Rattle.column_table.specs.Rows.{rowOf}
 use Rattle.column_table.specs.Words.{columnsOf}
 use Rattle.column_table.specs.State.{ColumnTable, Shows, Keeps, Kept, edgesOf}
 use Rattle.resolve_columns.proofs.Keeping.{kept-none, kept-more}

@@ -4,9 +4,9 @@ use Rattle.resolve_columns.proofs.conclude.resolve_all.Reads as reads
 use Rattle.resolve_columns.proofs.conclude.resolve_all.Lts as lts
 use Rattle.column_table.proofs.cells.load.Reads as load-reads
 use Rattle.column_table.proofs.cells.store.Reads as store-reads
-use Rattle.stages.proofs.fields.slot.Reads as slot-reads
-use Rattle.stages.proofs.rows.count_row.Reads as count-row-reads
-use Rattle.stages.proofs.rows.resolve_row.Reads as resolve-row-reads
+use Rattle.column_table.proofs.fields.slot.Reads as slot-reads
+use Rattle.column_table.proofs.rows.count_row.Reads as count-row-reads
+use Rattle.column_table.proofs.rows.resolve_row.Reads as resolve-row-reads
 use mathlib.Core.Path.{_≡_, refl, sym, _∙_, ap, subst}
 use mathlib.Core.Bool.{false}
 use mathlib.Core.List.{List}
@@ -15,7 +15,7 @@ use native.Mathlib.Omega.{arith}
 use lib.ListN.{length}
 use Rattle.column_constraints.specs.Abstraction.{conjuncts, numbered}
 use Rattle.read_operands.specs.Walk.{firstOf}
-use Rattle.stages.specs.Rows.{rowOf}
+use Rattle.column_table.specs.Rows.{rowOf}
 use Rattle.column_table.specs.Words.{columnsOf}
 use Rattle.column_table.specs.State.{ColumnTable, Shows, Fits, Resolved}
 use Rattle.column_table.proofs.Arrays.{fits-set}

@@ -3,8 +3,8 @@ use Rattle.resolve_columns.proofs.conclude.write_comparisons.Tie as tie
 use Rattle.resolve_columns.proofs.conclude.write_comparisons.Reads as reads
 use Rattle.resolve_columns.proofs.conclude.write_comparisons.Lts as lts
 use Rattle.column_table.proofs.cells.load.Reads as load-reads
-use Rattle.stages.proofs.fields.slot.Reads as slot-reads
-use Rattle.stages.proofs.rows.write_row.Reads as write-row-reads
+use Rattle.column_table.proofs.fields.slot.Reads as slot-reads
+use Rattle.column_table.proofs.rows.write_row.Reads as write-row-reads
 use mathlib.Core.Path.{_≡_, refl, sym, _∙_, ap, subst}
 use mathlib.Core.List.{List, []}
 use Prim.Native.Nat.{ℕ, _+_, _-_, _*_, _≤_, _<_}

@@ -3,7 +3,7 @@ use Rattle.symbol_columns.proofs.convert.literal_column.Statement.{stat
 use Rattle.symbol_columns.proofs.convert.literal_column.Tie as tie
 use Rattle.symbol_columns.proofs.convert.literal_column.Reads as reads
 use Rattle.symbol_columns.proofs.convert.literal_column.Lts as lts
-use Rattle.stages.proofs.emit.is_fixed.Reads as is-fixed-reads
+use Rattle.rewrite.proofs.emit.is_fixed.Reads as is-fixed-reads
 use Rattle.symbol_columns.proofs.convert.either_bound.Reads as either-bound-reads
 use Rattle.symbol_columns.proofs.convert.literal_bound.Reads as literal-bound-reads
 use mathlib.Core.Path.{refl}
