@@ -17,6 +17,7 @@ static uint8_t wide[ROWS * WIDE_BYTES];
 static const uint8_t *cells = values; /* or wide */
 static size_t cells_len = sizeof values;
 static uint64_t nulls[ROWS];
+static size_t rows = ROWS; /* or fewer */
 static uint8_t list[2 * ROWS];
 static unsigned met, goals;
 
@@ -25,7 +26,7 @@ static uint64_t call_ours(void)
 {
     struct screen_tally tally = {0, 0, 0};
     uint64_t count = 0;
-    uint32_t answer = screen_lent_hedge_list(&now.s, cells, cells_len, nulls, ROWS, list, sizeof list, &tally, &count);
+    uint32_t answer = screen_lent_hedge_list(&now.s, cells, cells_len, nulls, rows, list, sizeof list, &tally, &count);
     return screen_refused(answer) ? 0 : answer + count + (tally.is_false << 20) + (tally.unknown << 40);
 }
 
@@ -470,7 +471,7 @@ static void make_symbols(unsigned texts, unsigned columns)
 static void make_symbol_chain(void)
 {
     cells = wide;
-    cells_len = 8 * now.s.table_len * ROWS;
+    cells_len = 8 * now.s.table_len * rows;
     memset(nulls, 0, sizeof nulls);
     for (size_t i = 0; i < now.s.table_len * ROWS; i++) {
         int64_t value = now.table[i % now.s.table_len] == SCREEN_TYPE_TEXT ? symbol_number((unsigned)(drawn() % 65536)) : 10;
@@ -520,26 +521,53 @@ static int symbol_columns(void)
     return family("1,022 comparisons of 64 columns of symbols");
 }
 
-/* Lists over parts of a pool of symbols; where a pool entry is shared, a list of Ints lies there too. */
-static int symbol_lists(const char *name, unsigned texts, unsigned count, int shared)
+/* A pool of symbols, and a list over half of it, of the column's type. */
+static void make_symbol_pool(unsigned texts, unsigned columns)
 {
-    uint32_t top = 0;
-    make_symbols(texts, texts + 1);
+    make_symbols(texts, columns);
     for (unsigned i = 0; i < SCREEN_MAX_POOL_VALUES; i++)
         screen_put_pool(&now.s, symbol_number(i));
+}
+
+static uint32_t symbol_list(unsigned n, uint32_t number)
+{
+    uint32_t x = screen_put_column(&now.s, number);
+    uint32_t part = screen_put(&now.s, SCREEN_KIND_LIST, 0, now.table[number], n * 977 % 4097, 4096, 0);
+    return screen_put_is_in(&now.s, x, part, 0);
+}
+
+static int symbol_lists(const char *name, unsigned texts, unsigned count)
+{
+    uint32_t top = 0;
+    make_symbol_pool(texts, texts + 1);
     for (unsigned n = 0; n < count; n++) {
-        uint32_t x = screen_put_column(&now.s, n % texts);
-        uint32_t part = screen_put(&now.s, SCREEN_KIND_LIST, 0, SCREEN_TYPE_TEXT, n * 977 % 4097, 4096, 0);
-        uint32_t next = screen_put_is_in(&now.s, x, part, 0);
+        uint32_t next = symbol_list(n, n % texts);
         top = n == 0 ? next : screen_put_or(&now.s, top, next);
-    }
-    if (shared) {
-        uint32_t x = screen_put_column(&now.s, texts);
-        uint32_t next = screen_put_is_in(&now.s, x, screen_put(&now.s, SCREEN_KIND_LIST, 0, SCREEN_TYPE_INT, 0, 1, 0), 0);
-        screen_put_or(&now.s, top, next);
     }
     make_symbol_chain();
     return family(name);
+}
+
+/* So many columns of symbols and as many of Ints, in turns, whose lists share the values of the pool. */
+static int shared_lists(const char *name, unsigned texts, unsigned count)
+{
+    uint32_t top = 0;
+    make_symbol_pool(texts, 2 * texts);
+    for (unsigned n = 0; n < count; n++) {
+        uint32_t next = symbol_list(n, n % 2 * texts + n / 2 % texts);
+        top = n == 0 ? next : screen_put_or(&now.s, top, next);
+    }
+    make_symbol_chain();
+    return family(name);
+}
+
+static int few_rows(const char *name, size_t few)
+{
+    int differ;
+    rows = few;
+    differ = symbol_lists(name, 63, 1021);
+    rows = ROWS;
+    return differ;
 }
 
 int main(void)
@@ -592,10 +620,14 @@ int main(void)
     differ |= symbol_lines("1,022 lines on a column of symbols", 1, 1022);
     differ |= symbol_lines("1,022 lines on 64 columns of symbols", 64, 1022);
     differ |= symbol_columns();
-    differ |= symbol_lists("one list of 4,096 symbols", 1, 1, 0);
-    differ |= symbol_lists("1,021 lists of symbols on one column", 1, 1021, 0);
-    differ |= symbol_lists("1,021 lists of symbols over 63 columns", 63, 1021, 0);
-    differ |= symbol_lists("8 such lists, and one of Ints in their place", 1, 8, 1);
+    differ |= symbol_lists("one list of 4,096 symbols", 1, 1);
+    differ |= symbol_lists("1,021 lists of symbols on one column", 1, 1021);
+    differ |= symbol_lists("1,021 lists of symbols over 63 columns", 63, 1021);
+    differ |= shared_lists("9 lists of symbols and of Ints in the same places", 1, 9);
+    differ |= shared_lists("1,021 such lists on two columns", 1, 1021);
+    differ |= shared_lists("1,021 such lists over 64 columns", 32, 1021);
+    differ |= few_rows("2 rows under 1,021 lists of symbols", 2);
+    differ |= few_rows("31 rows under 1,021 lists of symbols", 31);
     printf("goals met: %u of %u\n", met, goals);
     return differ;
 }

@@ -561,6 +561,34 @@ static void test_symbol_lists(void)
     }
 }
 
+/* Lists of symbols and of Ints over the same values of the pool, in pools of one part and of two; few rows and many. */
+static void test_shared_lists(void)
+{
+    static const unsigned sizes[] = {40, 4096, 4097, SCREEN_MAX_POOL_VALUES};
+    static const size_t chains[] = {3, 31, 150, 1024};
+    static int64_t pooled[SCREEN_MAX_POOL_VALUES];
+    memset(&seen, 0, sizeof seen);
+    for (unsigned k = 0; k < 16; k++) {
+        uint32_t top = 0;
+        unsigned size = sizes[k % 4];
+        begin_texts(k < 8 ? 2 : 20);
+        some_text(200);
+        for (unsigned i = 0; i < size; i++)
+            pool_value(pooled[i] = some_symbol());
+        for (unsigned n = 0; n < 12; n++) {
+            uint32_t x = column(n % 2 == 0 ? 4 : 0), length = below(size + 1);
+            uint32_t next = is_in(below(2), x, list(below(2), n % 2 == 0 ? TEXT : INT, below(size - length + 1), length));
+            top = n == 0 ? next : binary(SCREEN_OP_XOR, top, next);
+        }
+        some_rows(chains[k / 4]);
+        for (size_t r = 0; r < rows; r += 2)
+            if ((nulls[r] & 1) == 0)
+                cell(r, 0, pooled[below(size)]);
+        expect("lists of symbols and of Ints in the same places", SCREEN_HEDGED);
+    }
+    report(seen.passed > 500 && seen.is_false > 500 && seen.unknown > 500, "lists in the same places", "a class is rare");
+}
+
 /* ----------------------------------------------------------------------------------------------------------- the stack */
 
 static void *deep(void *unused)
@@ -674,6 +702,7 @@ int main(void)
     test_divisions();
     test_symbols();
     test_symbol_lists();
+    test_shared_lists();
     test_deep();
     test_texts();
     return finish();

@@ -32,7 +32,7 @@ use Rattle.row_test.proofs.Ready.{columns-small, checked-evaluable}
 use Rattle.masks.specs.declared.Masks.{Masks}
 use Rattle.masks.specs.Masks.{isUnknown, Tells}
 use Rattle.masks.specs.Block.{chainRow, chainTruth, Ready}
-use Rattle.pool_order.specs.Order.{Full, Ordered}
+use Rattle.pool_order.specs.Order.{Full, OrderedPart, Ordered}
 use Rattle.chain_rows.specs.Chain.{rowAt, answerAt, isTested}
 use Rattle.chain_rows.specs.Classes.{truthClass, classOf, Judged, rowFits, Classed, Evaluates}
 
@@ -46,7 +46,7 @@ row-end w r n h =
     omega (arith, e, m)
 
 -- of a checked screen the pool has at most 8,192 values
-pool-short : (rs p : List ℕ) (used : ℕ) → sizesOk rs p used ≡ true → length p ≤ 65536
+pub pool-short : (rs p : List ℕ) (used : ℕ) → sizesOk rs p used ≡ true → length p ≤ 65536
 unfolding sizesOkIn
 pool-short rs p used e =
     let f = and-right (leb used 4096) (leb used (length rs / 16) && (eqb (length p % 8) 0 && leb (length p / 8) 8192)) e in
@@ -57,12 +57,19 @@ pool-short rs p used e =
 
 -- one word is no order of the pool
 pub no-order : (p order : List ℕ) → length order ≡ 1 → Ordered p order
-unfolding Ordered
-no-order p order e h = absurd (omega (arith, e, h))
+unfolding OrderedPart
+no-order p order e =
+    record {
+      whole = λ s h. absurd (omega (arith, e, h));
+      front = λ s h. absurd (omega (arith, e, h));
+      back = λ s h. absurd (omega (arith, e, h));
+    }
 
 pub in-order : (p order : List ℕ) → Full p order → Ordered p order
-unfolding Ordered
-in-order p order f h = f
+unfolding OrderedPart
+in-order p order f =
+    let e = f .short in
+    record { whole = λ s h. f; front = λ s h. absurd (omega (arith, e, s)); back = λ s h. absurd (omega (arith, e, s)) }
 
 -- of a checked screen the row test's answer is that of the row
 answer-is : (t rs p : List ℕ) (used root : ℕ) (values nulls : List ℕ) → Checked t rs p used root → (r : ℕ)
@@ -129,7 +136,6 @@ module _ (t rs p : List ℕ) (used root : ℕ) (values nulls : List ℕ) (ok : C
         short = short;
         long = long;
         small = omega (arith, u, r);
-        pooled = pool-short rs p used (ok .sizes);
         evaluable = λ i h. checked-evaluable t rs p (chainRow (length t) values i) used root ok (row-long i h) root (ok .root-used);
       }
 

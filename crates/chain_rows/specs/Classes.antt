@@ -43,5 +43,4 @@ pub record Evaluates (rs p : List ℕ) (columns : ℕ) (values nulls : List ℕ)
   pub short : length nulls ≤ 1024
   pub long : length values ≡ 8 * columns * length nulls
   pub small : root < 4096
-  pub pooled : length p ≤ 65536
   pub evaluable : (r : ℕ) → r < length nulls → Evaluable rs p (chainRow columns values r) root

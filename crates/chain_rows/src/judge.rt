@@ -166,6 +166,7 @@ fn judge_ordered(
     marks: &[u8],
     classes: &mut [u8],
 )
+    requires { ⌜ length (now pool) ≤ 65536 ⌝ }
     requires { ⌜ Evaluates (now records) (now pool) columns (now values) (now nulls) (root .0) ⌝ }
     requires { ⌜ getD (now marks) (root .0) 0 ≡ 1 ⌝ }
     requires { ⌜ Closed (now records) (now marks) 0 (root .0) ⌝ }
@@ -175,7 +176,7 @@ fn judge_ordered(
     ensures { λ _. ⌜ Classed (now (records .entry)) (now (pool .entry)) columns (now (values .entry)) (now (nulls .entry))
         (root .0) (now (classes .exit)) (length (now (nulls .entry))) ⌝ }
 {
-    let mut order = [0u64; 23560];
+    let mut order = [0u64; 21512];
     let mut truths = [0u64; 4096];
     let mut unknowns = [0u64; 4096];
     // As above, and 17 words for each column.
@@ -198,8 +199,8 @@ fn judge_ordered(
     );
 }
 
-// How many values record n asks its list for, if it is marked.
-fn asked_count(records: &[u8], n: u32, mark: u8) -> u32
+// How many values record n asks its list for, if it is marked and the list begins at place `from` or behind it.
+fn asked_count(records: &[u8], n: u32, mark: u8, from: u32) -> u32
     requires { ⌜ 16 * n + 15 < length (now records) ⌝ }
 {
     let f = fields_in(records, Node(n));
@@ -213,11 +214,14 @@ fn asked_count(records: &[u8], n: u32, mark: u8) -> u32
         return 0;
     }
     let list = fields_in(records, Node(f.b));
+    if list.a < from {
+        return 0;
+    }
     list.b
 }
 
-/// How many values the marked records ask their lists for.
-pub fn asked_values(records: &[u8], root: Node, marks: &[u8]) -> u64
+/// How many values the marked records ask their lists for, of those that begin at place `from` or behind it.
+pub fn asked_values(records: &[u8], root: Node, marks: &[u8], from: u32) -> u64
     requires { ⌜ 16 * root .0 + 15 < length (now records) ⌝ }
     requires { ⌜ root .0 < 4096 ⌝ }
     requires { ⌜ 4096 ≤ length (now marks) ⌝ }
@@ -225,7 +229,7 @@ pub fn asked_values(records: &[u8], root: Node, marks: &[u8]) -> u64
     let mut total: u64 = 0;
     let mut n: u32 = 0;
     while n <= root.0 {
-        total += asked_count(records, n, marks[n as usize]) as u64;
+        total += asked_count(records, n, marks[n as usize], from) as u64;
         n += 1;
     }
     total
@@ -243,6 +247,7 @@ fn judge_short(
     marks: &[u8],
     classes: &mut [u8],
 )
+    requires { ⌜ length (now pool) ≤ 65536 ⌝ }
     requires { ⌜ Evaluates (now records) (now pool) columns (now values) (now nulls) (root .0) ⌝ }
     requires { ⌜ getD (now marks) (root .0) 0 ≡ 1 ⌝ }
     requires { ⌜ Closed (now records) (now marks) 0 (root .0) ⌝ }
@@ -252,7 +257,7 @@ fn judge_short(
     ensures { λ _. ⌜ Classed (now (records .entry)) (now (pool .entry)) columns (now (values .entry)) (now (nulls .entry))
         (root .0) (now (classes .exit)) (length (now (nulls .entry))) ⌝ }
 {
-    if asked_values(records, root, marks) < 65536 {
+    if asked_values(records, root, marks, 0) < 65536 {
         judge_plain(records, pool, columns, values, nulls, root, marks, classes);
     } else {
         judge_ordered(records, pool, columns, values, nulls, root, marks, classes);
@@ -269,6 +274,7 @@ fn judge_long(
     marks: &[u8],
     classes: &mut [u8],
 )
+    requires { ⌜ length (now pool) ≤ 65536 ⌝ }
     requires { ⌜ Evaluates (now records) (now pool) columns (now values) (now nulls) (root .0) ⌝ }
     requires { ⌜ getD (now marks) (root .0) 0 ≡ 1 ⌝ }
     requires { ⌜ Closed (now records) (now marks) 0 (root .0) ⌝ }
@@ -278,7 +284,7 @@ fn judge_long(
     ensures { λ _. ⌜ Classed (now (records .entry)) (now (pool .entry)) columns (now (values .entry)) (now (nulls .entry))
         (root .0) (now (classes .exit)) (length (now (nulls .entry))) ⌝ }
 {
-    if asked_values(records, root, marks) < 4096 {
+    if asked_values(records, root, marks, 0) < 4096 {
         judge_plain(records, pool, columns, values, nulls, root, marks, classes);
     } else {
         judge_ordered(records, pool, columns, values, nulls, root, marks, classes);
@@ -298,6 +304,7 @@ fn judge_fitting(
     requires { ⌜ Evaluates (now records) (now pool) columns (now values) (now nulls) (root .0) ⌝ }
     requires { ⌜ 16 * root .0 + 15 < length (now records) ⌝ }
     requires { ⌜ length (now nulls) ≤ length (now classes) ⌝ }
+    requires { ⌜ length (now pool) ≤ 65536 ⌝ }
     ensures { λ _. ⌜ Classed (now (records .entry)) (now (pool .entry)) columns (now (values .entry)) (now (nulls .entry))
         (root .0) (now (classes .exit)) (length (now (nulls .entry))) ⌝ }
 {

@@ -99,8 +99,8 @@ fn find_places(words: &[u64], tree: &[u64], targets: &[u64], n: usize, spots: &m
 }
 
 fn number_in(order: &[u64], slot: usize) -> u64
-    requires { ⌜ 23560 ≤ length (now order) ⌝ }
-    requires { ⌜ slot < 16384 ⌝ }
+    requires { ⌜ 21512 ≤ length (now order) ⌝ }
+    requires { ⌜ slot < 8192 ⌝ }
     ensures { λ r. ⌜ r < 8192 ⌝ }
 {
     (order[19464 + slot / 4] >> (16 * (slot % 4) as u64)) % 8192
@@ -114,7 +114,7 @@ fn take_known(
     few: &mut [u64],
     rows: &mut [u64],
 ) -> usize
-    requires { ⌜ 23560 ≤ length (now order) ⌝ }
+    requires { ⌜ 21512 ≤ length (now order) ⌝ }
     requires { ⌜ 64 ≤ length (now keys) ⌝ }
     requires { ⌜ 128 ≤ length (now spots) ⌝ }
     requires { ⌜ 64 ≤ length (now few) ⌝ }
@@ -149,7 +149,7 @@ fn put_found(rows: &[u64], found: &[u64], n: usize, spots: &mut [u64], at: usize
 }
 
 fn find_numbers(order: &[u64], keys: &[u64], spots: &mut [u64])
-    requires { ⌜ 23560 ≤ length (now order) ⌝ }
+    requires { ⌜ 21512 ≤ length (now order) ⌝ }
     requires { ⌜ 64 ≤ length (now keys) ⌝ }
     requires { ⌜ 128 ≤ length (now spots) ⌝ }
 {
@@ -458,7 +458,7 @@ fn take_numbers(keys: &[u64], at: usize, spots: &mut [u64])
 // The numbers, from the 17 words at `hints` if they have this stamp, and into them if not. Who has no such words gives a place
 // that is not there.
 fn guess_numbers(order: &[u64], keys: &mut [u64], hints: usize, stamp: u64, spots: &mut [u64])
-    requires { ⌜ 23560 ≤ length (now order) ⌝ }
+    requires { ⌜ 21512 ≤ length (now order) ⌝ }
     requires { ⌜ 64 ≤ length (now keys) ⌝ }
     requires { ⌜ 64 ≤ hints ⌝ }
     requires { ⌜ hints ≤ 8192 ⌝ }
@@ -491,7 +491,7 @@ fn guess_seats(order: &[u64], end: u64, keys: &[u64], spots: &mut [u64])
 
 /// Guesses for the first 64 keys and a list that ends at `end`. The first 64 keys stay.
 pub fn guess(order: &[u64], end: u64, keys: &mut [u64], hints: usize, stamp: u64, spots: &mut [u64])
-    requires { ⌜ 23560 ≤ length (now order) ⌝ }
+    requires { ⌜ 21512 ≤ length (now order) ⌝ }
     requires { ⌜ 64 ≤ length (now keys) ⌝ }
     requires { ⌜ 64 ≤ hints ⌝ }
     requires { ⌜ hints ≤ 8192 ⌝ }

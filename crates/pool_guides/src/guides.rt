@@ -116,15 +116,15 @@ fn note_groups(order: &mut [u64], shift: u64)
 /// Where the table of numbers has a key's: its halves are put together and multiplied by the golden part of 2^32, so that keys at equal
 /// steps lie apart.
 pub fn slot_of(w: u64) -> usize
-    ensures { λ r. ⌜ r < 16384 ⌝ }
+    ensures { λ r. ⌜ r < 8192 ⌝ }
 {
     let folded = (w ^ (w >> 32)) % 4294967296;
-    (folded * 2654435769 / 262144 % 16384) as usize
+    (folded * 2654435769 / 524288 % 8192) as usize
 }
 
 // A key's number into the table, if no other has its place.
 fn note_key(order: &mut [u64], r: usize)
-    requires { ⌜ 23560 ≤ length (now order) ⌝ }
+    requires { ⌜ 21512 ≤ length (now order) ⌝ }
     requires { ⌜ r < 8192 ⌝ }
     ensures { λ _. ⌜ ((q : ℕ) → q < 16386 → getD (now (order .exit)) q 0 ≡ getD (now (order .entry)) q 0) ⌝ }
 {
@@ -138,7 +138,7 @@ fn note_key(order: &mut [u64], r: usize)
 
 fn note_keys(order: &mut [u64], k: usize)
     requires { ⌜ k ≤ 8192 ⌝ }
-    requires { ⌜ 23560 ≤ length (now order) ⌝ }
+    requires { ⌜ 21512 ≤ length (now order) ⌝ }
     ensures { λ _. ⌜ ((q : ℕ) → q < 16386 → getD (now (order .exit)) q 0 ≡ getD (now (order .entry)) q 0) ⌝ }
 {
     let mut r: usize = 0;
@@ -152,7 +152,7 @@ fn note_keys(order: &mut [u64], k: usize)
 /// numbers.
 pub fn add_guides(order: &mut [u64], k: usize)
     requires { ⌜ k ≤ 8192 ⌝ }
-    requires { ⌜ 23560 ≤ length (now order) ⌝ }
+    requires { ⌜ 21512 ≤ length (now order) ⌝ }
     ensures { λ _. ⌜ ((q : ℕ) → q < 16386 → getD (now (order .exit)) q 0 ≡ getD (now (order .entry)) q 0) ⌝ }
 {
     plant_tree(order, 0, 17416);

@@ -12,7 +12,7 @@ ghost use Rattle.truth.specs.Evaluate.{holdsKey, memberOf};
 ghost use Rattle.truth.specs.Halves.{key, biasOf};
 ghost use Rattle.masks.specs.Masks.{Tells, Shown};
 ghost use Rattle.masks.specs.Block.{Finds};
-ghost use Rattle.pool_order.specs.Order.{Full, Ordered};
+ghost use Rattle.pool_order.specs.Order.{Full, OrderedPart, Ordered};
 ghost use Rattle.pool_lists.specs.Truths.{Truths};
 use masks::Masks;
 use masks::block::biased;
@@ -22,6 +22,7 @@ use masks::with_bit;
 use pool_guesses::guessing::guess;
 use pool_order::asking::holds;
 use pool_order::asking::holds_from;
+use pool_order::making::part_end;
 use records::bytes::value_in;
 use records::record::Fields;
 
@@ -55,7 +56,7 @@ fn find_key(pool: &[u8], start: u32, count: u32, w: u64) -> bool
 
 // The same by the order of the pool, where there is one and the list is long enough for it.
 fn find_one(pool: &[u8], order: &[u64], start: u32, count: u32, w: u64) -> bool
-    requires { ⌜ Ordered (now pool) (now order) ⌝ }
+    requires { ⌜ OrderedPart (now pool) (now order) ⌝ }
     requires { ⌜ 8 * (start + count) ≤ length (now pool) ⌝ }
     ensures { λ r. ⌜ ((bits : ℕ) → bits < 2 ^ 64 → w ≡ biasOf bits
         → r ≡ holdsKey (key bits) (valuesFrom (now (pool .entry)) start count)) ⌝ }
@@ -69,9 +70,8 @@ fn find_one(pool: &[u8], order: &[u64], start: u32, count: u32, w: u64) -> bool
     holds(pool, order, start, count, w)
 }
 
-// The same of 64 keys.
-fn find_keys(pool: &[u8], order: &[u64], start: u32, count: u32, keys: &[u64], at: usize) -> u64
-    requires { ⌜ Ordered (now pool) (now order) ⌝ }
+// The same of 64 keys, from the list's first value on.
+fn find_keys(pool: &[u8], start: u32, count: u32, keys: &[u64], at: usize) -> u64
     requires { ⌜ 8 * (start + count) ≤ length (now pool) ⌝ }
     requires { ⌜ at + 64 ≤ length (now keys) ⌝ }
     ensures { λ r. ⌜ Finds (now (keys .entry)) at (valuesFrom (now (pool .entry)) start count) r ⌝ }
@@ -79,11 +79,7 @@ fn find_keys(pool: &[u8], order: &[u64], start: u32, count: u32, keys: &[u64], a
     let mut m: u64 = 0;
     let mut i: usize = 0;
     while i < 64 {
-        m = with_bit(
-            m,
-            i as u32,
-            find_one(pool, order, start, count, keys[at + i]),
-        );
+        m = with_bit(m, i as u32, find_key(pool, start, count, keys[at + i]));
         i += 1;
     }
     m
@@ -122,7 +118,7 @@ fn find_guessed(
 
 // The same where the keys are those of 1 and 0, of which two words say where they stand: two questions serve all.
 fn find_truths(pool: &[u8], order: &[u64], start: u32, count: u32, ones: u64, zeros: u64) -> u64
-    requires { ⌜ Ordered (now pool) (now order) ⌝ }
+    requires { ⌜ OrderedPart (now pool) (now order) ⌝ }
     requires { ⌜ 8 * (start + count) ≤ length (now pool) ⌝ }
     ensures { λ r. ⌜ ((keys : List ℕ) (at : ℕ) → Truths keys at ones zeros
         → Finds keys at (valuesFrom (now (pool .entry)) start count) r) ⌝ }
@@ -142,15 +138,15 @@ fn find_any(
     hints: usize,
     stamp: u64,
 ) -> u64
-    requires { ⌜ Ordered (now pool) (now order) ⌝ }
+    requires { ⌜ OrderedPart (now pool) (now order) ⌝ }
     requires { ⌜ 8 * (start + count) ≤ length (now pool) ⌝ }
     requires { ⌜ 64 ≤ length (now keys) ⌝ }
     requires { ⌜ 64 ≤ hints ⌝ }
     requires { ⌜ hints ≤ 8192 ⌝ }
     ensures { λ r. ⌜ Finds (now (keys .entry)) 0 (valuesFrom (now (pool .entry)) start count) r ⌝ }
 {
-    if order.len() < 23560 {
-        return find_keys(pool, order, start, count, keys, 0);
+    if order.len() < 21512 {
+        return find_keys(pool, start, count, keys, 0);
     }
     let mut spots = [0u64; 128];
     let end = start as u64 + count as u64;
@@ -168,7 +164,7 @@ fn find_alike(
     hints: usize,
     stamp: u64,
 ) -> u64
-    requires { ⌜ Ordered (now pool) (now order) ⌝ }
+    requires { ⌜ OrderedPart (now pool) (now order) ⌝ }
     requires { ⌜ 8 * (start + count) ≤ length (now pool) ⌝ }
     requires { ⌜ 64 ≤ length (now keys) ⌝ }
     requires { ⌜ 64 ≤ hints ⌝ }
@@ -192,7 +188,7 @@ fn find_likely(
     hints: usize,
     stamp: u64,
 ) -> u64
-    requires { ⌜ Ordered (now pool) (now order) ⌝ }
+    requires { ⌜ OrderedPart (now pool) (now order) ⌝ }
     requires { ⌜ 8 * (start + count) ≤ length (now pool) ⌝ }
     requires { ⌜ 64 ≤ length (now keys) ⌝ }
     requires { ⌜ 64 ≤ hints ⌝ }
@@ -221,7 +217,7 @@ fn find_first(
     hints: usize,
     stamp: u64,
 ) -> u64
-    requires { ⌜ Ordered (now pool) (now order) ⌝ }
+    requires { ⌜ OrderedPart (now pool) (now order) ⌝ }
     requires { ⌜ 8 * (start + count) ≤ length (now pool) ⌝ }
     requires { ⌜ 64 ≤ length (now keys) ⌝ }
     requires { ⌜ 64 ≤ hints ⌝ }
@@ -229,7 +225,7 @@ fn find_first(
     ensures { λ r. ⌜ Finds (now (keys .entry)) 0 (valuesFrom (now (pool .entry)) start count) r ⌝ }
 {
     if count < 16 {
-        return find_keys(pool, order, start, count, keys, 0);
+        return find_keys(pool, start, count, keys, 0);
     }
     if is_truth_key(keys[0]) {
         return find_likely(pool, order, start, count, keys, hints, stamp);
@@ -238,6 +234,101 @@ fn find_first(
         return find_alike(pool, order, start, count, keys, hints, stamp);
     }
     find_any(pool, order, start, count, keys, hints, stamp)
+}
+
+// From where on an order of the second part stands in so many words; none does behind the last.
+fn second_from(size: usize) -> usize
+    ensures { λ r. ⌜ r ≤ size ⌝ }
+    ensures { λ r. ⌜ (r < size → (43024 ≤ size) × (r ≡ 21512)) ⌝ }
+{
+    if size < 43024 {
+        return size;
+    }
+    21512
+}
+
+// How many words an order of the first part has, of so many.
+fn first_words(size: usize) -> usize
+    ensures { λ r. ⌜ r ≤ size ⌝ }
+    ensures { λ r. ⌜ (0 < r → r ≡ 21512) ⌝ }
+{
+    if size < 21512 {
+        return 0;
+    }
+    21512
+}
+
+// The same in a pool of two parts. A list that lies in both is searched from its first value on.
+fn find_half(
+    pool: &[u8],
+    order: &[u64],
+    start: u32,
+    count: u32,
+    keys: &mut [u64],
+    hints: usize,
+    stamp: u64,
+) -> u64
+    requires { ⌜ Ordered (now pool) (now order) ⌝ }
+    requires { ⌜ 65536 < length (now pool) ⌝ }
+    requires { ⌜ 8 * (start + count) ≤ length (now pool) ⌝ }
+    requires { ⌜ 64 ≤ length (now keys) ⌝ }
+    requires { ⌜ 64 ≤ hints ⌝ }
+    requires { ⌜ hints ≤ 8192 ⌝ }
+    ensures { λ r. ⌜ Finds (now (keys .entry)) 0 (valuesFrom (now (pool .entry)) start count) r ⌝ }
+{
+    let size = pool.len();
+    let end = part_end(size);
+    let first = end / 8;
+    let at = start as usize;
+    if first <= at {
+        let words = order.len();
+        let from = second_from(words);
+        return find_first(
+            &pool[end..size],
+            &order[from..words],
+            (at - first) as u32,
+            count,
+            keys,
+            hints,
+            stamp,
+        );
+    }
+    if at + count as usize <= first {
+        let till = first_words(order.len());
+        return find_first(
+            &pool[..end],
+            &order[..till],
+            start,
+            count,
+            keys,
+            hints,
+            stamp,
+        );
+    }
+    find_keys(pool, start, count, keys, 0)
+}
+
+// The same in any pool.
+fn find_part(
+    pool: &[u8],
+    order: &[u64],
+    start: u32,
+    count: u32,
+    keys: &mut [u64],
+    hints: usize,
+    stamp: u64,
+) -> u64
+    requires { ⌜ Ordered (now pool) (now order) ⌝ }
+    requires { ⌜ 8 * (start + count) ≤ length (now pool) ⌝ }
+    requires { ⌜ 64 ≤ length (now keys) ⌝ }
+    requires { ⌜ 64 ≤ hints ⌝ }
+    requires { ⌜ hints ≤ 8192 ⌝ }
+    ensures { λ r. ⌜ Finds (now (keys .entry)) 0 (valuesFrom (now (pool .entry)) start count) r ⌝ }
+{
+    if pool.len() <= 65536 {
+        return find_first(pool, order, start, count, keys, hints, stamp);
+    }
+    find_half(pool, order, start, count, keys, hints, stamp)
 }
 
 /// is_in of a column, the first 64 keys, and the record of a list; `equal` is nulls_equal. Where `keys` has 17 words more from
@@ -261,7 +352,7 @@ pub fn member_masks(
         → Tells rows r (λ i. memberOf (now (pool .entry)) list equal (value i))) ⌝ }
 {
     let holds = list.code == 1;
-    let found = find_first(pool, order, list.a, list.b, keys, hints, stamp);
+    let found = find_part(pool, order, list.a, list.b, keys, hints, stamp);
     let certain = all_if(equal & holds);
     let likely = all_if(!equal & (holds | (list.b != 0)));
     let unsure = all_if(!equal & holds);

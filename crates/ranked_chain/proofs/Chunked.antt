@@ -80,7 +80,6 @@ part-evaluates rs p root columns base count block nulls narrow short inside room
       short = let e = part-long nulls base count inside in omega (arith, e, inside, short);
       long = lent-long columns count block room ∙ ap (λ n. 8 * columns * n) (sym (part-long nulls base count inside));
       small = every .small;
-      pooled = every .pooled;
       evaluable = λ r h.
           let e = part-long nulls base count inside in
           every .evaluable _ (lent-row-long columns count block room r (omega (arith, e, h)));
@@ -150,7 +149,7 @@ unfolding ClassesOf
 classes-none f classes r h = absurd (omega (arith, h))
 
 -- so many values lie in the block
-pub chunk-room : (columns count most size : ℕ) → count ≤ most → columns * most ≤ 16384 → 131072 ≤ size → 8 * columns * count ≤ size
+pub chunk-room : (columns count most size : ℕ) → count ≤ most → columns * most ≤ 8192 → 65536 ≤ size → 8 * columns * count ≤ size
 chunk-room columns count most size h k l =
     let s : columns ≤ columns = omega arith in
     let e : columns * count ≤ columns * most = mul-le-mul s h in

@@ -1,7 +1,7 @@
 pub mod Slots
 pub mod RankedRow
 pub mod RanksFit
-pub mod Ends
+pub mod RaisedLists
 pub mod RankedRecords
 pub mod Ranking
 pub mod Chunked

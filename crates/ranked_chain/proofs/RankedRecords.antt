@@ -19,7 +19,6 @@ use Rattle.ranked_screen.specs.Screen.{writeValue}
 use Rattle.ranked_screen.proofs.Pools.{value-new}
 use Rattle.symbol_reduction.specs.Reduction.{Copied}
 use Rattle.symbol_reduction.proofs.Constants.{fields-copied}
-use Rattle.row_ranks.specs.RowRanks.{wideRank}
 use Rattle.ranked_chain.specs.RankedChain.{isTextLiteral, RankedLiterals}
 
 -- ---- The words B and C of record i are written, as value 2 i + 1 of the bytes.
@@ -92,15 +91,15 @@ literals-none rs ranks used out c =
       ranked = λ i h. absurd (omega (arith, h));
     }
 
-module _ (rs ranks : List ℕ) (used n : ℕ) (old out : List ℕ) (rank : ℕ) (room : 16 * n + 16 ≤ length old) (low : rank < 12288)
+module _ (rs ranks : List ℕ) (used n : ℕ) (old out : List ℕ) (rank : ℕ) (room : 16 * n + 16 ≤ length old) (low : rank < 18446744073709551616)
     (er : rank ≡ getD ranks n 0)
-    (eo : out ≡ cond (isTextLiteral (fieldsAt rs (node n))) (writeValue old (2 * n + 1) (wideRank rank)) old)
+    (eo : out ≡ cond (isTextLiteral (fieldsAt rs (node n))) (writeValue old (2 * n + 1) rank) old)
     (s : RankedLiterals rs ranks used n old) where
   same : isTextLiteral (fieldsAt rs (node n)) ≡ false → out ≡ old
-  same e = eo ∙ ap (λ b. cond b (writeValue old (2 * n + 1) (wideRank rank)) old) e
+  same e = eo ∙ ap (λ b. cond b (writeValue old (2 * n + 1) rank) old) e
 
-  written : isTextLiteral (fieldsAt rs (node n)) ≡ true → out ≡ writeValue old (2 * n + 1) (wideRank rank)
-  written e = eo ∙ ap (λ b. cond b (writeValue old (2 * n + 1) (wideRank rank)) old) e
+  written : isTextLiteral (fieldsAt rs (node n)) ≡ true → out ≡ writeValue old (2 * n + 1) rank
+  written e = eo ∙ ap (λ b. cond b (writeValue old (2 * n + 1) rank) old) e
 
   skipped : isTextLiteral (fieldsAt rs (node n)) ≡ false → RankedLiterals rs ranks used (n + 1) out
   skipped e =
@@ -113,11 +112,7 @@ module _ (rs ranks : List ℕ) (used n : ℕ) (old out : List ℕ) (rank : ℕ) 
       })
 
   other : isTextLiteral (fieldsAt rs (node n)) ≡ true → (i : ℕ) → (i ≡ n → ⊥) → fieldsAt out (node i) ≡ fieldsAt old (node i)
-  other e i d = ap (λ l. fieldsAt l (node i)) (written e) ∙ fields-other old n (wideRank rank) room i d
-
-  wide-low : wideRank rank < 18446744073709551616
-  unfolding wideRank
-  wide-low = omega (arith, low)
+  other e i d = ap (λ l. fieldsAt l (node i)) (written e) ∙ fields-other old n rank room i d
 
   ranked : isTextLiteral (fieldsAt rs (node n)) ≡ true → RankedLiterals rs ranks used (n + 1) out
   ranked e =
@@ -129,13 +124,13 @@ module _ (rs ranks : List ℕ) (used n : ℕ) (old out : List ℕ) (rank : ℕ) 
             (λ q. ap (λ f. f .kind) (other e i (eqb-false i n q)) ∙ s .kind i h);
         ranked = λ i l t. last i n l
             (λ (g : i < n). ap (λ f. f .b + 4294967296 * f .c) (other e i (λ q. omega (arith, q, g))) ∙ s .ranked i g t)
-            (λ (g : i ≡ n). subst (λ j. fieldsAt out (node j) .b + 4294967296 * fieldsAt out (node j) .c ≡ wideRank (getD ranks j 0))
+            (λ (g : i ≡ n). subst (λ j. fieldsAt out (node j) .b + 4294967296 * fieldsAt out (node j) .c ≡ getD ranks j 0)
             (sym g) (ap (λ l. fieldsAt l (node n) .b + 4294967296 * fieldsAt l (node n) .c) (written e)
-            ∙ value-there old n (wideRank rank) room wide-low ∙ ap wideRank er));
+            ∙ value-there old n rank room low ∙ er));
       }
     where
       here : n < used → fieldsAt out (node n) .kind ≡ fieldsAt rs (node n) .kind
-      here h = ap (λ l. fieldsAt l (node n) .kind) (written e) ∙ kind-kept old n (wideRank rank) room ∙ s .kind n h
+      here h = ap (λ l. fieldsAt l (node n) .kind) (written e) ∙ kind-kept old n rank room ∙ s .kind n h
 
   pub literals-more : RankedLiterals rs ranks used (n + 1) out
   literals-more = by-test (isTextLiteral (fieldsAt rs (node n))) ranked skipped

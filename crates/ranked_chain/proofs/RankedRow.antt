@@ -3,12 +3,12 @@ use mathlib.Core.Path.{_≡_, refl, sym, _∙_, ap, subst, fun-ext}
 use mathlib.Core.Bool.{Bool, true, false, cond, not, _&&_, true≢false}
 use mathlib.Core.List.{List, [], _∷_, map}
 use mathlib.Core.Option.{Option, none, some, Option·map}
-use Prim.Native.Nat.{ℕ, zero, suc, _+_, _*_, _/_, _≤_, _<_}
+use Prim.Native.Nat.{ℕ, zero, suc, _+_, _-_, _*_, _/_, _≤_, _<_}
 use native.Mathlib.Omega.{arith}
 use lib.Dec.{ltb, leb, eqb}
 use lib.IntN.{ℤ}
 use lib.ListN.{length, getD, List·getD-eq-default}
-use borrow.Author.Tests.{lt-ltb, ltb-true, ltb-false, leb-true, eqb-true, not-true}
+use borrow.Author.Tests.{lt-ltb, le-ltb, ltb-true, ltb-false, leb-true, eqb-true, not-true}
 use Rattle.records.specs.Bytes.{word, valueAt}
 use Rattle.records.specs.Record.{node, fieldsAt, decode, recordAt}
 use Rattle.records.specs.Shape.{inPool}
@@ -40,7 +40,9 @@ use Rattle.symbol_reduction.proofs.TextInputs.{decode-ind, shape-kind}
 use Rattle.symbol_rows.specs.RowTestWith.{rowFaultWith}
 use Rattle.symbol_reduction.proofs.TextLeaves.{row-long, column-pooled}
 use Rattle.row_ranks.specs.RowRanks.{wideRank, Dictionary, holdsSymbol, RowRanks}
-use Rattle.ranked_chain.specs.RankedChain.{isTextLiteral, RankedLiterals, RankedLists, ChainRanks}
+use Rattle.ranked_screen.specs.Screen.{poolValue, RankedPool}
+use Rattle.ranked_chain.specs.RankedChain.{isTextLiteral, isNumberList, raised, WideRecords, Widened, ChainRanks}
+use Rattle.ranked_chain.proofs.RaisedLists.{in-pool, list-kind, no-list, raised-same}
 use Rattle.ranked_chain.proofs.Slots as slots
 
 -- ---- Past its end a row reads as 0.
@@ -59,28 +61,42 @@ past row k h =
       b (8 * k + 4 + 3) (omega arith),
     )
 
--- ---- What stands in a list.
-abbrev ListRanked : List ℕ → List ℕ → ℕ → List ℕ → Record → Type 0
-ListRanked p ranks used pool kind.Invalid = Unit {0}
-ListRanked p ranks used pool (kind.Column c) = Unit {0}
-ListRanked p ranks used pool (kind.Literal ty v) = Unit {0}
-ListRanked p ranks used pool (kind.Null ty) = Unit {0}
-ListRanked p ranks used pool (kind.Binary o x y) = Unit {0}
-ListRanked p ranks used pool (kind.Not x) = Unit {0}
-ListRanked p ranks used pool (kind.IsNull x) = Unit {0}
-ListRanked p ranks used pool (kind.IsNotNull x) = Unit {0}
-ListRanked p ranks used pool (kind.IsBetween ends x low high) = Unit {0}
-ListRanked p ranks used pool (kind.List ty marked start count) =
-    (k : ℕ) → start ≤ k → k < start + count → valueAt pool k ≡ cond (eqb ty 4) (wideRank (getD ranks (used + k) 0)) (valueAt p k)
-ListRanked p ranks used pool (kind.IsIn equal x list) = Unit {0}
+-- ---- A list, if it is one, is of type Text.
+abbrev TextList : Record → Type 0
+TextList kind.Invalid = Unit {0}
+TextList (kind.Column c) = Unit {0}
+TextList (kind.Literal ty v) = Unit {0}
+TextList (kind.Null ty) = Unit {0}
+TextList (kind.Binary o x y) = Unit {0}
+TextList (kind.Not x) = Unit {0}
+TextList (kind.IsNull x) = Unit {0}
+TextList (kind.IsNotNull x) = Unit {0}
+TextList (kind.IsBetween ends x low high) = Unit {0}
+TextList (kind.List ty marked start count) = eqb ty 4 ≡ true
+TextList (kind.IsIn equal x list) = Unit {0}
 
-list-ranked : (p ranks : List ℕ) (used : ℕ) (pool : List ℕ) (f : Fields) → (1 ≤ f .kind) × (f .kind ≤ 10)
-    → (f .kind ≡ 9 → (k : ℕ) → f .a ≤ k → k < f .a + f .b
-    → valueAt pool k ≡ cond (eqb (f .ty) 4) (wideRank (getD ranks (used + k) 0)) (valueAt p k))
-    → ListRanked p ranks used pool (decode f)
-list-ranked p ranks used pool f l h =
-    decode-ind (ListRanked p ranks used pool) f l (λ k. tt) (λ k. tt) (λ k. tt) (λ k. tt) (λ k. tt) (λ k. tt) (λ k. tt) (λ k. tt) h
-    (λ k. tt)
+of-text : (b : Bool) → not b ≡ false → b ≡ true
+of-text true e = refl
+of-text false e = absurd (true≢false e)
+
+text-list : (f : Fields) → (1 ≤ f .kind) × (f .kind ≤ 10) → isNumberList f ≡ false → TextList (decode f)
+unfolding isNumberList
+text-list f l e =
+    decode-ind TextList f l (λ k. tt) (λ k. tt) (λ k. tt) (λ k. tt) (λ k. tt) (λ k. tt) (λ k. tt) (λ k. tt)
+    (λ k. of-text (eqb (f .ty) 4) (rw k at e)) (λ k. tt)
+
+number-type : (f : Fields) → isNumberList f ≡ true → eqb (f .ty) 4 ≡ false
+unfolding isNumberList
+number-type f e = not-true (eqb (f .ty) 4) (and-right (eqb (f .kind) 9) (not (eqb (f .ty) 4)) e)
+
+decode-list : (f : Fields) → f .kind ≡ 9 → decode f ≡ kind.List (f .ty) (eqb (f .code) 1) (f .a) (f .b)
+unfolding decode
+decode-list f k = rw k
+
+decode-raised : (words : ℕ) (f : Fields) → isNumberList f ≡ true
+    → decode (raised words f) ≡ kind.List (f .ty) (eqb (f .code) 1) (words + f .a) (f .b)
+unfolding raised decode
+decode-raised words f e = let k = list-kind f e in rw (e, k)
 
 -- ---- No literal of type Text.
 abbrev NoText : Record → Type 0
@@ -110,80 +126,111 @@ unfolding decode
 decode-literal f k = rw k
 
 -- ---- What is read of the screen of wide ranks.
-module _ (text t rs p : List ℕ) (used root : ℕ) (ok : CheckedIn (lent text) t rs p used root) (ranks numbers : List ℕ) (count : ℕ)
-    (enough : placeCount p used ≤ count)
-    (wide : (i : ℕ) → i < placeCount p used → getD numbers i 0 ≡ wideRank (getD ranks i 0))
-    (out pool : List ℕ) (literals : RankedLiterals rs ranks used used out) (lists : RankedLists rs p ranks used pool) where
+module _ (text t rs p : List ℕ) (used root : ℕ) (ok : CheckedIn (lent text) t rs p used root) (wide numbers : List ℕ) (count : ℕ)
+    (enough : placeCount p used ≤ count) (same : (i : ℕ) → i < placeCount p used → getD numbers i 0 ≡ getD wide i 0)
+    (out pool : List ℕ) (records : WideRecords rs wide (length p / 8) used out)
+    (held : RankedPool p wide used (2 * (length p / 8)) pool) where
   abbrev by : Bool × ℕ → ℕ
   by v = standingOrNot numbers count v
 
-  stands : (i : ℕ) → i < placeCount p used → standing numbers count i ≡ wideRank (getD ranks i 0)
-  stands i h = ap (λ j. getD numbers j 0) (within-below count i (omega (arith, h, enough))) ∙ wide i h
+  stands : (i : ℕ) → i < placeCount p used → standing numbers count i ≡ getD wide i 0
+  stands i h = ap (λ j. getD numbers j 0) (within-below count i (omega (arith, h, enough))) ∙ same i h
 
-  texts-from : (start c : ℕ) → ((k : ℕ) → start ≤ k → k < start + c → valueAt pool k ≡ standing numbers count (used + k))
-      → valuesFrom pool start c ≡ map by (placedFrom used start c)
+  -- the ranks stand in front
+  rank-value : (k : ℕ) → k < length p / 8 → valueAt pool k ≡ standing numbers count (used + k)
+  unfolding poolValue
+  rank-value k h =
+      held .values k (omega (arith, h)) ∙ rw (lt-ltb k (length p / 8) h) (sym (stands (used + k) (omega (arith, h))))
+
+  texts-from : (start c : ℕ) → start + c ≤ length p / 8 → valuesFrom pool start c ≡ map by (placedFrom used start c)
   unfolding valuesFrom
   texts-from start zero h = refl
   texts-from start (suc c) h =
-      λ i. h start (omega arith) (omega arith) i ∷ texts-from (suc start) c (λ k a b. h k (omega (arith, a)) (omega (arith, b))) i
+      λ i. rank-value start (omega (arith, h)) i ∷ texts-from (suc start) c (omega (arith, h)) i
 
-  values-stay : (start c : ℕ) → ((k : ℕ) → start ≤ k → k < start + c → valueAt pool k ≡ valueAt p k)
-      → valuesFrom pool start c ≡ map by (map number (valuesFrom p start c))
+  -- behind them the values
+  moved-value : (k : ℕ) → k < length p / 8 → valueAt pool (length p / 8 + k) ≡ valueAt p k
+  unfolding poolValue
+  moved-value k h =
+      held .values (length p / 8 + k) (omega (arith, h))
+      ∙ (let q : length p / 8 + k - length p / 8 ≡ k = omega arith in
+      rw (le-ltb (length p / 8 + k) (length p / 8) (omega arith), q))
+
+  values-moved : (start c : ℕ) → start + c ≤ length p / 8
+      → valuesFrom pool (length p / 8 + start) c ≡ map by (map number (valuesFrom p start c))
   unfolding valuesFrom
-  values-stay start zero h = refl
-  values-stay start (suc c) h =
-      λ i. h start (omega arith) (omega arith) i ∷ values-stay (suc start) c (λ k a b. h k (omega (arith, a)) (omega (arith, b))) i
+  values-moved start zero h = refl
+  values-moved start (suc c) h =
+      let q : suc (length p / 8 + start) ≡ length p / 8 + suc start = omega arith in
+      λ i. moved-value start (omega (arith, h)) i
+      ∷ (ap (λ m. valuesFrom pool m c) q ∙ values-moved (suc start) c (omega (arith, h))) i
 
-  record-read : (n : ℕ) (r : Record) → NoText r → reachOkIn (lent text) t p r (node n) ≡ true → ListRanked p ranks used pool r
+  record-read : (n : ℕ) (r : Record) → NoText r → TextList r → reachOkIn (lent text) t p r (node n) ≡ true
       → toAExpr pool r ≡ mapAExpr by (placedAExpr used p n r)
   unfolding reachOkIn listOkIn
-  record-read n kind.Invalid l k h = refl
-  record-read n (kind.Column c) l k h = refl
-  record-read n (kind.Literal ty v) l k h = ap (λ b. Literal (by (cond b (true, n) (number v)))) (sym l)
-  record-read n (kind.Null ty) l k h = refl
-  record-read n (kind.Binary o x y) l k h =
+  record-read n kind.Invalid l h k = refl
+  record-read n (kind.Column c) l h k = refl
+  record-read n (kind.Literal ty v) l h k = ap (λ b. Literal (by (cond b (true, n) (number v)))) (sym l)
+  record-read n (kind.Null ty) l h k = refl
+  record-read n (kind.Binary o x y) l h k =
       binary-ind (λ q. q ≡ mapAExpr by (mapAExpr number q)) (x .0) (y .0) refl (refl, refl) o (λ a c. refl)
       (λ a. (refl, refl)) (λ a d b. refl)
-  record-read n (kind.Not x) l k h = refl
-  record-read n (kind.IsNull x) l k h = refl
-  record-read n (kind.IsNotNull x) l k h = refl
-  record-read n (kind.IsBetween ends x low high) l k h = refl
-  record-read n (kind.List ty marked start c) l k h = ap (ListLiteral marked) (go (eqb ty 4) h)
-    where
-      inside : start + c ≤ length p / 8
-      inside = leb-true (start + c) (length p / 8) (and-left (leb (start + c) (length p / 8)) _ k)
-
-      go : (b : Bool)
-          → ((k : ℕ) → start ≤ k → k < start + c → valueAt pool k ≡ cond b (wideRank (getD ranks (used + k) 0)) (valueAt p k))
-          → valuesFrom pool start c ≡ map by (cond b (placedFrom used start c) (map number (valuesFrom p start c)))
-      go true f = texts-from start c (λ k a b. f k a b ∙ sym (stands (used + k) (omega (arith, b, inside))))
-      go false f = values-stay start c f
-  record-read n (kind.IsIn equal x list) l k h = refl
+  record-read n (kind.Not x) l h k = refl
+  record-read n (kind.IsNull x) l h k = refl
+  record-read n (kind.IsNotNull x) l h k = refl
+  record-read n (kind.IsBetween ends x low high) l h k = refl
+  record-read n (kind.List ty marked start c) l h k =
+      ap (ListLiteral marked) (texts-from start c (leb-true (start + c) (length p / 8) (and-left (leb (start + c) (length p / 8)) _ k))
+      ∙ ap (λ b. map by (cond b (placedFrom used start c) (map number (valuesFrom p start c)))) (sym h))
+  record-read n (kind.IsIn equal x list) l h k = refl
 
   abbrev F : ℕ → Fields
   F n = fieldsAt rs (node n)
 
+  abbrev M : ℕ → Fields
+  M n = fieldsAt (records .middle) (node n)
+
+  abbrev G : ℕ → Fields
+  G n = fieldsAt out (node n)
+
   literal-read : (n : ℕ) → n < used → isTextLiteral (F n) ≡ true
-      → toAExpr pool (decode (fieldsAt out (node n))) ≡ mapAExpr by (placedAExpr used p n (decode (F n)))
+      → toAExpr pool (decode (G n)) ≡ mapAExpr by (placedAExpr used p n (decode (F n)))
   literal-read n h e =
       let k = text-literal (F n) e in
-      ap (toAExpr pool) (decode-literal (fieldsAt out (node n)) (literals .kind n h ∙ k .0))
-      ∙ ap Literal (literals .ranked n h e ∙ sym (stands n (omega (arith, h))))
+      let m : M n .kind ≡ 2 = records .literals .kind n h ∙ k .0 in
+      ap (λ f. toAExpr pool (decode f)) (records .lists .done n h ∙ raised-same (length p / 8) (M n) (no-list (M n) m))
+      ∙ ap (toAExpr pool) (decode-literal (M n) m)
+      ∙ ap Literal (records .literals .ranked n h e ∙ sym (stands n (omega (arith, h))))
       ∙ ap (λ ty. Literal (by (cond (eqb ty 4) (true, n) (number (F n .b + 4294967296 * F n .c))))) (sym (k .1))
       ∙ ap (λ r. mapAExpr by (placedAExpr used p n r)) (sym (decode-literal (F n) (k .0)))
 
-  kept-read : (n : ℕ) → n < used → isTextLiteral (F n) ≡ false
-      → toAExpr pool (decode (fieldsAt out (node n))) ≡ mapAExpr by (placedAExpr used p n (decode (F n)))
+  raised-to : (n : ℕ) → n < used → isTextLiteral (F n) ≡ false → G n ≡ raised (length p / 8) (F n)
+  raised-to n h e = records .lists .done n h ∙ ap (raised (length p / 8)) (records .literals .kept n h e)
+
+  list-read : (n : ℕ) → n < used → isTextLiteral (F n) ≡ false → isNumberList (F n) ≡ true
+      → toAExpr pool (decode (G n)) ≡ mapAExpr by (placedAExpr used p n (decode (F n)))
+  list-read n h e d =
+      let k = list-kind (F n) d in
+      ap (λ f. toAExpr pool (decode f)) (raised-to n h e)
+      ∙ ap (toAExpr pool) (decode-raised (length p / 8) (F n) d)
+      ∙ ap (ListLiteral (eqb (F n .code) 1)) (values-moved (F n .a) (F n .b) (in-pool (lent text) t rs p used root ok n h k)
+      ∙ ap (λ b. map by (cond b (placedFrom used (F n .a) (F n .b)) (map number (valuesFrom p (F n .a) (F n .b)))))
+      (sym (number-type (F n) d)))
+      ∙ ap (λ r. mapAExpr by (placedAExpr used p n r)) (sym (decode-list (F n) k))
+
+  kept-read : (n : ℕ) → n < used → isTextLiteral (F n) ≡ false → isNumberList (F n) ≡ false
+      → toAExpr pool (decode (G n)) ≡ mapAExpr by (placedAExpr used p n (decode (F n)))
   unfolding recordAt
-  kept-read n h e =
-      ap (λ f. toAExpr pool (decode f)) (literals .kept n h e)
+  kept-read n h e d =
+      ap (λ f. toAExpr pool (decode f)) (raised-to n h e ∙ raised-same (length p / 8) (F n) d)
       ∙ (let l = shape-kind (lent text) (F n) (ok .records n h .shape) in
-      record-read n (decode (F n)) (no-text (F n) l e) (ok .records n h .reach)
-      (list-ranked p ranks used pool (F n) l (lists .lists n h)))
+      record-read n (decode (F n)) (no-text (F n) l e) (text-list (F n) l d) (ok .records n h .reach))
 
   pub reads : (n : ℕ) → n < used → aexprOf out pool n ≡ rankedAt rs p used numbers count n
   unfolding aexprOf placedAt recordAt
-  reads n h = rw (lt-ltb n used h) (by-test (isTextLiteral (F n)) (literal-read n h) (kept-read n h))
+  reads n h =
+      rw (lt-ltb n used h) (by-test (isTextLiteral (F n)) (literal-read n h)
+      (λ e. by-test (isNumberList (F n)) (list-read n h e) (kept-read n h e)))
 
 -- ---- The row.
 module _ (text t row : List ℕ) (nulls : ℕ) (S : List ℕ) (m : ℕ) (block : List ℕ) (told : RowRanks text t S m row nulls block)
@@ -321,5 +368,5 @@ module _ (text t rs p : List ℕ) (used root : ℕ) (ok : CheckedIn (lent text) 
       value-of number-of))
       ∙ ap (λ c. c .truth)
       (cells-agree key ordZ truthKeys (rankedAt rs p used numbers count) (aexprOf out pool) (rowKeys block nulls) used
-      (λ k h. sym (reads text t rs p used root ok (ranks .ranks) numbers count enough-screen wide out pool (ranks .literals)
-      (ranks .lists) k h)) root (ok .root-used))
+      (λ k h. sym (reads text t rs p used root ok (ranks .wide) numbers count enough-screen
+      (λ i g. wide i g ∙ sym (ranks .widened .widened i g)) out pool (ranks .records) (ranks .held) k h)) root (ok .root-used))

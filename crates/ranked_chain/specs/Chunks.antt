@@ -1,7 +1,7 @@
 -- Rows of a chain that are judged by their numbers.
 use mathlib.Core.Path.{_≡_}
 use mathlib.Core.List.{List}
-use Prim.Native.Nat.{ℕ, _+_, _*_, _≤_, _<_}
+use Prim.Native.Nat.{ℕ, _+_, _*_, _%_, _≤_, _<_}
 use lib.ListN.{length, getD}
 use Rattle.three_valued.specs.declared.logic.Truth.{Truth}
 use Rattle.truth.specs.Evaluate.{rowTruth, Evaluable}
@@ -13,7 +13,8 @@ use Rattle.row_ranks.specs.RowRanks.{RowRanks}
 pub record EveryRow (columns : ℕ) (rs p : List ℕ) (root : ℕ) : Type 0 where
   pub small : root < 4096
   pub room : 16 * root + 15 < length rs
-  pub pooled : length p ≤ 65536
+  pub pooled : length p ≤ 131072
+  pub even : length p % 16 ≡ 0
   pub evaluable : (row : List ℕ) → length row ≡ 8 * columns → Evaluable rs p row root
 
 -- f says what the numbers of each row, whichever they are, make of the root.

@@ -1,6 +1,7 @@
 // The classes of the rows, some rows at a time: their numbers into a lent block, which is then judged as a chain of numbers.
-// The records are marked and the pool is put in order once for all rows.
+// The records are marked and the pool's parts are put in order once for all rows.
 ghost use mathlib.Core.Path.{_≡_};
+ghost use mathlib.Core.Bool.{true};
 ghost use Prim.Native.Nat.{ℕ, _+_, _*_, _≤_, _<_};
 ghost use lib.ListN.{length, getD};
 ghost use Rattle.three_valued.specs.declared.logic.Truth.{Truth};
@@ -11,23 +12,27 @@ ghost use Rattle.ranked_chain.specs.Chunks.{EveryRow, RowTruths, Classes
 use chain_rows::judge::asked_values;
 use chain_rows::judge::judge_blocks;
 use masks::reach::mark_reached;
-use pool_order::making::make_order;
+use pool_order::making::order_both;
+use pool_order::making::order_first;
 use records::record::Node;
 use row_blocks::depths::note_depths;
 use row_ranks::block::block_ranks;
 
-// How many rows of so many columns a block of 16,384 values holds; 1,024 are a chain.
+// How many rows of so many columns a block of 8,192 values holds; 1,024 are a chain.
 fn chunk_rows(columns: usize) -> usize
     requires { ⌜ columns ≤ 64 ⌝ }
-    ensures { λ r. ⌜ (0 < r) × (r ≤ 1024) × (columns * r ≤ 16384) ⌝ }
+    ensures { λ r. ⌜ (0 < r) × (r ≤ 1024) × (columns * r ≤ 8192) ⌝ }
 {
-    if columns <= 16 {
+    if columns <= 8 {
         return 1024;
     }
-    if columns <= 32 {
+    if columns <= 16 {
         return 512;
     }
-    256
+    if columns <= 32 {
+        return 256;
+    }
+    128
 }
 
 fn at_most(left: usize, most: usize) -> usize
@@ -126,7 +131,7 @@ fn judge_parts(
         (now (values .entry)) (now (nulls .entry)) (now (records .entry)) (now (pool .entry)) (root .0) f
         → ClassesOf f (now (classes .exit)) (length (now (nulls .entry)))) ⌝ }
 {
-    let mut block = [0u8; 131072];
+    let mut block = [0u8; 65536];
     let most = chunk_rows(table.len());
     let mut base: usize = 0;
     while base < nulls.len() {
@@ -204,7 +209,7 @@ fn judge_searching(
     );
 }
 
-// With one; so too, of judge_ordered.
+// With one of the first part of the pool, where the symbols are; so too, of judge_ordered.
 fn judge_sorted(
     table: &[u8],
     text: &[u8],
@@ -229,12 +234,12 @@ fn judge_sorted(
         (now (values .entry)) (now (nulls .entry)) (now (records .entry)) (now (pool .entry)) (root .0) f
         → ClassesOf f (now (classes .exit)) (length (now (nulls .entry)))) ⌝ }
 {
-    let mut order = [0u64; 23560];
+    let mut order = [0u64; 21512];
     let mut truths = [0u64; 4096];
     let mut unknowns = [0u64; 4096];
     let mut keys = [0u64; 1920];
     note_depths(records, root, &mut truths);
-    make_order(pool, &mut order);
+    order_first(pool, &mut order);
     judge_parts(
         table,
         text,
@@ -254,12 +259,129 @@ fn judge_sorted(
     );
 }
 
-// Whether the pool is put in order, of so many values asked for, as crate chain_rows has it.
+// With orders of both parts.
+fn judge_both(
+    table: &[u8],
+    text: &[u8],
+    symbols: &[u64],
+    m: usize,
+    records: &[u8],
+    pool: &[u8],
+    root: Node,
+    values: &[u8],
+    nulls: &[u64],
+    marks: &[u8],
+    classes: &mut [u8],
+)
+    requires { ⌜ Entries (now text) (now symbols) m ⌝ }
+    requires { ⌜ (m ≤ length (now symbols)) × (m ≤ 12288) × (length (now table) ≤ 64) ⌝ }
+    requires { ⌜ FitRows (now text) (now table) (now values) (now nulls) 0 (length (now nulls)) ⌝ }
+    requires { ⌜ (length (now nulls) ≤ 1024) × (length (now nulls) ≤ length (now classes)) ⌝ }
+    requires { ⌜ length (now values) ≡ 8 * length (now table) * length (now nulls) ⌝ }
+    requires { ⌜ EveryRow (length (now table)) (now records) (now pool) (root .0) ⌝ }
+    requires { ⌜ (getD (now marks) (root .0) 0 ≡ 1) × Closed (now records) (now marks) 0 (root .0) × (4096 ≤ length (now marks)) ⌝ }
+    requires { ⌜ 65536 < length (now pool) ⌝ }
+    ensures { λ _. ⌜ ((f : ℕ → Truth) → RowTruths (now (text .entry)) (now (table .entry)) (now (symbols .entry)) m
+        (now (values .entry)) (now (nulls .entry)) (now (records .entry)) (now (pool .entry)) (root .0) f
+        → ClassesOf f (now (classes .exit)) (length (now (nulls .entry)))) ⌝ }
+{
+    let mut order = [0u64; 43024];
+    let mut truths = [0u64; 4096];
+    let mut unknowns = [0u64; 4096];
+    let mut keys = [0u64; 1920];
+    note_depths(records, root, &mut truths);
+    order_both(pool, &mut order);
+    judge_parts(
+        table,
+        text,
+        symbols,
+        m,
+        records,
+        pool,
+        &order,
+        root,
+        values,
+        nulls,
+        marks,
+        &mut truths,
+        &mut unknowns,
+        &mut keys,
+        classes,
+    );
+}
+
+// Whether a part of the pool is put in order, of so many values asked for, as crate chain_rows has it.
 fn order_pays(asked: u64, rows: usize) -> bool {
     if rows < 128 {
         return 65536 <= asked;
     }
     4096 <= asked
+}
+
+// Whether the second part is too, of a pool of so many bytes.
+fn second_pays(size: usize, asked: u64, rows: usize) -> bool
+    ensures { λ r. ⌜ (r ≡ true → 65536 < size) ⌝ }
+{
+    if size <= 65536 {
+        return false;
+    }
+    order_pays(asked, rows)
+}
+
+// With one order or none.
+fn judge_asked(
+    table: &[u8],
+    text: &[u8],
+    symbols: &[u64],
+    m: usize,
+    records: &[u8],
+    pool: &[u8],
+    root: Node,
+    values: &[u8],
+    nulls: &[u64],
+    marks: &[u8],
+    classes: &mut [u8],
+)
+    requires { ⌜ Entries (now text) (now symbols) m ⌝ }
+    requires { ⌜ (m ≤ length (now symbols)) × (m ≤ 12288) × (length (now table) ≤ 64) ⌝ }
+    requires { ⌜ FitRows (now text) (now table) (now values) (now nulls) 0 (length (now nulls)) ⌝ }
+    requires { ⌜ (length (now nulls) ≤ 1024) × (length (now nulls) ≤ length (now classes)) ⌝ }
+    requires { ⌜ length (now values) ≡ 8 * length (now table) * length (now nulls) ⌝ }
+    requires { ⌜ EveryRow (length (now table)) (now records) (now pool) (root .0) ⌝ }
+    requires { ⌜ (getD (now marks) (root .0) 0 ≡ 1) × Closed (now records) (now marks) 0 (root .0) × (4096 ≤ length (now marks)) ⌝ }
+    ensures { λ _. ⌜ ((f : ℕ → Truth) → RowTruths (now (text .entry)) (now (table .entry)) (now (symbols .entry)) m
+        (now (values .entry)) (now (nulls .entry)) (now (records .entry)) (now (pool .entry)) (root .0) f
+        → ClassesOf f (now (classes .exit)) (length (now (nulls .entry)))) ⌝ }
+{
+    if order_pays(asked_values(records, root, marks, 0), nulls.len()) {
+        judge_sorted(
+            table,
+            text,
+            symbols,
+            m,
+            records,
+            pool,
+            root,
+            values,
+            nulls,
+            marks,
+            classes,
+        );
+    } else {
+        judge_searching(
+            table,
+            text,
+            symbols,
+            m,
+            records,
+            pool,
+            root,
+            values,
+            nulls,
+            marks,
+            classes,
+        );
+    }
 }
 
 /// The class of every row.
@@ -287,8 +409,9 @@ pub fn judge_chunks(
 {
     let mut marks = [0u8; 4096];
     mark_reached(records, root, &mut marks);
-    if order_pays(asked_values(records, root, &marks), nulls.len()) {
-        judge_sorted(
+    let behind = asked_values(records, root, &marks, (pool.len() / 16) as u32);
+    if second_pays(pool.len(), behind, nulls.len()) {
+        judge_both(
             table,
             text,
             symbols,
@@ -302,7 +425,7 @@ pub fn judge_chunks(
             classes,
         );
     } else {
-        judge_searching(
+        judge_asked(
             table,
             text,
             symbols,

@@ -1,75 +1,44 @@
-// Where the pool's lists end, told at their starts: those of Texts, and 8,193 places behind those of the other types.
+// The lists of other types than Text lie behind the wide ranks: they start as many places farther behind as the pool has values.
 ghost use mathlib.Core.Path.{_≡_};
 ghost use Prim.Native.Nat.{_+_, _*_, _≤_, _<_};
-ghost use lib.ListN.{length, getD};
+ghost use lib.ListN.{length};
 ghost use Rattle.records.specs.Record.{node, fieldsAt};
-ghost use Rattle.ranked_chain.specs.RankedChain.{endPlace, EndTold, EndsTold, Raised, ListsPooled};
-use records::record::Node;
-use records::record::fields_in;
+ghost use Rattle.ranked_chain.specs.RankedChain.{isNumberList, ListsPooled, RaisedAt, RaisedLists};
+use records::bytes::byte;
+use records::bytes::word_in;
 
-fn farther(end: u16, other: u16) -> u16
-    ensures { λ r. ⌜ end ≤ r ⌝ }
-    ensures { λ r. ⌜ other ≤ r ⌝ }
+fn is_number_list(out: &[u8], i: usize) -> bool
+    requires { ⌜ i < 4096 ⌝ }
+    ensures { λ r. ⌜ r ≡ isNumberList (fieldsAt (now (out .entry)) (node i)) ⌝ }
 {
-    if end < other {
-        return other;
-    }
-    end
+    let at = 16 * i;
+    (byte(out, at) == 9) & (byte(out, at + 2) != 4)
 }
 
-/// The end told at a place, if it is farther.
-pub fn reach(end: u16, ends: &[u16], at: usize) -> u16
-    requires { ⌜ at < length (now ends) ⌝ }
-    ensures { λ r. ⌜ end ≤ r ⌝ }
-    ensures { λ r. ⌜ getD (now (ends .entry)) at 0 ≤ r ⌝ }
+// At most 8,192 and as many more: two bytes of four.
+fn raise_list(out: &mut [u8], i: usize, words: u32)
+    requires { ⌜ (i < 4096) × (words ≤ 8192) × (16 * i + 16 ≤ length (now out)) ⌝ }
+    requires { ⌜ (fieldsAt (now out) (node i) .kind ≡ 9 → fieldsAt (now out) (node i) .a ≤ 8192) ⌝ }
+    ensures { λ _. ⌜ RaisedAt words i (now (out .entry)) (now (out .exit)) ⌝ }
 {
-    farther(end, ends[at])
-}
-
-fn end_place(ty: u8, start: u32) -> usize
-    requires { ⌜ start ≤ 8192 ⌝ }
-    ensures { λ r. ⌜ r ≡ endPlace ty start ⌝ }
-    ensures { λ r. ⌜ r < 16386 ⌝ }
-{
-    if ty == 4 {
-        return start as usize;
-    }
-    8193 + start as usize
-}
-
-fn tell_end(ends: &mut [u16], at: usize, end: u16)
-    requires { ⌜ at < length (now ends) ⌝ }
-    ensures { λ _. ⌜ end ≤ getD (now (ends .exit)) at 0 ⌝ }
-    ensures { λ _. ⌜ Raised (now (ends .entry)) (now (ends .exit)) ⌝ }
-{
-    ends[at] = reach(end, ends, at);
-}
-
-fn tell_record(records: &[u8], i: u32, ends: &mut [u16])
-    requires { ⌜ 16 * i + 15 < length (now records) ⌝ }
-    requires { ⌜ (fieldsAt (now records) (node i) .kind ≡ 9
-        → fieldsAt (now records) (node i) .a + fieldsAt (now records) (node i) .b ≤ 8192) ⌝ }
-    requires { ⌜ 16386 ≤ length (now ends) ⌝ }
-    ensures { λ _. ⌜ EndTold (now (ends .exit)) (fieldsAt (now (records .entry)) (node i)) ⌝ }
-    ensures { λ _. ⌜ Raised (now (ends .entry)) (now (ends .exit)) ⌝ }
-{
-    let f = fields_in(records, Node(i));
-    if f.kind != 9 {
+    if !is_number_list(out, i) {
         return;
     }
-    let at = end_place(f.ty, f.a);
-    tell_end(ends, at, (f.a + f.b) as u16);
+    let at = 16 * i + 4;
+    let start = words + word_in(out, at);
+    out[at] = (start % 256) as u8;
+    out[at + 1] = (start / 256) as u8;
 }
 
-/// Of the lists of the first `used` records.
-pub fn tell_ends(records: &[u8], used: u32, ends: &mut [u16])
-    requires { ⌜ (used ≤ 4096) × (16 * used ≤ length (now records)) × (16386 ≤ length (now ends)) ⌝ }
-    requires { ⌜ ListsPooled (now records) used ⌝ }
-    ensures { λ _. ⌜ EndsTold (now (records .entry)) used (now (ends .exit)) ⌝ }
+/// Of the first `used` records.
+pub fn raise_lists(out: &mut [u8], used: usize, words: u32)
+    requires { ⌜ (used ≤ 4096) × (words ≤ 8192) × (16 * used ≤ length (now out)) ⌝ }
+    requires { ⌜ ListsPooled (now out) used ⌝ }
+    ensures { λ _. ⌜ RaisedLists words used (now (out .entry)) (now (out .exit)) ⌝ }
 {
-    let mut i: u32 = 0;
+    let mut i: usize = 0;
     while i < used {
-        tell_record(records, i, ends);
+        raise_list(out, i, words);
         i += 1;
     }
 }

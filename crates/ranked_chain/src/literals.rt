@@ -5,10 +5,8 @@ ghost use Prim.Native.Nat.{_+_, _*_, _≤_, _<_};
 ghost use lib.ListN.{length, getD};
 ghost use Rattle.records.specs.Record.{node, fieldsAt};
 ghost use Rattle.ranked_screen.specs.Screen.{writeValue};
-ghost use Rattle.row_ranks.specs.RowRanks.{wideRank};
 ghost use Rattle.symbol_reduction.specs.Reduction.{Copied};
-ghost use Rattle.ranked_chain.specs.RankedChain.{isTextLiteral, RankedLiterals, LowRanks};
-use crate::pool::wide_rank;
+ghost use Rattle.ranked_chain.specs.RankedChain.{isTextLiteral, RankedLiterals};
 use ranked_screen::pool::put_value;
 use records::bytes::byte;
 
@@ -21,20 +19,19 @@ fn is_text_literal(records: &[u8], i: usize) -> bool
 }
 
 fn rank_literal(records: &[u8], i: usize, rank: u64, out: &mut [u8])
-    requires { ⌜ (i < 4096) × (rank < 12288) × (16 * i + 16 ≤ length (now out)) ⌝ }
+    requires { ⌜ (i < 4096) × (16 * i + 16 ≤ length (now out)) ⌝ }
     ensures { λ _. ⌜ now (out .exit) ≡ cond (isTextLiteral (fieldsAt (now (records .entry)) (node i)))
-        (writeValue (now (out .entry)) (2 * i + 1) (wideRank rank)) (now (out .entry)) ⌝ }
+        (writeValue (now (out .entry)) (2 * i + 1) rank) (now (out .entry)) ⌝ }
 {
     if !is_text_literal(records, i) {
         return;
     }
-    put_value(out, 2 * i + 1, wide_rank(rank));
+    put_value(out, 2 * i + 1, rank);
 }
 
-/// `out` holds the records.
+/// `out` holds the records, `ranks` wide ranks.
 pub fn rank_literals(records: &[u8], ranks: &[u64], used: usize, out: &mut [u8])
     requires { ⌜ (used ≤ 4096) × (used ≤ length (now ranks)) × (16 * used ≤ length (now out)) ⌝ }
-    requires { ⌜ LowRanks (now ranks) used ⌝ }
     requires { ⌜ Copied (now records) (now out) (16 * used) ⌝ }
     ensures { λ _. ⌜ RankedLiterals (now (records .entry)) (now (ranks .entry)) used used (now (out .exit)) ⌝ }
 {

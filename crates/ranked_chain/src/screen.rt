@@ -1,36 +1,30 @@
 // The screen of wide ranks, and the dictionary of its symbols.
-ghost use mathlib.Core.Path.{_≡_};
-ghost use mathlib.Core.Bool.{true};
-ghost use mathlib.Core.List.{List};
-ghost use Prim.Native.Nat.{ℕ, _+_, _*_, _/_, _≤_, _<_};
+ghost use Prim.Native.Nat.{_*_, _/_, _≤_};
 ghost use lib.ListN.{length};
-ghost use Rattle.checking.specs.Checked.{CheckedIn};
-ghost use Rattle.symbol_screens.specs.Placed.{placeCount};
 ghost use Rattle.ranked_screen.specs.Screen.{Accepted};
-ghost use Rattle.ranked_chain.specs.RankedChain.{ListsPooled, RankedLists, LowRanks, ChainRanks};
-use crate::lists::tell_ends;
+ghost use Rattle.symbol_screens.specs.Placed.{placeCount};
+ghost use Rattle.ranked_chain.specs.RankedChain.{ListsPooled, WideRecords, ChainRanks};
+use crate::lists::raise_lists;
 use crate::literals::rank_literals;
-use crate::pool::rank_places;
+use crate::wide::widen;
 use ranked_screen::places::fill_values;
+use ranked_screen::pool::rank_pool;
 use row_ranks::dictionary::dictionary;
 use symbol_ranks::symbol_ranks;
 use symbol_reduction::reduce::copy_front;
 
-// False if a value of the pool is shared by a list of Texts and one of another type.
-fn rank_lists(records: &[u8], p: &[u8], ranks: &[u64], used: u32, pool: &mut [u8]) -> bool
-    requires { ⌜ (used ≤ 4096) × (16 * used ≤ length (now records)) × ListsPooled (now records) used ⌝ }
-    requires { ⌜ (length (now p) ≤ 65536) × (placeCount (now p) used ≤ length (now ranks)) × (length (now p) ≤ length (now pool)) ⌝ }
-    requires { ⌜ LowRanks (now ranks) (placeCount (now p) used) ⌝ }
-    ensures { λ r. ⌜ (r ≡ true → (text : ℕ) (t : List ℕ) (root : ℕ) → CheckedIn text t (now (records .entry)) (now (p .entry)) used root
-        → RankedLists (now (records .entry)) (now (p .entry)) (now (ranks .entry)) used (now (pool .exit))) ⌝ }
+// The records into `out`, with wide ranks in their literals and their lists behind these.
+fn rank_records(records: &[u8], p: &[u8], ranks: &[u64], used: u32, out: &mut [u8])
+    requires { ⌜ (used ≤ 4096) × (length (now p) ≤ 65536) × (placeCount (now p) used ≤ length (now ranks)) ⌝ }
+    requires { ⌜ (16 * used ≤ length (now records)) × (16 * used ≤ length (now out)) × ListsPooled (now records) used ⌝ }
+    ensures { λ _. ⌜ WideRecords (now (records .entry)) (now (ranks .entry)) (length (now (p .entry)) / 8) used (now (out .exit)) ⌝ }
 {
-    let mut ends = [0u16; 16386];
-    tell_ends(records, used, &mut ends);
-    rank_places(p, ranks, used as usize, &ends, pool)
+    copy_front(records, 16 * (used as usize), out);
+    rank_literals(records, ranks, used as usize, out);
+    raise_lists(out, used as usize, (p.len() / 8) as u32);
 }
 
-/// How many different symbols the screen has, at least one, which are then in the front of `symbols`; or 0, and `out` is as it was, if
-/// a value of the pool is shared by a list of Texts and one of another type.
+/// How many different symbols the screen has, which are then in the front of `symbols`.
 pub fn rank_chain(
     text: &[u8],
     records: &[u8],
@@ -41,10 +35,9 @@ pub fn rank_chain(
     out: &mut [u8],
 ) -> usize
     requires { ⌜ Accepted (now text) (now records) (now p) used ⌝ }
-    requires { ⌜ (12288 ≤ length (now symbols)) × (length (now p) ≤ length (now pool)) × (16 * used ≤ length (now out)) ⌝ }
-    ensures { λ m. ⌜ ((m ≡ 0 → ⊥) → ChainRanks (now (text .entry)) (now (records .entry)) (now (p .entry)) used (now (symbols .exit)) m
-        (now (out .exit)) (now (pool .exit))) ⌝ }
-    ensures { λ m. ⌜ (m ≡ 0 → now (out .exit) ≡ now (out .entry)) ⌝ }
+    requires { ⌜ (12288 ≤ length (now symbols)) × (2 * length (now p) ≤ length (now pool)) × (16 * used ≤ length (now out)) ⌝ }
+    ensures { λ m. ⌜ ChainRanks (now (text .entry)) (now (records .entry)) (now (p .entry)) used (now (symbols .exit)) m
+        (now (out .exit)) (now (pool .exit)) ⌝ }
 {
     let mut values = [0u64; 12288];
     let mut ranks = [0u64; 12288];
@@ -52,10 +45,9 @@ pub fn rank_chain(
     fill_values(text.len() as u32, records, p, used as usize, &mut values);
     // The places sorted stand where the symbols will.
     symbol_ranks(text, &values, n, symbols, &mut ranks);
-    if !rank_lists(records, p, &ranks, used, pool) {
-        return 0;
-    }
-    copy_front(records, 16 * (used as usize), out);
-    rank_literals(records, &ranks, used as usize, out);
-    dictionary(&values, &ranks, n, symbols)
+    let m = dictionary(&values, &ranks, n, symbols);
+    widen(&mut ranks, n);
+    rank_records(records, p, &ranks, used, out);
+    rank_pool(p, &ranks, used as usize, pool);
+    m
 }

@@ -2,15 +2,16 @@
 use mathlib.Core.Path.{_≡_, refl, sym, _∙_, ap, subst}
 use mathlib.Core.Bool.{Bool, true, false, cond}
 use mathlib.Core.List.{List}
-use Prim.Native.Nat.{ℕ, zero, suc, _+_, _*_, _≤_, _<_}
+use Prim.Native.Nat.{ℕ, zero, suc, _+_, _*_, _/_, _%_, _≤_, _<_}
 use native.Mathlib.Omega.{arith}
-use lib.Dec.{ltb, eqb}
+use lib.Dec.{leb, eqb}
 use lib.ListN.{length, getD}
-use borrow.Author.Tests.{le-ltb, eqb-true, eqb-false}
+use borrow.Author.Tests.{le-ltb, eqb-true}
 use Rattle.records.specs.Bytes.{all}
-use Rattle.records.proofs.Laws.{by-test}
+use Rattle.records.proofs.Laws.{and-left, and-right}
 use Rattle.records.proofs.Loops.{all-holds}
 use Rattle.checking.specs.Checked.{CheckedIn}
+use Rattle.checking.specs.Check.{sizesOkIn}
 use Rattle.checking.specs.Tree.{treeCount}
 use Rattle.checking.proofs.Accepted.{checked-accepted-in, checked-used-in}
 use Rattle.three_valued.specs.declared.logic.Truth.{Truth}
@@ -26,6 +27,7 @@ use Rattle.symbol_screens.specs.Rows.{rowKeysWith, truthWith}
 use Rattle.symbol_rows.specs.RowTestWith.{rowFaultWith, checkedAnswerWith, testRowAnswerWith}
 use Rattle.symbol_row_test.proofs.AnswersWith.{columns-small}
 use Rattle.ranked_screen.specs.Screen.{Accepted}
+use Rattle.ranked_screen.proofs.Reading.{accepted-sizes}
 use Rattle.row_ranks.specs.RowRanks.{FitRows}
 use Rattle.ranked_chain.specs.RankedChain.{ChainRanks}
 use Rattle.ranked_chain.specs.Chunks.{EveryRow, RowTruths, ClassesOf}
@@ -41,12 +43,6 @@ all-same : (p q : ℕ → Bool) (n : ℕ) → ((i : ℕ) → p i ≡ q i) → al
 unfolding all
 all-same p q zero h = refl
 all-same p q (suc n) h = rw (all-same p q n h, h n)
-
--- what the answer 1, or another, says of the rows
-pub answered : (k : ℕ) (a : Bool) → k < 3 → (k ≡ 2 → ⊥) → (k ≡ 0 → false ≡ a) → (k ≡ 1 → true ≡ a) → eqb k 1 ≡ a
-answered k a h d refused judged =
-    by-test (eqb k 1) (λ e. e ∙ judged (eqb-true k 1 e))
-    (λ e. let n : (k ≡ 1 → ⊥) = eqb-false k 1 e in e ∙ refused (omega (arith, h, d, n)))
 
 -- ---- Rows that fit.
 module _ (text t values nulls : List ℕ) (fit : all (rowFitsWith text t values nulls) (length nulls) ≡ true) where
@@ -113,16 +109,25 @@ module _ (text t rs p : List ℕ) (used root : ℕ) (values nulls : List ℕ) (o
                 out pool ranks (chainRow (length t) values r) (getD nulls r 0) (no-fault text t values nulls fit r h) block long told);
           }
 
-      pub every-row : 0 < length nulls → 16 * used ≤ length out → length p ≤ length pool → length pool ≤ 65536
-          → EveryRow (length t) out pool root
-      every-row first long as-pool short =
+      -- the pool has whole values
+      whole : length p % 8 ≡ 0
+      unfolding sizesOkIn
+      whole =
+          eqb-true (length p % 8) 0
+          (and-left (eqb (length p % 8) 0) _ (and-right (leb used (length rs / 16)) _ (and-right (leb used 4096) _ (ok .sizes))))
+
+      pub every-row : 0 < length nulls → 16 * used ≤ length out → length pool ≡ 2 * length p → EveryRow (length t) out pool root
+      every-row first long twice =
           let u = checked-used-in (lent text) t rs p used root ok in
           let r = ok .root-used in
+          let s = accepted-sizes text rs p used (accepted text t rs p used root ok) .pool-low in
+          let w = whole in
           record {
             small = omega (arith, u, r);
             room = omega (arith, long, r);
-            pooled = short;
+            pooled = omega (arith, s, twice);
+            even = omega (arith, w, twice);
             evaluable = λ row e.
-                ranks-evaluable text t rs p used root ok (ranks .ranks) out pool (ranks .literals) as-pool (rowAt t values 0)
-                (getD nulls 0 0) (no-fault text t values nulls fit 0 first) row e long;
+                ranks-evaluable text t rs p used root ok (ranks .wide) out pool (ranks .records) (omega (arith, twice)) (omega (arith, twice))
+                (rowAt t values 0) (getD nulls 0 0) (no-fault text t values nulls fit 0 first) row e long;
           }

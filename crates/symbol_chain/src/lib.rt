@@ -1,5 +1,5 @@
 //! The class of each row of a chain, of a screen with symbols (02, 2.10 and 2.14). The screen was checked once. A few rows, and rows of
-//! many columns under a short screen, are tested one by one (each), others by their numbers (ranked).
+//! many columns under a short screen, are tested one by one (each) where lists ask for few values, others by their numbers (ranked).
 ghost use mathlib.Core.Path.{_≡_};
 ghost use mathlib.Core.Bool.{true, false};
 ghost use mathlib.Core.List.{[]};
@@ -15,31 +15,56 @@ ghost use Rattle.symbol_reduction.specs.Reduction.{Reduced};
 ghost use Rattle.symbol_chain.specs.ChainWith.{answerAtWith};
 use crate::each::judge_each;
 use crate::ranked::judge_ranked;
+use chain_rows::judge::asked_values;
 use records::record::Node;
 
 pub mod each;
 pub mod ranked;
 
+// Whether the lists ask for so few values that the rows may be tested one by one, which looks through them from the first on.
+fn asks_little(rows: usize, asked: u64) -> bool
+    requires { ⌜ rows ≤ 1024 ⌝ }
+{
+    asked <= 524288 / (rows as u64 + 1)
+}
+
 // Whether ranking the symbols of the screen, and of all columns, takes longer than to test the rows. Of few columns few are
 // symbols, as a rule.
-fn is_narrow(columns: usize, places: usize) -> bool {
+fn is_narrow(rows: usize, columns: usize, places: usize, asked: u64) -> bool
+    requires { ⌜ rows ≤ 1024 ⌝ }
+{
     if columns <= 16 {
         return false;
     }
-    places / 12 < columns
+    if places / 12 < columns {
+        return asks_little(rows, asked);
+    }
+    false
 }
 
 // In a short chain.
-fn is_short(rows: usize, columns: usize, places: usize) -> bool
-    ensures { λ r. ⌜ (r ≡ false → 32 ≤ rows) ⌝ }
+fn is_short(rows: usize, columns: usize, places: usize, asked: u64) -> bool
+    requires { ⌜ rows ≤ 1024 ⌝ }
+    ensures { λ r. ⌜ (r ≡ false → 0 < rows) ⌝ }
 {
-    if rows < 32 {
+    if rows == 0 {
         return true;
+    }
+    if rows < 32 {
+        return asks_little(rows, asked);
     }
     if places < 64 {
         return true;
     }
-    is_narrow(columns, places)
+    is_narrow(rows, columns, places, asked)
+}
+
+// How many values all records ask their lists for.
+fn asked(records: &[u8], used: u32) -> u64
+    requires { ⌜ (0 < used) × (used ≤ 4096) × (16 * used ≤ length (now records)) ⌝ }
+{
+    let marks = [1u8; 4096];
+    asked_values(records, Node(used - 1), &marks, 0)
 }
 
 // A short chain. The tables of `judge_ranked` are large: with one caller it would be a part of it, and they would lie below the calls of
@@ -69,7 +94,8 @@ fn judge_short(
         (now (pool .entry)) used (root .0) (now (values .entry)) (now (nulls .entry))) (now (classes .exit))
         (length (now (nulls .entry)))) ⌝ }
 {
-    if is_short(nulls.len(), table.len(), used as usize + pool.len() / 8) {
+    let places = used as usize + pool.len() / 8;
+    if is_short(nulls.len(), table.len(), places, asked(records, used)) {
         return judge_each(
             table,
             records,
@@ -83,7 +109,7 @@ fn judge_short(
             out,
         );
     }
-    let k = judge_ranked(
+    judge_ranked(
         table,
         records,
         pool,
@@ -94,22 +120,7 @@ fn judge_short(
         nulls,
         classes,
         out,
-    );
-    if k == 2 {
-        return judge_each(
-            table,
-            records,
-            pool,
-            text,
-            used,
-            root,
-            values,
-            nulls,
-            classes,
-            out,
-        );
-    }
-    k == 1
+    )
 }
 
 // A long one.
@@ -139,7 +150,8 @@ fn judge_long(
         (now (pool .entry)) used (root .0) (now (values .entry)) (now (nulls .entry))) (now (classes .exit))
         (length (now (nulls .entry)))) ⌝ }
 {
-    if is_narrow(table.len(), used as usize + pool.len() / 8) {
+    let places = used as usize + pool.len() / 8;
+    if is_narrow(nulls.len(), table.len(), places, asked(records, used)) {
         return judge_each(
             table,
             records,
@@ -153,7 +165,7 @@ fn judge_long(
             out,
         );
     }
-    let k = judge_ranked(
+    judge_ranked(
         table,
         records,
         pool,
@@ -164,22 +176,7 @@ fn judge_long(
         nulls,
         classes,
         out,
-    );
-    if k == 2 {
-        return judge_each(
-            table,
-            records,
-            pool,
-            text,
-            used,
-            root,
-            values,
-            nulls,
-            classes,
-            out,
-        );
-    }
-    k == 1
+    )
 }
 
 /// Every row's class, 0 false, 1 unknown, 2 passes; false if a row is refused (13). `out` holds the records.

@@ -1,6 +1,6 @@
 // The classes by the numbers of the rows' symbols (crate ranked_chain): all rows are looked at (13) before the first is judged.
 ghost use mathlib.Core.Path.{_≡_};
-ghost use mathlib.Core.Bool.{true, false};
+ghost use mathlib.Core.Bool.{true};
 ghost use mathlib.Core.List.{[]};
 ghost use Prim.Native.Nat.{ℕ, _+_, _*_, _≤_, _<_};
 ghost use lib.ListN.{length};
@@ -48,7 +48,7 @@ fn rows_fit_with(table: &[u8], text: &[u8], values: &[u8], nulls: &[u64]) -> boo
     true
 }
 
-// 1, or 2 if a value of the pool is shared by a list of Texts and one of another type: then no row is judged.
+// Every row's class.
 fn judge_numbers(
     table: &[u8],
     records: &[u8],
@@ -62,7 +62,7 @@ fn judge_numbers(
     ranked: &mut [u8],
     classes: &mut [u8],
     out: &mut [u8],
-) -> u8
+)
     requires { ⌜ CheckedIn (lent (now text)) (now table) (now records) (now pool) used (root .0) ⌝ }
     requires { ⌜ treeCount (now records) (root .0) ≤ 4096 ⌝ }
     requires { ⌜ 16 * used ≤ length (now out) ⌝ }
@@ -72,21 +72,12 @@ fn judge_numbers(
     requires { ⌜ length (now nulls) ≤ length (now classes) ⌝ }
     requires { ⌜ 0 < length (now nulls) ⌝ }
     requires { ⌜ all (rowFitsWith (now text) (now table) (now values) (now nulls)) (length (now nulls)) ≡ true ⌝ }
-    requires { ⌜ (12288 ≤ length (now symbols)) × (length (now pool) ≤ length (now ranked)) × (length (now ranked) ≤ 65536) ⌝ }
-    ensures { λ r. ⌜ r < 3 ⌝ }
-    ensures { λ r. ⌜ (r ≡ 0 → false ≡ all (λ i. isTested (answerAtWith (now (text .entry)) (now (table .entry)) (now (records .entry))
-        (now (pool .entry)) used (root .0) (now (values .entry)) (now (nulls .entry)) i)) (length (now (nulls .entry)))) ⌝ }
-    ensures { λ r. ⌜ (r ≡ 1 → true ≡ all (λ i. isTested (answerAtWith (now (text .entry)) (now (table .entry)) (now (records .entry))
-        (now (pool .entry)) used (root .0) (now (values .entry)) (now (nulls .entry)) i)) (length (now (nulls .entry)))) ⌝ }
-    ensures { λ r. ⌜ (r ≡ 1 → Judged (answerAtWith (now (text .entry)) (now (table .entry)) (now (records .entry))
+    requires { ⌜ (12288 ≤ length (now symbols)) × (length (now ranked) ≡ 2 * length (now pool)) ⌝ }
+    ensures { λ _. ⌜ Judged (answerAtWith (now (text .entry)) (now (table .entry)) (now (records .entry))
         (now (pool .entry)) used (root .0) (now (values .entry)) (now (nulls .entry))) (now (classes .exit))
-        (length (now (nulls .entry)))) ⌝ }
-    ensures { λ r. ⌜ (r ≡ 2 → now (out .exit) ≡ now (out .entry)) ⌝ }
+        (length (now (nulls .entry))) ⌝ }
 {
     let m = rank_chain(text, records, pool, used, symbols, ranked, out);
-    if m == 0 {
-        return 2;
-    }
     judge_chunks(
         table,
         text,
@@ -99,10 +90,9 @@ fn judge_numbers(
         nulls,
         classes,
     );
-    1
 }
 
-/// 1 with every row's class; 0 if a row is refused; 2, and `out` is as it was, if these rows cannot be judged by numbers.
+/// Every row's class, 0 false, 1 unknown, 2 passes; false if a row is refused (13). `out` is overwritten.
 pub fn judge_ranked(
     table: &[u8],
     records: &[u8],
@@ -114,7 +104,7 @@ pub fn judge_ranked(
     nulls: &[u64],
     classes: &mut [u8],
     out: &mut [u8],
-) -> u8
+) -> bool
     requires { ⌜ CheckedIn (lent (now text)) (now table) (now records) (now pool) used (root .0) ⌝ }
     requires { ⌜ treeCount (now records) (root .0) ≤ 4096 ⌝ }
     requires { ⌜ 16 * used ≤ length (now out) ⌝ }
@@ -123,22 +113,18 @@ pub fn judge_ranked(
     requires { ⌜ length (now nulls) ≤ 1024 ⌝ }
     requires { ⌜ length (now nulls) ≤ length (now classes) ⌝ }
     requires { ⌜ 0 < length (now nulls) ⌝ }
-    ensures { λ r. ⌜ r < 3 ⌝ }
-    ensures { λ r. ⌜ (r ≡ 0 → false ≡ all (λ i. isTested (answerAtWith (now (text .entry)) (now (table .entry)) (now (records .entry))
-        (now (pool .entry)) used (root .0) (now (values .entry)) (now (nulls .entry)) i)) (length (now (nulls .entry)))) ⌝ }
-    ensures { λ r. ⌜ (r ≡ 1 → true ≡ all (λ i. isTested (answerAtWith (now (text .entry)) (now (table .entry)) (now (records .entry))
-        (now (pool .entry)) used (root .0) (now (values .entry)) (now (nulls .entry)) i)) (length (now (nulls .entry)))) ⌝ }
-    ensures { λ r. ⌜ (r ≡ 1 → Judged (answerAtWith (now (text .entry)) (now (table .entry)) (now (records .entry))
+    ensures { λ r. ⌜ r ≡ all (λ i. isTested (answerAtWith (now (text .entry)) (now (table .entry)) (now (records .entry))
+        (now (pool .entry)) used (root .0) (now (values .entry)) (now (nulls .entry)) i)) (length (now (nulls .entry))) ⌝ }
+    ensures { λ r. ⌜ (r ≡ true → Judged (answerAtWith (now (text .entry)) (now (table .entry)) (now (records .entry))
         (now (pool .entry)) used (root .0) (now (values .entry)) (now (nulls .entry))) (now (classes .exit))
         (length (now (nulls .entry)))) ⌝ }
-    ensures { λ r. ⌜ (r ≡ 2 → now (out .exit) ≡ now (out .entry)) ⌝ }
 {
     if !rows_fit_with(table, text, values, nulls) {
-        return 0;
+        return false;
     }
     let mut symbols = [0u64; 12288];
-    let mut ranked = [0u8; 65536];
-    let size = pool.len();
+    let mut ranked = [0u8; 131072];
+    let size = 2 * pool.len();
     judge_numbers(
         table,
         records,
@@ -152,5 +138,6 @@ pub fn judge_ranked(
         &mut ranked[..size],
         classes,
         out,
-    )
+    );
+    true
 }

@@ -8,11 +8,11 @@ use native.Mathlib.Omega.{arith}
 use borrow.Author.Needs.{needs}
 
 abbrev Inv-loop : tie.InvT-loop
-Inv-loop records root marks total₀ n₀ total n =
+Inv-loop records root marks from total₀ n₀ total n =
     (n ≤ root .0 + 1) × (total ≤ 4294967295 * n)
 
 abbrev μ-loop : tie.MeasureT-loop
-μ-loop records root marks total₀ n₀ total n =
+μ-loop records root marks from total₀ n₀ total n =
     root .0 + 1 - n
 
 -- src/judge.rt:245:5

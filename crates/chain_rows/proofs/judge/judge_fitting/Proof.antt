@@ -25,17 +25,19 @@ judge-short-requires : tie.Need-judge-short-requires
 judge-short-requires c κs =
     let st = c .before .before .before .before .before .before .before .before .before .before .before in
     let mark-reached = c .before .before .before .before .mark-reached in (
-      st .pre .0,
+      st .pre .1 .1 .1,
       (
-        mark-reached .ensures .0,
+        st .pre .0,
         (
-          mark-reached .ensures .1,
+          mark-reached .ensures .0,
           (
-            search needs,
+            mark-reached .ensures .1,
             (
-              st .pre .1 .1,
-              st .pre .1
-                  .0,
+              search needs,
+              (
+                st .pre .1 .1 .0,
+                st .pre .1 .0,
+              ),
             ),
           ),
         ),
@@ -51,17 +53,19 @@ judge-long-requires : tie.Need-judge-long-requires
 judge-long-requires c κs =
     let st = c .before .before .before .before .before .before .before .before .before .before .before in
     let mark-reached = c .before .before .before .before .mark-reached in (
-      st .pre .0,
+      st .pre .1 .1 .1,
       (
-        mark-reached .ensures .0,
+        st .pre .0,
         (
-          mark-reached .ensures .1,
+          mark-reached .ensures .0,
           (
-            search needs,
+            mark-reached .ensures .1,
             (
-              st .pre .1 .1,
-              st .pre .1
-                  .0,
+              search needs,
+              (
+                st .pre .1 .1 .0,
+                st .pre .1 .0,
+              ),
             ),
           ),
         ),

@@ -47,13 +47,13 @@ judge-blocks-requires c κs =
     let st = c .before .before .before .before .before .before .before .before .before .before .before .before
     .before .before .before .before .before in
     let make-order = c .before .before .before .before .before .before .make-order in (
-      st .pre .0,
+      st .pre .1 .0,
       (
-        st .pre .1 .0,
+        st .pre .1 .1 .0,
         (
-          st .pre .1 .1 .0,
+          st .pre .1 .1 .1 .0,
           (
-            st .pre .1 .1 .1 .0,
+            st .pre .1 .1 .1 .1 .0,
             (
               search needs,
               (
@@ -61,7 +61,7 @@ judge-blocks-requires c κs =
                 (
                   search
                       needs,
-                  (st .pre .1 .1 .1 .1 .0, in-order _ _ (make-order .ensures)),
+                  (st .pre .1 .1 .1 .1 .1 .0, in-order _ _ (make-order .ensures)),
                 ),
               ),
             ),

@@ -13,7 +13,7 @@ use lib.ListN.{length}
 use Rattle.records.proofs.Loops.{flag-no, flag-yes}
 use Rattle.checking.proofs.Accepted.{checked-lent}
 use Rattle.row_test.proofs.Ready.{columns-small}
-use Rattle.chain_rows.proofs.Rows.{all-tested, judged-of, evaluates-of}
+use Rattle.chain_rows.proofs.Rows.{all-tested, judged-of, evaluates-of, pool-short}
 
 -- src/judge.rt:186:9
 rows-fit-requires : tie.Need-rows-fit-requires
@@ -45,7 +45,7 @@ judge-fitting-requires c κs =
           l,
           u,
         ),
-        st .pre .1 .1 .1 .1 .1,
+        (st .pre .1 .1 .1 .1 .1, pool-short _ _ _ (st .pre .0 .sizes)),
       ),
     )
 

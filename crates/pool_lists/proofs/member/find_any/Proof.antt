@@ -8,7 +8,7 @@ use Rattle.pool_lists.proofs.member.find_guessed.Reads as find-guessed-
 use Rattle.pool_lists.proofs.member.find_keys.Reads as find-keys-reads
 use mathlib.Core.Path.{refl}
 use native.Mathlib.Omega.{arith}
-use Rattle.pool_order.specs.Order.{Ordered}
+use Rattle.pool_order.specs.Order.{OrderedPart}
 use Rattle.pool_lists.proofs.Members.{finds-kept}
 
 -- src/member.rt:153:9
@@ -41,7 +41,7 @@ slice-aggregate-find-guessed c = search needs
 
 -- src/member.rt:158:5
 find-guessed-requires : tie.Need-find-guessed-requires
-unfolding Ordered
+unfolding OrderedPart
 find-guessed-requires c κs =
     let st = c .before .before .before .before .before .before .before .before .before .before .before .before
     in

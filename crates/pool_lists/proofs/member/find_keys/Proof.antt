@@ -3,7 +3,7 @@ use Rattle.pool_lists.proofs.member.find_keys.Tie as tie
 use Rattle.pool_lists.proofs.member.find_keys.Reads as reads
 use Rattle.pool_lists.proofs.member.find_keys.Lts as lts
 use Rattle.masks.proofs.with_bit.Reads as with-bit-reads
-use Rattle.pool_lists.proofs.member.find_one.Reads as find-one-reads
+use Rattle.pool_lists.proofs.member.find_key.Reads as find-key-reads
 use Prim.Native.Nat.{ℕ, _+_, _-_, _≤_}
 use mathlib.Core.Path.{_≡_}
 use native.Mathlib.Omega.{arith}
@@ -12,11 +12,11 @@ use Rattle.pool_lists.proofs.Members.{FindsTo, finds-none, finds-more, 
 use borrow.Author.Needs.{needs}
 
 abbrev Inv-loop : tie.InvT-loop
-Inv-loop pool order start count keys at m₀ i₀ m i =
+Inv-loop pool start count keys at m₀ i₀ m i =
     (i ≤ 64) × FindsTo keys at (valuesFrom pool start count) i m
 
 abbrev μ-loop : tie.MeasureT-loop
-μ-loop pool order start count keys at m₀ i₀ m i =
+μ-loop pool start count keys at m₀ i₀ m i =
     64 - i
 
 -- src/member.rt:76:5
@@ -29,22 +29,22 @@ cast-with-bit : tie.Need-cast-with-bit Inv-loop μ-loop
 cast-with-bit c = search needs
 
 -- src/member.rt:77:76
-add-find-one : tie.Need-add-find-one Inv-loop μ-loop
-add-find-one c = search needs
+add-find-key : tie.Need-add-find-key Inv-loop μ-loop
+add-find-key c = search needs
 
 -- src/member.rt:77:71
-mul-find-one : tie.Need-mul-find-one Inv-loop μ-loop
-mul-find-one c = search needs
+mul-find-key : tie.Need-mul-find-key Inv-loop μ-loop
+mul-find-key c = search needs
 
 -- src/member.rt:77:71
-shared-slice-read-find-one : tie.Need-shared-slice-read-find-one Inv-loop μ-loop
-shared-slice-read-find-one c = search needs
+shared-slice-read-find-key : tie.Need-shared-slice-read-find-key Inv-loop μ-loop
+shared-slice-read-find-key c = search needs
 
 -- src/member.rt:77:35
-find-one-requires : tie.Need-find-one-requires Inv-loop μ-loop
-find-one-requires c κs =
-    let st = c .before .before .before .before .before .before in
-    (st .pre .0, st .pre .1 .0)
+find-key-requires : tie.Need-find-key-requires Inv-loop μ-loop
+find-key-requires c κs =
+    let st = c .before .before .before .before .before in
+    st .pre .0
 
 -- src/member.rt:77:9
 with-bit-requires : tie.Need-with-bit-requires Inv-loop μ-loop
@@ -62,9 +62,9 @@ loop-less c = search needs
 loop-again : tie.Need-loop-again Inv-loop μ-loop
 loop-again c =
     let l1 = c .before .before .before .before .loop in
-    let find-one = c .before .find-one in
+    let find-key = c .before .find-key in
     let with-bit = c .with-bit in
-    (search needs, finds-more _ _ _ _ _ _ _ (l1 .inv .1) (find-one .ensures) (with-bit .ensures))
+    (search needs, finds-more _ _ _ _ _ _ _ (l1 .inv .1) (find-key .ensures) (with-bit .ensures))
 
 -- src/member.rt:68:1
 returns : tie.Need-returns Inv-loop μ-loop
@@ -81,10 +81,10 @@ find-keys-spec =
     μ-loop
     loop-holds
     cast-with-bit
-    add-find-one
-    mul-find-one
-    shared-slice-read-find-one
-    find-one-requires
+    add-find-key
+    mul-find-key
+    shared-slice-read-find-key
+    find-key-requires
     with-bit-requires
     add-i
     loop-less

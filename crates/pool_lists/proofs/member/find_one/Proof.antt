@@ -5,7 +5,7 @@ use Rattle.pool_lists.proofs.member.find_one.Reads as reads
 use Rattle.pool_lists.proofs.member.find_one.Lts as lts
 use Rattle.pool_order.proofs.asking.holds.Reads as holds-reads
 use Rattle.pool_lists.proofs.member.find_key.Reads as find-key-reads
-use Rattle.pool_order.specs.Order.{Ordered}
+use Rattle.pool_order.specs.Order.{OrderedPart}
 
 -- src/member.rt:59:9
 find-key-requires : tie.Need-find-key-requires
@@ -25,7 +25,7 @@ returns-2 c = search needs
 
 -- src/member.rt:64:5
 holds-requires : tie.Need-holds-requires
-unfolding Ordered
+unfolding OrderedPart
 holds-requires c κs =
     let st = c .before .before .before .before in
     let if1 = c .before .if1 in

@@ -5,38 +5,78 @@ use Rattle.ranked_chain.proofs.chunks.judge_chunks.Reads as reads
 use Rattle.ranked_chain.proofs.chunks.judge_chunks.Lts as lts
 use Rattle.chain_rows.proofs.judge.asked_values.Reads as asked-values-reads
 use Rattle.masks.proofs.reach.mark_reached.Reads as mark-reached-reads
-use Rattle.ranked_chain.proofs.chunks.judge_searching.Reads as judge-searching-reads
-use Rattle.ranked_chain.proofs.chunks.judge_sorted.Reads as judge-sorted-reads
-use Rattle.ranked_chain.proofs.chunks.order_pays.Reads as order-pays-reads
+use Rattle.ranked_chain.proofs.chunks.judge_asked.Reads as judge-asked-reads
+use Rattle.ranked_chain.proofs.chunks.judge_both.Reads as judge-both-reads
+use Rattle.ranked_chain.proofs.chunks.second_pays.Reads as second-pays-reads
 use native.Mathlib.Omega.{arith}
 
--- src/chunks.rt:289:33
+-- src/chunks.rt:411:33
 slice-aggregate-mark-reached : tie.Need-slice-aggregate-mark-reached
 slice-aggregate-mark-reached c = search needs
 
--- src/chunks.rt:289:5
+-- src/chunks.rt:411:5
 mark-reached-requires : tie.Need-mark-reached-requires
 mark-reached-requires c κs = search needs
 
--- src/chunks.rt:290:47
+-- src/chunks.rt:412:46
 slice-aggregate-asked-values : tie.Need-slice-aggregate-asked-values
 slice-aggregate-asked-values c = search needs
 
--- src/chunks.rt:290:19
+-- src/chunks.rt:412:54
+cast-asked-values : tie.Need-cast-asked-values
+cast-asked-values c = search needs
+
+-- src/chunks.rt:412:9
 asked-values-requires : tie.Need-asked-values-requires
 asked-values-requires c κs = search needs
 
--- src/chunks.rt:290:8
-order-pays-requires : tie.Need-order-pays-requires
-order-pays-requires c κs = search needs
+-- src/chunks.rt:413:8
+second-pays-requires : tie.Need-second-pays-requires
+second-pays-requires c κs = search needs
 
--- src/chunks.rt:301:13
-slice-aggregate-judge-sorted : tie.Need-slice-aggregate-judge-sorted
-slice-aggregate-judge-sorted c = search needs
+-- src/chunks.rt:424:13
+slice-aggregate-judge-both : tie.Need-slice-aggregate-judge-both
+slice-aggregate-judge-both c = search needs
 
--- src/chunks.rt:291:9
-judge-sorted-requires : tie.Need-judge-sorted-requires
-judge-sorted-requires c κs =
+-- src/chunks.rt:414:9
+judge-both-requires : tie.Need-judge-both-requires
+judge-both-requires c κs =
+    let st = c .before .before .before .before .before .before .before .before .before .before .before .before
+    .before .before .before .before .before in
+    let mark-reached = c .before .before .before .before .before .before .before .mark-reached in
+    let second-pays = c .before .before .before .second-pays in
+    let if1 = c .before .before .if1 in (
+      st .pre .0,
+      (
+        st .pre .1 .0,
+        (
+          st .pre .1 .1 .0,
+          (
+            st .pre .1 .1 .1 .0,
+            (
+              st .pre .1 .1 .1 .1 .0,
+              (
+                st
+                    .pre .1 .1 .1 .1 .1,
+                (
+                  (mark-reached .ensures .0, mark-reached .ensures .1, search needs),
+                  second-pays
+                      .ensures (if1 .taken),
+                ),
+              ),
+            ),
+          ),
+        ),
+      ),
+    )
+
+-- src/chunks.rt:438:13
+slice-aggregate-judge-asked : tie.Need-slice-aggregate-judge-asked
+slice-aggregate-judge-asked c = search needs
+
+-- src/chunks.rt:428:9
+judge-asked-requires : tie.Need-judge-asked-requires
+judge-asked-requires c κs =
     let st = c .before .before .before .before .before .before .before .before .before .before .before .before
     .before .before .before .before .before in
     let mark-reached = c .before .before .before .before .before .before .before .mark-reached in (
@@ -50,8 +90,8 @@ judge-sorted-requires c κs =
             (
               st .pre .1 .1 .1 .1 .0,
               (
-                st .pre .1
-                    .1 .1 .1 .1,
+                st
+                    .pre .1 .1 .1 .1 .1,
                 (mark-reached .ensures .0, mark-reached .ensures .1, search needs),
               ),
             ),
@@ -60,49 +100,19 @@ judge-sorted-requires c κs =
       ),
     )
 
--- src/chunks.rt:315:13
-slice-aggregate-judge-searching : tie.Need-slice-aggregate-judge-searching
-slice-aggregate-judge-searching c = search needs
-
--- src/chunks.rt:305:9
-judge-searching-requires : tie.Need-judge-searching-requires
-judge-searching-requires c κs =
-    let st = c .before .before .before .before .before .before .before .before .before .before .before .before
-    .before .before .before .before .before in
-    let mark-reached = c .before .before .before .before .before .before .before .mark-reached in (
-      st .pre .0,
-      (
-        st .pre .1 .0,
-        (
-          st .pre .1 .1 .0,
-          (
-            st .pre .1 .1 .1 .0,
-            (
-              st .pre .1 .1 .1 .1 .0,
-              (
-                st .pre .1
-                    .1 .1 .1 .1,
-                (mark-reached .ensures .0, mark-reached .ensures .1, search needs),
-              ),
-            ),
-          ),
-        ),
-      ),
-    )
-
--- src/chunks.rt:266:1
+-- src/chunks.rt:388:1
 same-length : tie.Need-same-length
 same-length c = search needs
 
--- src/chunks.rt:266:1
+-- src/chunks.rt:388:1
 returns : tie.Need-returns
 returns c = search needs
 
--- src/chunks.rt:266:1
+-- src/chunks.rt:388:1
 same-length-2 : tie.Need-same-length-2
 same-length-2 c = search needs
 
--- src/chunks.rt:266:1
+-- src/chunks.rt:388:1
 returns-2 : tie.Need-returns-2
 returns-2 c = search needs
 
@@ -113,12 +123,13 @@ judge-chunks-spec =
     slice-aggregate-mark-reached
     mark-reached-requires
     slice-aggregate-asked-values
+    cast-asked-values
     asked-values-requires
-    order-pays-requires
-    slice-aggregate-judge-sorted
-    judge-sorted-requires
-    slice-aggregate-judge-searching
-    judge-searching-requires
+    second-pays-requires
+    slice-aggregate-judge-both
+    judge-both-requires
+    slice-aggregate-judge-asked
+    judge-asked-requires
     same-length
     returns
     same-length-2

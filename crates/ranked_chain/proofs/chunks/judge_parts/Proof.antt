@@ -16,7 +16,7 @@ use borrow.Author.Needs.{needs}
 
 abbrev Inv-loop : tie.InvT-loop
 Inv-loop table text symbols m records pool order root values nulls marks truths₀ unknowns₀ keys₀ classes₀ block₀ most base₀ truths unknowns keys classes block base =
-    (base ≤ length nulls) × (length classes ≡ length classes₀) × (length block ≡ 131072) × ((f : ℕ → Truth) →
+    (base ≤ length nulls) × (length classes ≡ length classes₀) × (length block ≡ 65536) × ((f : ℕ → Truth) →
     RowTruths text table symbols m values nulls records pool (root .0) f → ClassesOf f classes base) × (length
     truths ≡ length truths₀) × (length unknowns ≡ length unknowns₀) × (length keys ≡ length keys₀)
 

@@ -3,49 +3,49 @@ use Rattle.ranked_chain.proofs.chunks.judge_sorted.Statement.{statement
 use Rattle.ranked_chain.proofs.chunks.judge_sorted.Tie as tie
 use Rattle.ranked_chain.proofs.chunks.judge_sorted.Reads as reads
 use Rattle.ranked_chain.proofs.chunks.judge_sorted.Lts as lts
+use Rattle.pool_order.proofs.making.order_first.Reads as order-first-reads
 use Rattle.ranked_chain.proofs.chunks.judge_parts.Reads as judge-parts-reads
-use Rattle.pool_order.proofs.making.make_order.Reads as make-order-reads
 use Rattle.row_blocks.proofs.depths.note_depths.Reads as note-depths-reads
 use native.Mathlib.Omega.{arith}
-use Rattle.chain_rows.proofs.Rows.{in-order}
 
--- src/judge.rt:183:32
+-- src/chunks.rt:241:32
 slice-aggregate-note-depths : tie.Need-slice-aggregate-note-depths
 slice-aggregate-note-depths c = search needs
 
--- src/judge.rt:183:5
+-- src/chunks.rt:241:5
 note-depths-requires : tie.Need-note-depths-requires
 note-depths-requires c κs = search needs
 
--- src/judge.rt:184:22
-slice-aggregate-make-order : tie.Need-slice-aggregate-make-order
-slice-aggregate-make-order c = search needs
+-- src/chunks.rt:242:23
+slice-aggregate-order-first : tie.Need-slice-aggregate-order-first
+slice-aggregate-order-first c = search needs
 
--- src/judge.rt:184:5
-make-order-requires : tie.Need-make-order-requires
-make-order-requires c κs = search needs
+-- src/chunks.rt:242:5
+order-first-requires : tie.Need-order-first-requires
+order-first-requires c κs = search needs
 
--- src/judge.rt:188:9
+-- src/chunks.rt:250:9
 slice-aggregate-judge-parts : tie.Need-slice-aggregate-judge-parts
 slice-aggregate-judge-parts c = search needs
 
--- src/judge.rt:194:9
+-- src/chunks.rt:255:9
 slice-aggregate-judge-parts-2 : tie.Need-slice-aggregate-judge-parts-2
 slice-aggregate-judge-parts-2 c = search needs
 
--- src/judge.rt:195:9
+-- src/chunks.rt:256:9
 slice-aggregate-judge-parts-3 : tie.Need-slice-aggregate-judge-parts-3
 slice-aggregate-judge-parts-3 c = search needs
 
--- src/judge.rt:196:9
+-- src/chunks.rt:257:9
 slice-aggregate-judge-parts-4 : tie.Need-slice-aggregate-judge-parts-4
 slice-aggregate-judge-parts-4 c = search needs
 
--- src/judge.rt:185:5
+-- src/chunks.rt:243:5
 judge-parts-requires : tie.Need-judge-parts-requires
 judge-parts-requires c κs =
-    let st = c .before .before .before .before .before .before .before .before .before .before .before .before .before .before .before .before .before .before .before .before in
-    let make-order = c .before .before .before .before .before .before .make-order in (
+    let st = c .before .before .before .before .before .before .before .before .before .before .before .before
+    .before .before .before .before .before .before .before .before in
+    let order-first = c .before .before .before .before .before .before .order-first in (
       st .pre .0,
       (
         st .pre .1 .0,
@@ -56,8 +56,16 @@ judge-parts-requires c κs =
             (
               st .pre .1 .1 .1 .1 .0,
               (
-                st .pre .1 .1 .1 .1 .1 .0,
-                (st .pre .1 .1 .1 .1 .1 .1, ((search needs, search needs, search needs), in-order _ _ (make-order .ensures))),
+                st
+                    .pre .1 .1 .1 .1 .1 .0,
+                (
+                  st .pre .1 .1 .1 .1 .1 .1,
+                  (
+                    (search needs, search needs, search needs),
+                    order-first
+                        .ensures,
+                  ),
+                ),
               ),
             ),
           ),
@@ -65,11 +73,11 @@ judge-parts-requires c κs =
       ),
     )
 
--- src/judge.rt:159:1
+-- src/chunks.rt:213:1
 same-length : tie.Need-same-length
 same-length c = search needs
 
--- src/judge.rt:159:1
+-- src/chunks.rt:213:1
 returns : tie.Need-returns
 returns c = search needs
 
@@ -79,8 +87,8 @@ judge-sorted-spec =
     (tie.spec
     slice-aggregate-note-depths
     note-depths-requires
-    slice-aggregate-make-order
-    make-order-requires
+    slice-aggregate-order-first
+    order-first-requires
     slice-aggregate-judge-parts
     slice-aggregate-judge-parts-2
     slice-aggregate-judge-parts-3

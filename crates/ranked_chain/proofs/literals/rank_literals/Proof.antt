@@ -16,51 +16,43 @@ Inv-loop records ranks used out₀ i₀ out i =
     (i ≤ used) × (length out ≡ length out₀) × RankedLiterals records ranks used i out
 
 abbrev μ-loop : tie.MeasureT-loop
-μ-loop records ranks used out₀ i₀ out i =
-    used - i
+μ-loop records ranks used out₀ i₀ out i = used - i
 
--- src/literals.rt:42:5
+-- src/literals.rt:39:5
 loop-holds : tie.Need-loop-holds Inv-loop μ-loop
 loop-holds c =
     let st = c .before .before .before in
-    (omega arith, refl, literals-none _ _ _ _ (st .pre .1 .1))
+    (omega arith, refl, literals-none _ _ _ _ (st .pre .1))
 
--- src/literals.rt:43:34
+-- src/literals.rt:40:34
 mul-rank-literal : tie.Need-mul-rank-literal Inv-loop μ-loop
 mul-rank-literal c = search needs
 
--- src/literals.rt:43:34
+-- src/literals.rt:40:34
 shared-slice-read-rank-literal : tie.Need-shared-slice-read-rank-literal Inv-loop μ-loop
 shared-slice-read-rank-literal c = search needs
 
--- src/literals.rt:43:9
+-- src/literals.rt:40:9
 rank-literal-requires : tie.Need-rank-literal-requires Inv-loop μ-loop
 rank-literal-requires c κs =
     let st = c .before .before .before .before .before .before .before in
     let l1 = c .before .before .before .loop in
-    let t1 = c .before .before .loop-test in (
-      omega (arith, t1 .taken, st .pre .0 .0),
-      st .pre .1 .0 .low _ (t1 .taken),
-      omega (
-        arith,
-        l1 .inv .1,
-        t1
-            .taken,
-        st .pre .0 .2,
-      ),
-    )
+    let t1 = c .before .before .loop-test in
+    (omega (arith, t1 .taken, st .pre .0 .0), omega (arith, l1 .inv .1, t1 .taken, st .pre .0 .2))
 
--- src/literals.rt:44:9
+-- src/literals.rt:41:9
 add-i : tie.Need-add-i Inv-loop μ-loop
 add-i c = search needs
 
--- src/literals.rt:42:5
+-- src/literals.rt:39:5
 loop-less : tie.Need-loop-less Inv-loop μ-loop
 loop-less c = search needs
 
--- src/literals.rt:42:5
+-- src/literals.rt:39:5
 loop-again : tie.Need-loop-again Inv-loop μ-loop
 loop-again c =
+    let shared-slice-known2 = c .before .before .before .before .before .before .before .before
+    .shared-slice-known2 in
     let st = c .before .before .before .before .before .before .before .before .before .before in
     let l1 = c .before .before .before .before .before .before .loop in
     let t1 = c .before .before .before .before .before .loop-test in
@@ -72,14 +64,15 @@ loop-again c =
         l1 .inv .1,
         t1 .taken,
         st .pre .0 .2,
-      )) (st .pre .1 .0 .low _ (t1 .taken)) refl (rank-literal .ensures) (l1 .inv .2),
+      )) (omega (arith, shared-slice-known2 .given (l1 .i))) refl (rank-literal .ensures) (l1 .inv
+          .2),
     )
 
--- src/literals.rt:35:1
+-- src/literals.rt:33:1
 same-length : tie.Need-same-length Inv-loop μ-loop
 same-length c = search needs
 
--- src/literals.rt:35:1
+-- src/literals.rt:33:1
 returns : tie.Need-returns Inv-loop μ-loop
 returns c =
     let st = c .before .before .before .before .before in

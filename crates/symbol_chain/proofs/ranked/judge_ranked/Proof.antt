@@ -14,52 +14,46 @@ use Rattle.symbol_row_test.proofs.AnswersWith.{columns-small, text-small}
 use Rattle.ranked_screen.proofs.Reading.{accepted-sizes}
 use Rattle.symbol_chain.proofs.NumberedRows.{accepted, all-tested}
 
--- src/ranked.rt:136:9
+-- src/ranked.rt:122:9
 rows-fit-with-requires : tie.Need-rows-fit-with-requires
 rows-fit-with-requires c κs =
     let st = c .before .before .before .before .before .before .before .before in (
       (
         columns-small (st .args .text .now) _ _ _ _ _ (st .pre .0),
-        text-small (st .args .text .now) _ _ _ _ _ (st
-            .pre .0),
+        text-small (st .args .text .now) _ _ _ _ _
+            (st .pre .0),
         st .pre .1 .1 .1 .1 .1 .0,
       ),
       st .pre .1 .1 .1 .1 .0,
     )
 
--- src/ranked.rt:137:9
+-- src/ranked.rt:123:9
 returns : tie.Need-returns
 returns c =
     let st = c .before .before .before .before .before .before .before .before .before .before in
     let rows-fit-with = c .before .rows-fit-with in
     let if1 = c .if1 in (
-      search needs,
-      (
-        λ e. sym (not-true _ (if1 .taken)) ∙ rows-fit-with .ensures ∙ all-tested (st .args .text
-            .now) _ _ _ _ _ _ _ (st .pre .0) (st .pre .1 .0),
-        (
-          λ e. absurd (omega (arith, e)),
-          (
-            λ e. absurd (omega
-                (arith, e)),
-            λ e. absurd (omega (arith, e)),
-          ),
-        ),
-      ),
+      sym (not-true _ (if1 .taken)) ∙ rows-fit-with .ensures ∙ all-tested (st .args .text .now) _ _ _ _ _ _ _ (st
+          .pre .0) (st .pre .1 .0),
+      λ e. absurd (true≢false (sym e)),
     )
 
--- src/ranked.rt:151:9
+-- src/ranked.rt:127:16
+mul-size : tie.Need-mul-size
+mul-size c = search needs
+
+-- src/ranked.rt:137:9
 slice-aggregate-judge-numbers : tie.Need-slice-aggregate-judge-numbers
 slice-aggregate-judge-numbers c = search needs
 
--- src/ranked.rt:152:9
+-- src/ranked.rt:138:9
 array-borrow-prefix-ranked : tie.Need-array-borrow-prefix-ranked
 array-borrow-prefix-ranked c =
     let st = c .before .before .before .before .before .before .before .before .before .before .before in
     let s = accepted-sizes _ _ _ _ (accepted (st .args .text .now) _ _ _ _ _ (st .pre .0)) in
     omega (arith, s .pool-low)
 
--- src/ranked.rt:152:9
+-- src/ranked.rt:138:9
 slice-aggregate-judge-numbers-2 : tie.Need-slice-aggregate-judge-numbers-2
 slice-aggregate-judge-numbers-2 c =
     let st = c .before .before .before .before .before .before .before .before .before .before .before .before
@@ -67,7 +61,7 @@ slice-aggregate-judge-numbers-2 c =
     let s = accepted-sizes _ _ _ _ (accepted (st .args .text .now) _ _ _ _ _ (st .pre .0)) in
     rw length-take (omega (arith, s .pool-low))
 
--- src/ranked.rt:142:5
+-- src/ranked.rt:128:5
 judge-numbers-requires : tie.Need-judge-numbers-requires
 judge-numbers-requires c κs =
     let st = c .before .before .before .before .before .before .before .before .before .before .before .before
@@ -85,21 +79,16 @@ judge-numbers-requires c κs =
             (
               st .pre .1 .1 .1 .1 .0,
               (
-                st .pre .1
-                    .1 .1 .1 .1 .0,
+                st
+                    .pre .1 .1 .1 .1 .1 .0,
                 (
                   st .pre .1 .1 .1 .1 .1 .1 .0,
                   (
                     st .pre .1 .1 .1 .1 .1 .1 .1,
                     (
-                      sym (rows-fit-with .ensures)
-                          ∙ not-false _ (if1 .left),
-                      (
-                        search needs,
-                        rw length-take (omega (arith, s .pool-low)),
-                        rw length-take (omega
-                            (arith, s .pool-low)),
-                      ),
+                      sym (rows-fit-with
+                          .ensures) ∙ not-false _ (if1 .left),
+                      (search needs, rw length-take (omega (arith, s .pool-low))),
                     ),
                   ),
                 ),
@@ -110,17 +99,27 @@ judge-numbers-requires c κs =
       ),
     )
 
--- src/ranked.rt:106:1
+-- src/ranked.rt:96:1
 same-length : tie.Need-same-length
 same-length c = search needs
 
--- src/ranked.rt:106:1
+-- src/ranked.rt:96:1
 same-length-2 : tie.Need-same-length-2
 same-length-2 c = search needs
 
--- src/ranked.rt:106:1
+-- src/ranked.rt:96:1
 returns-2 : tie.Need-returns-2
-returns-2 c = search needs
+returns-2 c =
+    let st = c .before .before .before .before .before .before .before .before .before .before .before .before
+    .before .before .before .before .before .before .before .before .before in
+    let rows-fit-with = c .before .before .before .before .before .before .before .before .before .before
+    .before .before .rows-fit-with in
+    let if1 = c .before .before .before .before .before .before .before .before .before .before .before .if1 in
+    let judge-numbers = c .before .before .before .before .before .before .judge-numbers in (
+      sym (sym (rows-fit-with .ensures) ∙ not-false _ (if1 .left)) ∙ all-tested (st .args .text .now) _ _ _ _ _ _
+          _ (st .pre .0) (st .pre .1 .0),
+      λ e. judge-numbers .ensures,
+    )
 
 pub judge-ranked-spec : {M : Type 1} → statement M
 judge-ranked-spec =
@@ -128,6 +127,7 @@ judge-ranked-spec =
     (tie.spec
     rows-fit-with-requires
     returns
+    mul-size
     slice-aggregate-judge-numbers
     array-borrow-prefix-ranked
     slice-aggregate-judge-numbers-2

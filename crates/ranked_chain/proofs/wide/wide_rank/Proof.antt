@@ -1,20 +1,19 @@
 use borrow.Author.Needs.{needs}
-use Rattle.ranked_chain.proofs.pool.wide_rank.Statement.{statement}
-use Rattle.ranked_chain.proofs.pool.wide_rank.Tie as tie
-use Rattle.ranked_chain.proofs.pool.wide_rank.Reads as reads
-use Rattle.ranked_chain.proofs.pool.wide_rank.Lts as lts
+use Rattle.ranked_chain.proofs.wide.wide_rank.Statement.{statement}
+use Rattle.ranked_chain.proofs.wide.wide_rank.Tie as tie
+use Rattle.ranked_chain.proofs.wide.wide_rank.Reads as reads
+use Rattle.ranked_chain.proofs.wide.wide_rank.Lts as lts
 use Rattle.row_ranks.specs.RowRanks.{wideRank}
-use native.Mathlib.Omega.{arith}
 
--- src/pool.rt:19:12
+-- src/wide.rt:12:12
 add-result : tie.Need-add-result
 add-result c = search needs
 
--- src/pool.rt:19:5
+-- src/wide.rt:12:5
 mul-result : tie.Need-mul-result
 mul-result c = search needs
 
--- src/pool.rt:15:1
+-- src/wide.rt:8:1
 returns : tie.Need-returns
 unfolding wideRank
 returns c =
