@@ -66,12 +66,11 @@
  * takes some 50 ns, a full one 15 to 30 us, whatever its lists. The slowest screen known to rewrite, 65 lists
  * carried from column to column by 63 equalities, takes some 4 ms. A hedge list checks the screen once for all
  * rows and takes them 64 at a time: 1,024 rows of 10 lines take some 0.02 ms, of a full screen of comparisons 0.7
- * ms; the slowest known, 743 lists of divisions, takes some 19 ms. A screen with symbols takes longer. Where it is
- * rewritten its symbols are put in order first, which of a full text pool takes some 2 ms, and its lists have no
- * index: the slowest found, 65 lists of 100 symbols, every other one negated, along 63 equalities, takes some 90 ms.
- * In a hedge list its symbols become numbers first: 1,024 rows of 10 lines take some 0.05 ms, of 1,022 lines 1.2 ms,
- * the slowest found, 1,021 lists over 63 columns of symbols, some 40 ms. Where a list of symbols and one of numbers
- * share a value of the pool, rows are taken one by one, and each list of 4,096 symbols takes 14 ms.
+ * ms; the slowest known, 743 lists of divisions, takes some 15 ms. A screen with symbols takes longer. Where it is
+ * rewritten its symbols are put in order first, which of a full text pool takes some 2 ms; the slowest of its lists
+ * along equalities take some 4 ms too, but lists of numbers beside symbols, of over 4,096 values together, some 60.
+ * In a hedge list its symbols become numbers first: 1,024 rows of 10 lines take some 0.04 ms, of 1,022 lines 1 ms,
+ * the slowest found, 1,021 lists over 63 columns of symbols, some 25 to 30 ms.
  *
  * PLATFORM
  *
