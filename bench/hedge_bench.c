@@ -561,6 +561,71 @@ static int shared_lists(const char *name, unsigned texts, unsigned count)
     return family(name);
 }
 
+/* A list in turn of each column of symbols, and of as many of Ints behind them if they share the pool. */
+static uint32_t turned_list(unsigned n, unsigned texts, int shared)
+{
+    return symbol_list(n, shared ? n % 2 * texts + n / 2 % texts : n % texts);
+}
+
+/* Whether what is told so far lies between the next two, as between_lists. */
+static int symbol_betweens(const char *name, unsigned texts, int shared)
+{
+    uint32_t top;
+    make_symbol_pool(texts, shared ? 2 * texts : SCREEN_MAX_COLUMNS);
+    top = turned_list(0, texts, shared);
+    for (unsigned n = 1; n + 1 < 1169; n += 2) {
+        uint32_t low = turned_list(n, texts, shared);
+        top = screen_put_between(&now.s, SCREEN_CLOSED_BOTH, top, low, turned_list(n + 1, texts, shared));
+    }
+    make_symbol_chain();
+    return family(name);
+}
+
+/* Lists of divisions of two columns, beside 62 of symbols, of which one is read. */
+static uint32_t quotient_list(unsigned n, uint32_t one)
+{
+    uint32_t x = screen_put_floor_divide(&now.s, screen_put_column(&now.s, 62 + n % 2), one);
+    uint32_t part = screen_put(&now.s, SCREEN_KIND_LIST, 0, SCREEN_TYPE_INT, n * 977 % 4097, 4096, 0);
+    return screen_put_is_in(&now.s, x, part, 0);
+}
+
+static int symbols_beside(void)
+{
+    uint32_t top, one;
+    make_symbols(62, SCREEN_MAX_COLUMNS);
+    for (unsigned i = 0; i < SCREEN_MAX_POOL_VALUES; i++)
+        screen_put_pool(&now.s, 2 * (int64_t)(i * 2654435761u % 4096) + 1);
+    one = screen_put_int(&now.s, 1);
+    top = symbol_line(SCREEN_OP_GT, 0, 1);
+    for (unsigned n = 1; n + 1 < 741; n += 2) {
+        uint32_t low = quotient_list(n, one);
+        top = screen_put_between(&now.s, SCREEN_CLOSED_BOTH, top, low, quotient_list(n + 1, one));
+    }
+    make_symbol_chain();
+    for (size_t r = 0; r < ROWS; r++)
+        for (unsigned i = 62; i < SCREEN_MAX_COLUMNS; i++)
+            screen_store_value(wide + WIDE_BYTES * r + 8 * i, odd_value());
+    return family("741 lists of divisions beside 62 columns of symbols");
+}
+
+/* Columns between two others, or between two literals. */
+static int symbol_ranges(const char *name, int literals)
+{
+    uint32_t top = 0;
+    make_symbols(SCREEN_MAX_COLUMNS, SCREEN_MAX_COLUMNS);
+    for (unsigned n = 0; n < 819; n++) {
+        uint32_t x = screen_put_column(&now.s, n % 64), low, high, next;
+        low = literals ? screen_put_literal(&now.s, SCREEN_TYPE_TEXT, symbol_number(n))
+                       : screen_put_column(&now.s, (n + n / 64 + 1) % 64);
+        high = literals ? screen_put_literal(&now.s, SCREEN_TYPE_TEXT, symbol_number(n + 5000))
+                        : screen_put_column(&now.s, (n + n / 64 * 7 + 5) % 64);
+        next = screen_put_between(&now.s, SCREEN_CLOSED_BOTH, x, low, high);
+        top = n == 0 ? next : screen_put_or(&now.s, top, next);
+    }
+    make_symbol_chain();
+    return family(name);
+}
+
 static int few_rows(const char *name, size_t few)
 {
     int differ;
@@ -626,6 +691,12 @@ int main(void)
     differ |= shared_lists("9 lists of symbols and of Ints in the same places", 1, 9);
     differ |= shared_lists("1,021 such lists on two columns", 1, 1021);
     differ |= shared_lists("1,021 such lists over 64 columns", 32, 1021);
+    differ |= symbol_betweens("1,169 lists of symbols between one another", 1, 0);
+    differ |= symbol_betweens("the same over 64 columns", 64, 0);
+    differ |= symbol_betweens("the same of symbols and of Ints in the same places", 32, 1);
+    differ |= symbols_beside();
+    differ |= symbol_ranges("819 columns of symbols between two others", 0);
+    differ |= symbol_ranges("819 columns of symbols between two literals", 1);
     differ |= few_rows("2 rows under 1,021 lists of symbols", 2);
     differ |= few_rows("31 rows under 1,021 lists of symbols", 31);
     printf("goals met: %u of %u\n", met, goals);

@@ -296,6 +296,99 @@ static void search_checking(void)
     close_family("checking");
 }
 
+/* ------------------------------------------------------------------------------------------- numbers beside symbols */
+
+/* What there is of type Text: one literal; lists that stand before the lists of numbers, behind them or at the same places; or a
+ * list of the whole pool that no line reads, beside such lists. */
+enum { LITERAL, BEFORE, BEHIND, SAME, WHOLE, STANDS };
+
+static const char *const stands_names[STANDS] = {"a literal", "before them", "behind them", "the same places", "a list of all"};
+
+/* A chain of equalities from one column to another, as join_chain makes it. */
+static void join_columns(uint32_t first, uint32_t last, int from_far_end)
+{
+    for (uint32_t n = first; n < last; n++) {
+        uint32_t left = from_far_end ? first + last - 1 - n : n;
+        uint32_t a = screen_put_column(&now.s, left);
+        uint32_t b = screen_put_column(&now.s, left + 1);
+        join(screen_put_binary(&now.s, SCREEN_OP_EQ, a, b));
+    }
+}
+
+/* Columns of type Int and then of type Text, lists of both, `step` places from one to the next, in a pool full of symbols, which
+ * as numbers are different ones too; two lines more, if there is room. */
+struct mixed {
+    int stands;
+    unsigned numbers, texts;           /* columns */
+    unsigned number_lists, text_lists; /* lines */
+    unsigned step;
+    int negated, far;
+};
+
+static void list_mixed(const struct mixed *m, unsigned of, unsigned first, unsigned columns, unsigned lists, unsigned at)
+{
+    type = of;
+    for (unsigned n = 0; n < lists; n++) {
+        uint32_t start = (at + n) * m->step % (SCREEN_MAX_POOL_VALUES - LIST + 1);
+        uint32_t listed = shared_line(first + n % columns, start, LIST);
+        join(m->negated == 2 ? (n % 2 ? not_of(listed) : listed) : m->negated ? not_of(listed) : listed);
+    }
+}
+
+static void make_mixed(const struct mixed *m)
+{
+    int numbers_later = m->stands == BEFORE || m->stands == WHOLE;
+    type = SCREEN_TYPE_TEXT;
+    begin(m->numbers + m->texts);
+    memset(now.table, SCREEN_TYPE_INT, m->numbers);
+    for (unsigned i = 0; i < SCREEN_MAX_POOL_VALUES; i++)
+        screen_put_pool(&now.s, typed((int64_t)(i * 2731 % 8170)));
+    if (m->stands == WHOLE)
+        screen_put(&now.s, SCREEN_KIND_LIST, 0, SCREEN_TYPE_TEXT, 0, SCREEN_MAX_POOL_VALUES, 0);
+    screen_put_literal(&now.s, SCREEN_TYPE_TEXT, typed(0));
+    list_mixed(m, SCREEN_TYPE_INT, 0, m->numbers, m->number_lists, numbers_later ? m->text_lists : 0);
+    list_mixed(m, SCREEN_TYPE_TEXT, m->numbers, m->texts, m->text_lists, m->stands == BEHIND ? m->number_lists : 0);
+    if (lines + m->numbers + m->texts <= LINES)
+        join(line(&now, SCREEN_OP_GT, 0, -1));
+    join_columns(0, m->numbers - 1, m->far);
+    if (m->texts > 0)
+        join_columns(m->numbers, m->numbers + m->texts - 1, m->far);
+    type = SCREEN_TYPE_TEXT;
+}
+
+static void time_mixed(const struct mixed *m)
+{
+    char name[120];
+    make_mixed(m);
+    snprintf(name, sizeof name, "%u of numbers, %u of symbols, %s, step %u, %s, %u + %u columns%s", m->number_lists, m->text_lists,
+             stands_names[m->stands], m->step, m->negated == 2 ? "in turn" : m->negated ? "negated" : "allowed", m->numbers,
+             m->texts, m->far ? ", far end" : "");
+    time_screen(name);
+}
+
+/* Lists of numbers, beside lists of symbols in shares from none to all but one. */
+static void search_mixed(int stands)
+{
+    static const unsigned steps[4] = {0, 1, 61, 97};
+    static const unsigned shares[4] = {64, 56, 32, 1};
+    static const unsigned lists[3] = {64, 84, 100};
+    struct mixed m = {.stands = stands};
+    for (unsigned s = 0; s < 4; s++)
+        for (unsigned share = 0; share < (stands == LITERAL ? 1 : 4); share++)
+            for (unsigned l = 0; l < 3; l++)
+                for (m.negated = 0; m.negated < 3; m.negated++)
+                    for (m.far = 0; m.far < 2; m.far++) {
+                        unsigned columns = LINES - lists[l] > 64 ? 64 : LINES - lists[l];
+                        m.step = steps[s];
+                        m.numbers = shares[share] * columns / 64 > 0 ? shares[share] * columns / 64 : 1;
+                        m.texts = columns - m.numbers;
+                        m.number_lists = m.texts == 0 ? lists[l] : lists[l] * m.numbers / columns;
+                        m.text_lists = lists[l] - m.number_lists;
+                        time_mixed(&m);
+                    }
+    close_family(stands_names[stands]);
+}
+
 static void search(void)
 {
     search_one_column();
@@ -312,6 +405,8 @@ int main(void)
     search();
     type = SCREEN_TYPE_TEXT;
     search();
+    for (int stands = 0; stands < STANDS; stands++)
+        search_mixed(stands);
     printf("slowest screen found: %.3f ms (%s); ceiling %d ms %s, desk's %d ms %s\n", slowest_of_all / 1e6, slowest_name,
            CEILING_MS, slowest_of_all <= CEILING_MS * 1e6 ? "met" : "missed", DESK_MS,
            slowest_of_all <= DESK_MS * 1e6 ? "met" : "missed");

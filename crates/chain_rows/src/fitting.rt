@@ -12,6 +12,7 @@ ghost use Rattle.truth.specs.FromBytes.{nullMarked};
 ghost use Rattle.row_test.specs.RowTest.{marksOk};
 ghost use Rattle.chain_rows.specs.Classes.{rowFits};
 ghost use Rattle.chain_rows.specs.Limits.{limitBias, limitMask, Limits, WideRow};
+use limits::COLUMNS;
 use records::bytes::value_in;
 use truth::read::null_marked;
 
@@ -137,7 +138,7 @@ pub fn rows_fit(table: &[u8], values: &[u8], nulls: &[u64]) -> bool
     ensures { λ r. ⌜ r ≡ all (rowFits (now (table .entry)) (now (values .entry)) (now (nulls .entry)))
         (length (now (nulls .entry))) ⌝ }
 {
-    let mut limits = [0u64; 128];
+    let mut limits = [0u64; 2 * COLUMNS];
     fill_limits(table, &mut limits);
     let mut r: usize = 0;
     while r < nulls.len() {

@@ -15,6 +15,7 @@ ghost use Rattle.pool_order.specs.Order.{Ordered};
 ghost use Rattle.chain_rows.specs.Chain.{answerAt, isTested};
 ghost use Rattle.chain_rows.specs.Classes.{truthClass, Judged, Classed, Evaluates};
 use crate::fitting::rows_fit;
+use limits::RECORDS;
 use masks::Masks;
 use masks::reach::mark_reached;
 use pool_order::making::make_order;
@@ -133,8 +134,8 @@ fn judge_plain(
         (root .0) (now (classes .exit)) (length (now (nulls .entry))) ⌝ }
 {
     let none = [0u64; 1];
-    let mut truths = [0u64; 4096];
-    let mut unknowns = [0u64; 4096];
+    let mut truths = [0u64; RECORDS];
+    let mut unknowns = [0u64; RECORDS];
     // Three inputs of 64 rows; the rest is for divisions in divisions, which note_depths says is enough for every tree.
     let mut keys = [0u64; 832];
     // A division has no truth: its word in the table has its depth.
@@ -177,8 +178,8 @@ fn judge_ordered(
         (root .0) (now (classes .exit)) (length (now (nulls .entry))) ⌝ }
 {
     let mut order = [0u64; 21512];
-    let mut truths = [0u64; 4096];
-    let mut unknowns = [0u64; 4096];
+    let mut truths = [0u64; RECORDS];
+    let mut unknowns = [0u64; RECORDS];
     // As above, and 17 words for each column.
     let mut keys = [0u64; 1920];
     note_depths(records, root, &mut truths);
@@ -308,7 +309,7 @@ fn judge_fitting(
     ensures { λ _. ⌜ Classed (now (records .entry)) (now (pool .entry)) columns (now (values .entry)) (now (nulls .entry))
         (root .0) (now (classes .exit)) (length (now (nulls .entry))) ⌝ }
 {
-    let mut marks = [0u8; 4096];
+    let mut marks = [0u8; RECORDS];
     mark_reached(records, root, &mut marks);
     if nulls.len() < 128 {
         judge_short(records, pool, columns, values, nulls, root, &marks, classes);

@@ -5,22 +5,21 @@ use Prim.Native.Nat.{ℕ, suc, _+_, _/_, _%_, _≤_, _<_}
 use mathlib.Core.Path.{_≡_, refl, sym, _∙_, ap}
 use mathlib.Core.Bool.{Bool, true, false, cond, _&&_}
 use mathlib.Core.List.{List}
-use mathlib.Core.Logic.{_⊎_, ⊎-elim}
 use native.Mathlib.Omega.{arith}
 use lib.Dec.{ltb, leb, eqb}
 use lib.ListN.{length, getD}
-use borrow.Author.Tests.{ltb-true, leb-true, lt-leb, le-leb, eqb-true, ne-eqb}
-use Rattle.records.specs.Bytes.{all}
+use borrow.Author.Tests.{ltb-true, lt-leb, ne-eqb}
 use Rattle.records.specs.Record.{node, fieldsAt}
-use Rattle.records.specs.Shape.{Ty, knownTypeIn, uses, maxCode, knownOkIn, shapeOkIn}
-use Rattle.records.proofs.Laws.{by-test, and-left, and-right}
+use Rattle.records.specs.Shape.{knownTypeIn}
+use Rattle.records.proofs.Laws.{by-test}
 use Rattle.records.proofs.Loops.{all-holds}
 use Rattle.checking.specs.Check.{typesKnownIn, tableOkIn, sizesOkIn, checkAnswerIn, checkAnswer}
-use Rattle.checking.specs.declared.check.CheckAnswer.{CheckAnswer}
+use Rattle.checking.specs.Fault.{answerOf, Stands}
 use Rattle.checking.specs.declared.check.CheckAnswer.the-variants.{Accepted}
 use Rattle.checking.proofs.Accepted.{checked}
 use Rattle.checking.proofs.Sizes.{table-known}
-use Rattle.symbol_screens.proofs.NumbersChecked.{NoText, check-same}
+use Rattle.checking.proofs.Standing.{accepted-of, not-text, shape-free}
+use Rattle.symbol_screens.proofs.NumbersChecked.{NoText}
 
 -- a table is known or not whatever the length of what is lent
 pub table-same : (n m : ℕ) (t : List ℕ) → tableOkIn (suc n) t ≡ tableOkIn (suc m) t
@@ -48,6 +47,15 @@ pub refused-alike : (n m : ℕ) (t a b rs p : List ℕ) (u used r root : ℕ) �
 unfolding checkAnswerIn
 refused-alike n m t a b rs p u used r root e g = rw (table-same n m t, e, g)
 
+-- a fault that is 8 more stands for the same answer
+pub eight-more : (f : ℕ) → answerOf (f % 8 + 8) ≡ answerOf f
+unfolding answerOf
+eight-more f = let e : (f % 8 + 8) % 8 ≡ f % 8 = omega arith in rw e
+
+pub unfaulted : (f : ℕ) → f % 8 ≡ 0 → answerOf f ≡ Accepted
+unfolding answerOf
+unfaulted f h = rw h
+
 pub lent-alike : (text : ℕ) (t rs p : List ℕ) (used root : ℕ)
     → checkAnswerIn (cond (ltb 8192 text) 8194 (suc text)) t rs p used root ≡ checkAnswerIn (suc text) t rs p used root
 lent-alike text t rs p used root =
@@ -57,32 +65,35 @@ lent-alike text t rs p used root =
     (λ n. rw n)
 
 -- ---- What is accepted without a text pool.
--- no type that is known without one is Text
-not-text : (ty : ℕ) → knownTypeIn 0 ty ≡ true → eqb ty 4 ≡ false
-unfolding knownTypeIn
-not-text ty h = let k = leb-true ty 3 (and-right (leb 1 ty) (leb ty 3) h) in ne-eqb ty 4 (λ e. omega (arith, k, e))
-
-typed : (b : Bool) (ty : ℕ) → cond b (knownTypeIn 0 ty) (eqb ty 0) ≡ true → eqb ty 4 ≡ false
-typed true ty h = not-text ty h
-typed false ty h = let k = eqb-true ty 0 h in ne-eqb ty 4 (λ e. omega (arith, k, e))
-
 pub accepted-free : (t rs p : List ℕ) (used root : ℕ) → checkAnswer t rs p used root ≡ Accepted → NoText t rs used
-unfolding typesKnownIn shapeOkIn knownOkIn
+unfolding typesKnownIn
 accepted-free t rs p used root e =
     let ok = checked t rs p used root e in
     record {
       columns = λ c l.
           not-text (getD t c 0) (all-holds (λ (k : ℕ). knownTypeIn 0 (getD t k 0)) c (length t) l (table-known t (ok .table)));
-      records = λ n l.
-          let f = fieldsAt rs (node n) in
-          typed (uses Ty (f .kind)) (f .ty)
-          (and-right (leb (f .code) (maxCode (f .kind))) _
-          (and-right (leb (f .kind) 10) _ (and-right (leb 1 (f .kind)) _ (and-left (knownOkIn 0 f) _ (ok .records n l .shape)))));
+      records = λ n l. shape-free (fieldsAt rs (node n)) (ok .records n l .shape);
     }
 
--- an answer that stands is that with a text pool
-pub stands-alike : (text : ℕ) (t rs p : List ℕ) (used root : ℕ) (a : CheckAnswer) → text ≤ 8192
-    → a ≡ checkAnswer t rs p used root → (a ≡ Accepted) ⊎ NoText t rs used → a ≡ checkAnswerIn (suc text) t rs p used root
-stands-alike text t rs p used root a h e s =
-    e ∙ sym (check-same (suc text) t rs p used (le-leb (suc text) 8193 (omega (arith, h)))
-    (⊎-elim (λ q. accepted-free t rs p used root (sym e ∙ q)) (λ f. f) s) root)
+-- ---- A round: what checking was told of the text pool, and the fault that it gave.
+module _ (symbols : Bool) (lent text : ℕ) (t rs p : List ℕ) (used root f : ℕ)
+    (how : lent ≡ cond symbols (cond (ltb 8192 text) 8194 (suc text)) 0)
+    (given : answerOf f ≡ checkAnswerIn lent t rs p used root) where
+  pub told-answer : symbols ≡ true → answerOf (f % 8 + 8) ≡ checkAnswerIn (suc text) t rs p used root
+  told-answer s =
+      eight-more f ∙ given
+      ∙ ap (λ x. checkAnswerIn x t rs p used root) (how ∙ ap (λ b. cond b (cond (ltb 8192 text) 8194 (suc text)) 0) s)
+      ∙ lent-alike text t rs p used root
+
+  module _ (s : symbols ≡ false) (short : text ≤ 8192) where
+    pub untold : lent ≡ 0
+    untold = how ∙ ap (λ b. cond b (cond (ltb 8192 text) 8194 (suc text)) 0) s
+
+    untold-given : answerOf f ≡ checkAnswer t rs p used root
+    untold-given = given ∙ ap (λ x. checkAnswerIn x t rs p used root) untold
+
+    pub untold-answer : Stands t rs p used root → answerOf f ≡ checkAnswerIn (suc text) t rs p used root
+    untold-answer h = untold-given ∙ sym (h (suc text) (omega (arith, short)))
+
+    pub untold-free : f ≡ 0 → (text ≤ 8192) × NoText t rs used
+    untold-free z = (short, accepted-free t rs p used root (sym untold-given ∙ accepted-of f z))

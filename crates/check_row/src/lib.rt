@@ -16,6 +16,7 @@ pub mod lines;
 pub mod says;
 
 use crate::lines::lines_pass;
+use limits::CONJUNCTS;
 use places::checks::places_ok;
 use plain_lines::PlainLines;
 use plain_lines::plain_lines;
@@ -58,7 +59,7 @@ pub fn check_of_screen(
         (now (row .entry)) nulls ⌝ }
     ensures listed { λ r. ⌜ rowListed r ≡ true ⌝ }
 {
-    let mut nodes = [0u32; 128];
+    let mut nodes = [0u32; CONJUNCTS];
     let lines = plain_lines(table, records, pool, used, root, &mut nodes);
     match lines {
         PlainLines::Refused(k) => k,

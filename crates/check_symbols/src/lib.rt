@@ -7,6 +7,9 @@ ghost use lib.ListN.{length};
 ghost use Rattle.check_row.specs.Answer.{rowListed};
 ghost use Rattle.check_symbols.specs.Answer.{checkRowAnswerWith};
 use check_row::check_of_screen;
+use limits::COLUMNS;
+use limits::RECORD;
+use limits::RECORDS;
 use plain_symbols::plain_numbers;
 use symbol_free::has_symbols;
 
@@ -59,8 +62,8 @@ fn check_beside_text(
         (now (pool .entry)) used root (now (row .entry)) nulls ⌝ }
     ensures listed { λ r. ⌜ rowListed r ≡ true ⌝ }
 {
-    let mut columns = [0u8; 64];
-    let mut numbers = [0u8; 65536];
+    let mut columns = [0u8; COLUMNS];
+    let mut numbers = [0u8; RECORD * RECORDS];
     check_of_numbers(
         table,
         records,

@@ -21,12 +21,12 @@ use Rattle.records.proofs.Laws.{by-test, and-left, and-right}
 use Rattle.checking.proofs.Sizes.{used-small-in, used-lent-in}
 
 -- a fault that is 0 comes from every test before it
-only : (b : Bool) (x k : ℕ) → cond b x (suc k) ≡ 0 → (b ≡ true) × (x ≡ 0)
+pub only : (b : Bool) (x k : ℕ) → cond b x (suc k) ≡ 0 → (b ≡ true) × (x ≡ 0)
 only true x k e = (refl, e)
 only false x k e = absurd (omega (arith, e))
 
 -- no fault among the first u: none at any of them
-no-fault : (f : ℕ → ℕ) (n u : ℕ) → first f u ≡ 0 → n < u → f n ≡ 0
+pub no-fault : (f : ℕ → ℕ) (n u : ℕ) → first f u ≡ 0 → n < u → f n ≡ 0
 unfolding first
 no-fault f n zero e h = absurd (omega arith)
 no-fault f n (suc u) e h = go (eqb (first f u) 0) refl e (λ q k. no-fault f n u q k)

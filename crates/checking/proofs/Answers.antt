@@ -27,7 +27,7 @@ meaning-small text t rs p r n =
     pick (reachOkIn text t p r n) _ _
     (pick (servedOk r) _ _ (pick (typesOk t rs r) _ _ (omega arith) (omega arith)) (omega arith)) (omega arith)
 
-fault-small : (text : ℕ) (t rs p : List ℕ) (n : Node) → recordFaultIn text t rs p n ≤ 7
+pub fault-small : (text : ℕ) (t rs p : List ℕ) (n : Node) → recordFaultIn text t rs p n ≤ 7
 unfolding recordFaultIn
 fault-small text t rs p n = pick (shapeOkIn text (fieldsAt rs n)) _ _ (meaning-small text t rs p (decode (fieldsAt rs n)) n) (omega arith)
 

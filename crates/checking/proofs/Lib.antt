@@ -4,5 +4,6 @@ pub mod Steps
 pub mod Bits
 pub mod Accepted
 pub mod Answers
+pub mod Standing
 mod Others
 mod Cases

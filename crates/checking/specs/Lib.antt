@@ -3,3 +3,4 @@ pub mod Table
 pub mod Tree
 pub mod Columns
 pub mod Checked
+pub mod Fault

@@ -1,46 +1,74 @@
 // Checking a screen: limits and table, then records from 0 up, then the root's type. The first fault is the answer.
 ghost use mathlib.Core.Path.{_≡_};
-ghost use Prim.Native.Nat.{_*_, _/_, _≤_, _<_, min};
+ghost use Prim.Native.Nat.{ℕ, _*_, _/_, _%_, _≤_, _<_, min};
+ghost use lib.Dec.{eqb};
 ghost use lib.ListN.{length};
-ghost use mathlib.Core.Bool.{true};
+ghost use mathlib.Core.Bool.{true, false};
 ghost use Rattle.records.specs.Record.{node};
 ghost use Rattle.checking.specs.Check.{typesKnownIn, tableOkIn, sizesOkIn, firstFaultIn, recordsAnswerIn, checkAnswerIn, checkAnswer};
 ghost use Rattle.record_check.specs.Step.{Entered};
 ghost use Rattle.record_check.specs.Outside.{CountsOf, Counts};
 ghost use Rattle.checking.specs.Tree.{Counted};
-ghost use Rattle.checking.specs.declared.check.CheckAnswer.the-variants.{Refused, Accepted};
+ghost use Rattle.checking.specs.Fault.{answerOf, FaultStands, RecordsStand, Stands};
+ghost use Rattle.checking.specs.declared.check.CheckAnswer.the-variants.{Accepted};
+use limits::FEW_RECORDS;
+use limits::VALUES;
 use record_check::outside::fill_outside;
 use record_check::step::record_step;
 use records::record::Node;
 use records::record::fields_in;
-use records::shape::known_type;
+use value_types::known_type;
 
-// What checking answers: a refusal with its number, 1 to 7, or that the screen is accepted.
+// What checking answers: a refusal with its number, 1 to 7, or that the screen is accepted. Inside it is a fault: the number,
+// 0 for none, and 8 more where what is refused says the type Text. Where no text pool was lent, one might know it.
 pub enum CheckAnswer {
     Refused(u32),
     Accepted,
 }
 
-fn types_known(text: u32, t: &[u8]) -> bool
-    ensures { λ r. ⌜ r ≡ typesKnownIn text (now (t .entry)) ⌝ }
+// The answer that a fault stands for.
+pub fn answer_of(fault: u32) -> CheckAnswer
+    ensures { λ a. ⌜ a ≡ answerOf fault ⌝ }
+{
+    if fault % 8 == 0 {
+        return CheckAnswer::Accepted;
+    }
+    CheckAnswer::Refused(fault % 8)
+}
+
+// The fault of what says the type: 8 more at a Text.
+fn fault_at(number: u32, ty: u8) -> u32
+    requires { ⌜ number < 8 ⌝ }
+    ensures { λ f. ⌜ f % 8 ≡ number ⌝ }
+    ensures { λ f. ⌜ (f < 8 → eqb ty 4 ≡ false) ⌝ }
+{
+    if ty == 4 { number + 8 } else { number }
+}
+
+fn types_fault(text: u32, t: &[u8]) -> u32
+    ensures { λ f. ⌜ (f ≡ 0 → typesKnownIn text (now (t .entry)) ≡ true) ⌝ }
+    ensures { λ f. ⌜ ((f ≡ 0 → ⊥) → (f % 8 ≡ 1) × (typesKnownIn text (now (t .entry)) ≡ false)) ⌝ }
+    ensures { λ f. ⌜ ((f ≡ 0 → ⊥) → f < 8 → (s : ℕ) → typesKnownIn s (now (t .entry)) ≡ false) ⌝ }
 {
     let mut k: usize = 0;
     while k < t.len() {
         if !known_type(text, t[k]) {
-            return false;
+            return fault_at(1, t[k]);
         }
         k += 1;
     }
-    true
+    0
 }
 
-fn table_ok(text: u32, t: &[u8]) -> bool
-    ensures { λ r. ⌜ r ≡ tableOkIn text (now (t .entry)) ⌝ }
+fn table_fault(text: u32, t: &[u8]) -> u32
+    ensures { λ f. ⌜ (f ≡ 0 → tableOkIn text (now (t .entry)) ≡ true) ⌝ }
+    ensures { λ f. ⌜ ((f ≡ 0 → ⊥) → (f % 8 ≡ 1) × (tableOkIn text (now (t .entry)) ≡ false)) ⌝ }
+    ensures { λ f. ⌜ ((f ≡ 0 → ⊥) → f < 8 → (s : ℕ) → tableOkIn s (now (t .entry)) ≡ false) ⌝ }
 {
     if 64 < t.len() {
-        return false;
+        return 1;
     }
-    types_known(text, t)
+    types_fault(text, t)
 }
 
 fn sizes_ok(text: u32, rs: &[u8], p: &[u8], used: u64) -> bool
@@ -61,14 +89,17 @@ fn sizes_ok(text: u32, rs: &[u8], p: &[u8], used: u64) -> bool
     p.len() / 8 <= 8192
 }
 
-// The first checks: 1, 2, 3, or 0 if the limits are kept.
+// The first checks: the fault of 1, 2, 3, or 0 if the limits are kept.
 fn limits_fault(t: &[u8], rs: &[u8], p: &[u8], text: u32, used: u64, root: u64) -> u32
     ensures { λ k. ⌜ (k ≡ 0 → (tableOkIn text (now (t .entry)) ≡ true)
         × (sizesOkIn text (now (rs .entry)) (now (p .entry)) used ≡ true) × (root < used)) ⌝ }
-    ensures { λ k. ⌜ ((k ≡ 0 → ⊥) → checkAnswerIn text (now (t .entry)) (now (rs .entry)) (now (p .entry)) used root ≡ Refused k) ⌝ }
+    ensures { λ k. ⌜ ((k ≡ 0 → ⊥) → (answerOf k ≡ Accepted → ⊥)
+        × (answerOf k ≡ checkAnswerIn text (now (t .entry)) (now (rs .entry)) (now (p .entry)) used root)) ⌝ }
+    ensures { λ k. ⌜ ((k ≡ 0 → ⊥) → text ≡ 0 → k < 8 → Stands (now (t .entry)) (now (rs .entry)) (now (p .entry)) used root) ⌝ }
 {
-    if !table_ok(text, t) {
-        return 1;
+    let k = table_fault(text, t);
+    if k != 0 {
+        return k;
     }
     if !sizes_ok(text, rs, p, used) {
         return 2;
@@ -86,8 +117,8 @@ fn cut(count: u32) -> u16
     if count < 4097 { count as u16 } else { 4097 }
 }
 
-// The number of the first fault among the records below `used`, or 0. Each record is read once; its entry and its tree
-// count stay in tables for the records that name it.
+// The first fault among the records below `used`, or 0. Each record is read once; its entry and its tree count stay in
+// tables for the records that name it.
 fn fault_below(
     t: &[u8],
     rs: &[u8],
@@ -105,16 +136,18 @@ fn fault_below(
     requires { ⌜ used ≤ length (now trees) ⌝ }
     requires { ⌜ 16 * used ≤ length (now rs) ⌝ }
     requires { ⌜ typesKnownIn text (now t) ≡ true ⌝ }
-    ensures { λ f. ⌜ f ≡ firstFaultIn text (now (t .entry)) (now (rs .entry)) (now (p .entry)) used ⌝ }
+    ensures { λ f. ⌜ f % 8 ≡ firstFaultIn text (now (t .entry)) (now (rs .entry)) (now (p .entry)) used ⌝ }
+    ensures { λ f. ⌜ (f % 8 ≡ 0 → f ≡ 0) ⌝ }
     ensures { λ f. ⌜ (f ≡ 0 → Entered (now (t .entry)) (now (rs .entry)) (now (types .exit)) used) ⌝ }
     ensures { λ f. ⌜ (f ≡ 0 → Counted (now (rs .entry)) (now (trees .exit)) used) ⌝ }
+    ensures { λ f. ⌜ (text ≡ 0 → f < 8 → FaultStands (now (t .entry)) (now (rs .entry)) (now (p .entry)) used) ⌝ }
 {
     let mut i: u32 = 0;
     while i < used {
         let f = fields_in(rs, Node(i));
         let s = record_step(t, p, text, days, truths, symbols, types, trees, f, Node(i));
         if s.fault != 0 {
-            return s.fault;
+            return fault_at(s.fault, f.ty);
         }
         types[i as usize] = s.entry;
         trees[i as usize] = cut(s.tree);
@@ -123,7 +156,7 @@ fn fault_below(
     0
 }
 
-fn records_answer(
+fn records_fault(
     t: &[u8],
     rs: &[u8],
     p: &[u8],
@@ -135,24 +168,25 @@ fn records_answer(
     root: u32,
     types: &mut [u8],
     trees: &mut [u16],
-) -> CheckAnswer
+) -> u32
     requires { ⌜ Counts text (now p) (now days) (now truths) (now symbols) ⌝ }
     requires { ⌜ used ≤ length (now types) ⌝ }
     requires { ⌜ used ≤ length (now trees) ⌝ }
     requires { ⌜ 16 * used ≤ length (now rs) ⌝ }
     requires { ⌜ typesKnownIn text (now t) ≡ true ⌝ }
     requires { ⌜ root < used ⌝ }
-    ensures { λ a. ⌜ a ≡ recordsAnswerIn text (now (t .entry)) (now (rs .entry)) (now (p .entry)) used (node root) ⌝ }
-    ensures { λ a. ⌜ (a ≡ Accepted → Counted (now (rs .entry)) (now (trees .exit)) used) ⌝ }
+    ensures { λ f. ⌜ answerOf f ≡ recordsAnswerIn text (now (t .entry)) (now (rs .entry)) (now (p .entry)) used (node root) ⌝ }
+    ensures { λ f. ⌜ (answerOf f ≡ Accepted → Counted (now (rs .entry)) (now (trees .exit)) used) ⌝ }
+    ensures { λ f. ⌜ (text ≡ 0 → f < 8 → RecordsStand (now (t .entry)) (now (rs .entry)) (now (p .entry)) used root) ⌝ }
 {
     let f = fault_below(t, rs, p, text, days, truths, symbols, used, types, trees);
     if f != 0 {
-        return CheckAnswer::Refused(f);
+        return f;
     }
     if types[root as usize] % 8 != 3 {
-        return CheckAnswer::Refused(7);
+        return 7;
     }
-    CheckAnswer::Accepted
+    0
 }
 
 // The same, with the counts of the values that are no symbol of the text pool.
@@ -167,7 +201,7 @@ fn records_pooled(
     root: u32,
     types: &mut [u8],
     trees: &mut [u16],
-) -> CheckAnswer
+) -> u32
     requires { ⌜ length (now p) / 8 ≤ 8192 ⌝ }
     requires { ⌜ CountsOf text (now p) 2 (now days) × CountsOf text (now p) 3 (now truths) ⌝ }
     requires { ⌜ used ≤ length (now types) ⌝ }
@@ -175,12 +209,13 @@ fn records_pooled(
     requires { ⌜ 16 * used ≤ length (now rs) ⌝ }
     requires { ⌜ typesKnownIn text (now t) ≡ true ⌝ }
     requires { ⌜ root < used ⌝ }
-    ensures { λ a. ⌜ a ≡ recordsAnswerIn text (now (t .entry)) (now (rs .entry)) (now (p .entry)) used (node root) ⌝ }
-    ensures { λ a. ⌜ (a ≡ Accepted → Counted (now (rs .entry)) (now (trees .exit)) used) ⌝ }
+    ensures { λ f. ⌜ answerOf f ≡ recordsAnswerIn text (now (t .entry)) (now (rs .entry)) (now (p .entry)) used (node root) ⌝ }
+    ensures { λ f. ⌜ (answerOf f ≡ Accepted → Counted (now (rs .entry)) (now (trees .exit)) used) ⌝ }
+    ensures { λ f. ⌜ (text ≡ 0 → f < 8 → RecordsStand (now (t .entry)) (now (rs .entry)) (now (p .entry)) used root) ⌝ }
 {
-    let mut symbols = [0u16; 8193];
+    let mut symbols = [0u16; VALUES + 1];
     fill_outside(text, p, 4, &mut symbols);
-    records_answer(
+    records_fault(
         t,
         rs,
         p,
@@ -206,23 +241,24 @@ fn records_counted(
     root: u32,
     types: &mut [u8],
     trees: &mut [u16],
-) -> CheckAnswer
+) -> u32
     requires { ⌜ length (now p) / 8 ≤ 8192 ⌝ }
     requires { ⌜ used ≤ length (now types) ⌝ }
     requires { ⌜ used ≤ length (now trees) ⌝ }
     requires { ⌜ 16 * used ≤ length (now rs) ⌝ }
     requires { ⌜ typesKnownIn text (now t) ≡ true ⌝ }
     requires { ⌜ root < used ⌝ }
-    ensures { λ a. ⌜ a ≡ recordsAnswerIn text (now (t .entry)) (now (rs .entry)) (now (p .entry)) used (node root) ⌝ }
-    ensures { λ a. ⌜ (a ≡ Accepted → Counted (now (rs .entry)) (now (trees .exit)) used) ⌝ }
+    ensures { λ f. ⌜ answerOf f ≡ recordsAnswerIn text (now (t .entry)) (now (rs .entry)) (now (p .entry)) used (node root) ⌝ }
+    ensures { λ f. ⌜ (answerOf f ≡ Accepted → Counted (now (rs .entry)) (now (trees .exit)) used) ⌝ }
+    ensures { λ f. ⌜ (text ≡ 0 → f < 8 → RecordsStand (now (t .entry)) (now (rs .entry)) (now (p .entry)) used root) ⌝ }
 {
-    let mut days = [0u16; 8193];
-    let mut truths = [0u16; 8193];
+    let mut days = [0u16; VALUES + 1];
+    let mut truths = [0u16; VALUES + 1];
     fill_outside(text, p, 2, &mut days);
     fill_outside(text, p, 3, &mut truths);
     if text == 0 {
         let none = [0u16; 0];
-        return records_answer(
+        return records_fault(
             t,
             rs,
             p,
@@ -239,8 +275,8 @@ fn records_counted(
     records_pooled(t, rs, p, text, &days, &truths, used, root, types, trees)
 }
 
-// Checking, and the tree counts of an accepted screen's records, each 4,097 if above 4,096. `text` is one more than the
-// bytes of the text pool that is lent, 0 where none is; `types` is room to work in.
+// The fault of checking, and the tree counts of an accepted screen's records, each 4,097 if above 4,096. `text` is one more
+// than the bytes of the text pool that is lent, 0 where none is; `types` is room to work in.
 pub fn check_with_text(
     t: &[u8],
     rs: &[u8],
@@ -250,27 +286,28 @@ pub fn check_with_text(
     root: u64,
     types: &mut [u8],
     trees: &mut [u16],
-) -> CheckAnswer
+) -> u32
     requires { ⌜ (used ≤ 4096 → used ≤ length (now types)) ⌝ }
     requires { ⌜ (used ≤ 4096 → used ≤ length (now trees)) ⌝ }
-    ensures { λ a. ⌜ a ≡ checkAnswerIn text (now (t .entry)) (now (rs .entry)) (now (p .entry)) used root ⌝ }
-    ensures { λ a. ⌜ (a ≡ Accepted → Counted (now (rs .entry)) (now (trees .exit)) used) ⌝ }
+    ensures { λ f. ⌜ answerOf f ≡ checkAnswerIn text (now (t .entry)) (now (rs .entry)) (now (p .entry)) used root ⌝ }
+    ensures { λ f. ⌜ (answerOf f ≡ Accepted → Counted (now (rs .entry)) (now (trees .exit)) used) ⌝ }
+    ensures { λ f. ⌜ (text ≡ 0 → f < 8 → Stands (now (t .entry)) (now (rs .entry)) (now (p .entry)) used root) ⌝ }
 {
     let k = limits_fault(t, rs, p, text, used, root);
     if k != 0 {
-        return CheckAnswer::Refused(k);
+        return k;
     }
     let u = used as u32;
     let r = root as u32;
     let none = [0u16; 0];
     if used <= 64 {
-        return records_answer(t, rs, p, text, &none, &none, &none, u, r, types, trees);
+        return records_fault(t, rs, p, text, &none, &none, &none, u, r, types, trees);
     }
     if 512 < used {
         return records_counted(t, rs, p, text, u, r, types, trees);
     }
     if p.len() <= 1024 {
-        return records_answer(t, rs, p, text, &none, &none, &none, u, r, types, trees);
+        return records_fault(t, rs, p, text, &none, &none, &none, u, r, types, trees);
     }
     records_counted(t, rs, p, text, u, r, types, trees)
 }
@@ -290,7 +327,7 @@ pub fn check_counted(
     ensures { λ a. ⌜ a ≡ checkAnswer (now (t .entry)) (now (rs .entry)) (now (p .entry)) used root ⌝ }
     ensures { λ a. ⌜ (a ≡ Accepted → Counted (now (rs .entry)) (now (trees .exit)) used) ⌝ }
 {
-    check_with_text(t, rs, p, 0, used, root, types, trees)
+    answer_of(check_with_text(t, rs, p, 0, used, root, types, trees))
 }
 
 // The answer alone, of a screen of few records: small tables cost less to clear. The slices are passed on once and not
@@ -301,14 +338,14 @@ pub fn check_few(t: &[u8], rs: &[u8], p: &[u8], text: u32, used: u64, root: u64)
 {
     let k = limits_fault(t, rs, p, text, used, root);
     if k != 0 {
-        return CheckAnswer::Refused(k);
+        return answer_of(k);
     }
     let u = used as u32;
     let r = root as u32;
     let none = [0u16; 0];
-    let mut types = [0u8; 64];
-    let mut trees = [0u16; 64];
-    records_answer(
+    let mut types = [0u8; FEW_RECORDS];
+    let mut trees = [0u16; FEW_RECORDS];
+    answer_of(records_fault(
         t,
         rs,
         p,
@@ -320,10 +357,10 @@ pub fn check_few(t: &[u8], rs: &[u8], p: &[u8], text: u32, used: u64, root: u64)
         r,
         &mut types,
         &mut trees,
-    )
+    ))
 }
 
-// The same without a text pool, with the tree counts, in tables that are lent.
+// The same without a text pool, as a fault, with the tree counts, in tables that are lent.
 pub fn check_few_counted(
     t: &[u8],
     rs: &[u8],
@@ -332,19 +369,20 @@ pub fn check_few_counted(
     root: u64,
     types: &mut [u8],
     trees: &mut [u16],
-) -> CheckAnswer
+) -> u32
     requires { ⌜ used ≤ 64 ⌝ }
     requires { ⌜ used ≤ length (now types) ⌝ }
     requires { ⌜ used ≤ length (now trees) ⌝ }
-    ensures { λ a. ⌜ a ≡ checkAnswer (now (t .entry)) (now (rs .entry)) (now (p .entry)) used root ⌝ }
-    ensures { λ a. ⌜ (a ≡ Accepted → Counted (now (rs .entry)) (now (trees .exit)) used) ⌝ }
+    ensures { λ f. ⌜ answerOf f ≡ checkAnswer (now (t .entry)) (now (rs .entry)) (now (p .entry)) used root ⌝ }
+    ensures { λ f. ⌜ (answerOf f ≡ Accepted → Counted (now (rs .entry)) (now (trees .exit)) used) ⌝ }
+    ensures { λ f. ⌜ (f < 8 → Stands (now (t .entry)) (now (rs .entry)) (now (p .entry)) used root) ⌝ }
 {
     let k = limits_fault(t, rs, p, 0, used, root);
     if k != 0 {
-        return CheckAnswer::Refused(k);
+        return k;
     }
     let u = used as u32;
     let r = root as u32;
     let none = [0u16; 0];
-    records_answer(t, rs, p, 0, &none, &none, &none, u, r, types, trees)
+    records_fault(t, rs, p, 0, &none, &none, &none, u, r, types, trees)
 }

@@ -5,6 +5,8 @@ ghost use lib.ListN.{length, getD};
 ghost use Rattle.records.specs.Record.{listOf, recordAt};
 ghost use Rattle.checking.specs.Columns.{columnBit, ownColumn, orAt, columnsStep, columnsWord};
 ghost use Rattle.checking.specs.Table.{below};
+use limits::FEW_RECORDS;
+use limits::RECORDS;
 use records::record::Column;
 use records::record::Inputs;
 use records::record::Node;
@@ -87,11 +89,11 @@ pub fn columns_word(rs: &[u8], root: Node) -> u64
     ensures { λ w. ⌜ w ≡ columnsWord (now (rs .entry)) (root .0) ⌝ }
 {
     if root.0 < 64 {
-        let mut small = [0u64; 64];
+        let mut small = [0u64; FEW_RECORDS];
         fill_words(&mut small, rs, root);
         return small[root.0 as usize];
     }
-    let mut words = [0u64; 4096];
+    let mut words = [0u64; RECORDS];
     fill_words(&mut words, rs, root);
     words[root.0 as usize]
 }

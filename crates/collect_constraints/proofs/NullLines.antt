@@ -25,6 +25,7 @@ use Rattle.collect_constraints.specs.NullLines.{NullLines, NullKept}
 use Rattle.column_table.specs.Words.{pastColumn}
 use Rattle.column_table.proofs.Arrays.{low-slot}
 use Rattle.collect_constraints.proofs.Collecting.{collect-end}
+use Rattle.column_constraints.specs.Abstraction.{conjunctsOf}
 
 -- ---- a requirement stays
 first-stays : (m n : Nullability) → isRequired m ≡ true → isRequired (firstRequired m n) ≡ true
@@ -102,7 +103,7 @@ pub null-required : (table table′ : List ColumnConstraints) (a x j : ℕ) (c r
     → r .since ≡ cond (isRequired (c .nullability)) (c .since) j → table′ ≡ set table x r
     → NullKept table table′ j
 null-required table table′ a x j c r size la ex hc er el et =
-    let t : Conjuncts = conjuncts [] [] [] [] [] in
+    let t : Conjuncts = conjunctsOf [] [] [] [] [] in
     null-kept table table′ a x j c r size la ex hc
     (λ h. ap (λ d. isRequired (d .nullability)) (er t []) ∙ add-stays (Require NonNull) (columnOf t (numbered [] c)) h) el et
 

@@ -98,10 +98,7 @@ fn require_non_null(cells: &mut [u64], a: Column, j: u8)
 
 /// What conjunct j says of the column a; whether the column is then impossible.
 fn add_to_column(
-    kinds: &[u8],
-    values: &[u64],
-    starts: &[u32],
-    counts: &[u32],
+    told: &[u64],
     pool: &[u8],
     cells: &mut [u64],
     marks: &mut [u8],
@@ -110,9 +107,8 @@ fn add_to_column(
     s: Says,
 ) -> bool
     requires { ⌜ Fits (now cells) (now marks) × (a .0 < 64) × (j < stride (now marks)) ⌝ }
-    requires { ⌜ Told (conjuncts (now kinds) (now values) (now starts) (now counts) (now pool)) j (saysIn (now pool) s) ⌝ }
-    ensures { λ r. ⌜ (let t = conjuncts (now (kinds .entry)) (now (values .entry)) (now (starts .entry))
-        (now (counts .entry)) (now (pool .entry)) in (T : ColumnTable) →
+    requires { ⌜ Told (conjuncts (now told) (now pool)) j (saysIn (now pool) s) ⌝ }
+    ensures { λ r. ⌜ (let t = conjuncts (now (told .entry)) (now (pool .entry)) in (T : ColumnTable) →
         Shows t (columnsOf (now (cells .entry))) (now (marks .entry)) T →
         Added t (columnsOf (now (cells .exit))) (now (marks .exit)) (a .0)
         (map (mapConstraint (onLine j)) (saysIn (now (pool .entry)) s)) r T) ⌝ }
@@ -122,7 +118,7 @@ fn add_to_column(
 {
     let x = slot(a);
     let c = load(cells, x);
-    let d = add_in_row(kinds, values, starts, counts, pool, marks, x, c, j, s);
+    let d = add_in_row(told, pool, marks, x, c, j, s);
     let r = with_null_line(d, c, j);
     store(cells, x, r);
     r.unsat
@@ -133,10 +129,7 @@ fn collect_conjunct(
     rs: &[u8],
     pool: &[u8],
     node: u32,
-    kinds: &[u8],
-    values: &[u64],
-    starts: &[u32],
-    counts: &[u32],
+    told: &[u64],
     cells: &mut [u64],
     marks: &mut [u8],
     seen: &mut [bool],
@@ -152,11 +145,11 @@ fn collect_conjunct(
         × (held .columns + 2 ≤ length (now order)) × (held .columns + 2 ≤ 256) × (held .keeps < length (now kept))
         × (held .edges < length (now lefts)) × (held .edges < length (now rights)) × (held .edges < length (now equals))
         × (held .keeps < 128) × (held .edges < 128) × (held .bounds < 128) ⌝ }
-    requires { ⌜ ToldConjunct (conjuncts (now kinds) (now values) (now starts) (now counts) (now pool)) j
+    requires { ⌜ ToldConjunct (conjuncts (now told) (now pool)) j
         (m.classify (aexprOf (now rs) (now pool)) node) ⌝ }
     requires { ⌜ ColumnsBelow 64 (m.classify (aexprOf (now rs) (now pool)) node) ⌝ }
-    ensures { λ r. ⌜ (let t = conjuncts (now (kinds .entry)) (now (values .entry)) (now (starts .entry))
-        (now (counts .entry)) (now (pool .entry)) in (s : d.Collected Lined) → Collects t (columnsOf (now (cells .entry)))
+    ensures { λ r. ⌜ (let t = conjuncts (now (told .entry)) (now (pool .entry)) in (s : d.Collected Lined) → Collects t
+        (columnsOf (now (cells .entry)))
         (now (marks .entry)) (now (seen .entry)) (now (order .entry)) (held .columns) (now (kept .entry)) (held .keeps)
         (now (lefts .entry)) (now (rights .entry)) (now (equals .entry)) (held .edges) (held .bounds) (held .normalized)
         (held .unsat) s → held .unsat ≡ false → Collects t (columnsOf (now (cells .exit))) (now (marks .exit))
@@ -174,13 +167,13 @@ fn collect_conjunct(
     match k {
         Conjunct::Bounds(a, s) => {
             held.columns = enter(seen, order, held.columns, a);
-            held.unsat = add_to_column(kinds, values, starts, counts, pool, cells, marks, a, j, s);
+            held.unsat = add_to_column(told, pool, cells, marks, a, j, s);
             held.bounds += 1;
             held
         }
         Conjunct::Normalized(a, s) => {
             held.columns = enter(seen, order, held.columns, a);
-            held.unsat = add_to_column(kinds, values, starts, counts, pool, cells, marks, a, j, s);
+            held.unsat = add_to_column(told, pool, cells, marks, a, j, s);
             held.bounds += 1;
             held.normalized = true;
             held
@@ -198,8 +191,7 @@ fn collect_conjunct(
         }
         Conjunct::Recorded(stops, a, s) => {
             held.columns = enter(seen, order, held.columns, a);
-            held.unsat = stops
-                & add_to_column(kinds, values, starts, counts, pool, cells, marks, a, j, s);
+            held.unsat = stops & add_to_column(told, pool, cells, marks, a, j, s);
             kept[keeps] = node;
             held.keeps = keeps + 1;
             held
@@ -227,10 +219,7 @@ pub fn collect(
     pool: &[u8],
     nodes: &[u32],
     n: usize,
-    kinds: &[u8],
-    values: &[u64],
-    starts: &[u32],
-    counts: &[u32],
+    told: &[u64],
     cells: &mut [u64],
     marks: &mut [u8],
     order: &mut [u32],
@@ -243,11 +232,11 @@ pub fn collect(
         × (length (now cells) ≡ 448) × (columnsOf (now cells) ≡ replicate 64 pastColumn)
         × (n + n ≤ length (now order)) × (n ≤ length (now kept)) × (n ≤ length (now lefts)) × (n ≤ length (now rights))
         × (n ≤ length (now equals)) ⌝ }
-    requires { ⌜ ((i : ℕ) → i < n → ToldConjunct (conjuncts (now kinds) (now values) (now starts) (now counts) (now pool)) i
+    requires { ⌜ ((i : ℕ) → i < n → ToldConjunct (conjuncts (now told) (now pool)) i
         (m.classify (aexprOf (now rs) (now pool)) (getD (now nodes) i 0))) ⌝ }
     requires { ⌜ ((i : ℕ) → i < n → ColumnsBelow 64 (m.classify (aexprOf (now rs) (now pool)) (getD (now nodes) i 0))) ⌝ }
-    ensures { λ r. ⌜ ((seen : List Bool) × Collects (conjuncts (now (kinds .entry)) (now (values .entry)) (now (starts .entry))
-        (now (counts .entry)) (now (pool .entry))) (columnsOf (now (cells .exit))) (now (marks .exit)) seen
+    ensures { λ r. ⌜ ((seen : List Bool) × Collects (conjuncts (now (told .entry)) (now (pool .entry))) (columnsOf (now
+        (cells .exit))) (now (marks .exit)) seen
         (now (order .exit)) (r .columns) (now (kept .exit)) (r .keeps) (now (lefts .exit)) (now (rights .exit))
         (now (equals .exit)) (r .edges) (r .bounds) (r .normalized) (r .unsat)
         (collectTo (aexprOf (now (rs .entry)) (now (pool .entry))) (now (nodes .entry)) n)) ⌝ }
@@ -270,10 +259,7 @@ pub fn collect(
             rs,
             pool,
             nodes[i],
-            kinds,
-            values,
-            starts,
-            counts,
+            told,
             cells,
             marks,
             &mut seen,

@@ -1,7 +1,7 @@
 -- What the code's column stands for: numbers of conjuncts stand for the values that those conjuncts give. The
 -- contracts say that a function's result stands for what the definition gives of what its arguments stand for. Read
 -- `Conjuncts`, then `columnOf`.
-use Prim.Native.Nat.{ℕ, zero, suc, _+_, _<_}
+use Prim.Native.Nat.{ℕ, zero, suc, _+_, _/_, _%_, _<_}
 use mathlib.Core.Path.{_≡_}
 use mathlib.Core.Bool.{Bool, true, false, cond, _||_}
 use mathlib.Core.List.{List, [], _∷_, _++_, map}
@@ -34,9 +34,34 @@ pub record Conjuncts : Type 0 where
   pub counts : List ℕ
   pub pool : List ℕ
 
-abbrev pub conjuncts : List ℕ → List ℕ → List ℕ → List ℕ → List ℕ → Conjuncts
-conjuncts kinds′ values′ starts′ counts′ pool′ =
+abbrev pub conjunctsOf : List ℕ → List ℕ → List ℕ → List ℕ → List ℕ → Conjuncts
+conjunctsOf kinds′ values′ starts′ counts′ pool′ =
     record { kinds = kinds′; values = values′; starts = starts′; counts = counts′; pool = pool′ }
+
+-- The code lends all but the pool as one list of words, two a conjunct: what it gives, and its kind.
+unfoldable pub each : (ℕ → ℕ → ℕ) → List ℕ → List ℕ
+each f [] = []
+each f (w ∷ []) = []
+each f (w ∷ k ∷ l) = f w k ∷ each f l
+
+-- The word of a list is its start and 2^32 times its count; a conjunct of another kind has an empty list at 0.
+abbrev pub listIn : ℕ → ℕ → ℕ
+listIn w k = cond (eqb k 1 || eqb k 2) w 0
+
+unfoldable pub kindsIn : List ℕ → List ℕ
+kindsIn told = each (λ w k. k) told
+
+unfoldable pub valuesIn : List ℕ → List ℕ
+valuesIn told = each (λ w k. w) told
+
+unfoldable pub startsIn : List ℕ → List ℕ
+startsIn told = each (λ w k. listIn w k % 4294967296) told
+
+unfoldable pub countsIn : List ℕ → List ℕ
+countsIn told = each (λ w k. listIn w k / 4294967296) told
+
+abbrev pub conjuncts : List ℕ → List ℕ → Conjuncts
+conjuncts told pool′ = conjunctsOf (kindsIn told) (valuesIn told) (startsIn told) (countsIn told) pool′
 
 -- The list of conjunct j.
 unfoldable pub listOf : List ℕ → List ℕ → List ℕ → ℕ → List ℕ

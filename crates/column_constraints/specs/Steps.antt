@@ -16,16 +16,16 @@ use Rattle.constraints.specs.Comparisons as e
 use Rattle.constraints.specs.Payload.{payload}
 use Rattle.constraints.specs.Lined.{Lined, lined}
 use Rattle.column_constraints.specs.Abstraction.{Conjuncts, Numbered, numbered, columnOf, boundOf, ofKind, valuesOf}
-use Rattle.column_constraints.specs.Abstraction.{literalAt}
+use Rattle.column_constraints.specs.Abstraction.{literalAt, kindsIn, startsIn, countsIn}
 use Rattle.constraints.specs.declared.column.ExcludedResolution.{ExcludedResolution}
 use Rattle.constraints.specs.declared.column.ExcludedResolution.the-variants.{Drop, Keep, TightenLower}
 use Rattle.constraints.specs.declared.column.ExcludedResolution.the-variants.{TightenUpper}
 use Rattle.column_constraints.specs.declared.column.Merged.{Merged}
 
--- The tables that a function which reads lists is lent.
-abbrev pub Lists : Conjuncts → List ℕ → List ℕ → List ℕ → List ℕ → Type 0
-Lists t kinds starts counts pool =
-    (t .kinds ≡ kinds) × (t .starts ≡ starts) × (t .counts ≡ counts) × (t .pool ≡ pool)
+-- What a function which reads lists is lent.
+abbrev pub Lists : Conjuncts → List ℕ → List ℕ → Type 0
+Lists t told pool =
+    (t .kinds ≡ kindsIn told) × (t .starts ≡ startsIn told) × (t .counts ≡ countsIn told) × (t .pool ≡ pool)
 
 -- Is some number of kind k among n of them.
 unfoldable pub anyOfKind : List ℕ → ℕ → List ℕ → ℕ → Bool

@@ -8,6 +8,7 @@ ghost use lib.ListN.{length};
 ghost use Rattle.constraints.specs.Comparisons.{collectColumnComparisons};
 ghost use Rattle.constraints.specs.Lined.{lined};
 ghost use Rattle.column_constraints.specs.Abstraction.{Conjuncts, numbered, columnOf, comparedOf, Fine};
+ghost use Rattle.column_constraints.specs.Abstraction.{kindsIn, valuesIn};
 ghost use Rattle.merge.specs.Reasons.{shownIn};
 ghost use Rattle.merge.specs.Write.{splice};
 ghost use Rattle.reasons.specs.Reason.{reasonIn};
@@ -84,16 +85,9 @@ fn write_place(s: &mut [u8], at: usize, t: &[u8], text: &[u8], a: Column, k: Com
 }
 
 /// How many bytes the reasons of the column's comparisons have, whatever text pool is lent.
-pub fn column_length(
-    t: &[u8],
-    a: Column,
-    kinds: &[u8],
-    values: &[u64],
-    marks: &[u8],
-    c: ColumnConstraints,
-) -> usize
+pub fn column_length(t: &[u8], a: Column, told: &[u64], marks: &[u8], c: ColumnConstraints) -> usize
     requires { ⌜ Fine 128 (now marks) (c .len) ⌝ }
-    ensures { λ r. ⌜ ((s : Conjuncts) → s .kinds ≡ now (kinds .entry) → s .values ≡ now (values .entry) →
+    ensures { λ r. ⌜ ((s : Conjuncts) → s .kinds ≡ kindsIn (now (told .entry)) → s .values ≡ valuesIn (now (told .entry)) →
         (text : List ℕ) → r ≡ length (columnText (shownIn (now (t .entry)) text) (a .0)
         (collectColumnComparisons lined (columnOf s (numbered (now (marks .entry)) c))))) ⌝ }
     ensures { λ r. ⌜ r ≤ 1116691503200 ⌝ }
@@ -102,7 +96,7 @@ pub fn column_length(
     let mut size: usize = 0;
     let mut p: usize = 0;
     while p < places {
-        let k = comparison_at(kinds, values, marks, c, p);
+        let k = comparison_at(told, marks, c, p);
         size = size + place_length(t, a, k);
         p += 1;
     }
@@ -116,18 +110,17 @@ pub fn write_column_reasons(
     t: &[u8],
     text: &[u8],
     a: Column,
-    kinds: &[u8],
-    values: &[u64],
+    told: &[u64],
     marks: &[u8],
     c: ColumnConstraints,
 ) -> usize
-    requires { ⌜ Fine 128 (now marks) (c .len) × ((s : Conjuncts) → s .kinds ≡ now kinds → s .values ≡ now values →
+    requires { ⌜ Fine 128 (now marks) (c .len) × ((s : Conjuncts) → s .kinds ≡ kindsIn (now told) → s .values ≡ valuesIn (now told) →
         at + length (columnText (shownIn (now t) (now text)) (a .0)
         (collectColumnComparisons lined (columnOf s (numbered (now marks) c)))) ≤ length (now out)) ⌝ }
-    ensures { λ r. ⌜ ((s : Conjuncts) → s .kinds ≡ now (kinds .entry) → s .values ≡ now (values .entry) →
+    ensures { λ r. ⌜ ((s : Conjuncts) → s .kinds ≡ kindsIn (now (told .entry)) → s .values ≡ valuesIn (now (told .entry)) →
         r ≡ at + length (columnText (shownIn (now (t .entry)) (now (text .entry))) (a .0)
         (collectColumnComparisons lined (columnOf s (numbered (now (marks .entry)) c))))) ⌝ }
-    ensures { λ _. ⌜ ((s : Conjuncts) → s .kinds ≡ now (kinds .entry) → s .values ≡ now (values .entry) →
+    ensures { λ _. ⌜ ((s : Conjuncts) → s .kinds ≡ kindsIn (now (told .entry)) → s .values ≡ valuesIn (now (told .entry)) →
         now (out .exit) ≡ splice (now (out .entry)) at
         (columnText (shownIn (now (t .entry)) (now (text .entry))) (a .0)
         (collectColumnComparisons lined (columnOf s (numbered (now (marks .entry)) c))))) ⌝ }
@@ -136,7 +129,7 @@ pub fn write_column_reasons(
     let mut next = at;
     let mut p: usize = 0;
     while p < places {
-        let k = comparison_at(kinds, values, marks, c, p);
+        let k = comparison_at(told, marks, c, p);
         next = write_place(out, next, t, text, a, k);
         p += 1;
     }

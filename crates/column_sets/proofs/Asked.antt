@@ -7,8 +7,8 @@ use Prim.Native.Nat.{ℕ, zero, suc, _+_, _/_, _%_, _≤_, _<_}
 use native.Mathlib.Omega.{arith}
 use native.Mathlib.Numerals.{add-one}
 use lib.ListN.{length, getD}
-use lib.Dec.{eqb}
-use borrow.Author.Tests.{eqb-true, eq-eqb, ne-eqb}
+use lib.Dec.{eqb, ltb}
+use borrow.Author.Tests.{eqb-true, eq-eqb, ne-eqb, ltb-true}
 use Rattle.records.proofs.Laws.{and-left, and-right}
 use Rattle.checking.specs.Columns.{bit}
 use Rattle.checking.proofs.Bits.{bit-zero}
@@ -172,3 +172,17 @@ module _ (ks ss cs ps a : List ℕ) (n v : ℕ) (index : List ℕ) (at : ℕ) (l
       go : (r : Bool) → Meets set 0 index at r → r ≡ has v (disallowedBy ks ss cs ps a n)
       go true w = sym (met (w .some refl))
       go false w = sym (none-each ks ss cs ps a v n (λ i l. each w i l (ofKind ks 2 (getD a i 0)) refl))
+
+-- ---- a place that the index covers
+pub record Covered (index : List ℕ) (p at : ℕ) : Type 0 where
+  pub within : p + 4096 < length index / 2
+  pub is : at ≡ getD index p 0
+  pub some : 0 < getD index p 0
+
+pub covered : (index : List ℕ) (p at : ℕ) → (ltb (p + 4096) (length index / 2) && ltb 0 at) ≡ true →
+    (p < length index → at ≡ getD index p 0) → Covered index p at
+covered index p at t e =
+    let h : p + 4096 < length index / 2 = ltb-true _ _ (and-left (ltb (p + 4096) (length index / 2)) (ltb 0 at) t) in
+    let g : 0 < at = ltb-true _ _ (and-right (ltb (p + 4096) (length index / 2)) (ltb 0 at) t) in
+    let i : at ≡ getD index p 0 = e (omega arith) in
+    record { within = h; is = i; some = omega arith }

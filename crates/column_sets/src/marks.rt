@@ -1,6 +1,4 @@
-// The three sets of a column. A number of a conjunct stands for its literal or for its list; the tables `kinds`,
-// `values`, `starts`, `counts` give each conjunct's kind, literal and part of the pool, and a read past a table's end
-// is 0. Kinds: 0 excludes its literal, 1 allows its list, 2 disallows its list; another kind gives nothing.
+// The three sets of a column. A number of a conjunct stands for its literal or for its list, as the table `told` says.
 ghost use mathlib.Core.Path.{_≡_};
 ghost use mathlib.Core.Bool.{true, false, not, _&&_};
 ghost use Prim.Native.Nat.{ℕ, _+_, _^_, _<_, _≤_};
@@ -17,11 +15,17 @@ ghost use Rattle.constraints.specs.Lined.{lined};
 ghost use Rattle.column_constraints.specs.Abstraction.{Conjuncts, numbered, columnOf, listOf, ofKind};
 ghost use Rattle.column_constraints.specs.Abstraction.{limitOf, literalAt, valuesOf};
 ghost use Rattle.column_constraints.specs.Abstraction.{excludedBy, allowedBy, disallowedBy, marked, Fine, longer};
+ghost use Rattle.column_constraints.specs.Abstraction.{kindsIn, valuesIn, startsIn, countsIn};
 ghost use Rattle.column_sets.specs.Index.{valueIn, Indexed, Low, NumberSet, KindSet};
 ghost use Rattle.column_constraints.specs.Steps.{anyOfKind};
+use crate::told::count_at;
+use crate::told::kind_at;
+use crate::told::start_at;
+use crate::told::word_at;
 use column_constraints::bound::Limit;
 use column_constraints::bound::same;
 use column_constraints::column::ColumnConstraints;
+use limits::CONJUNCTS;
 use records::bytes::byte;
 use records::bytes::value_at;
 use sorted::bits::has;
@@ -39,27 +43,18 @@ pub fn number_at(words: &[u32], i: usize) -> u32
     0
 }
 
-fn word_at(words: &[u64], i: usize) -> u64
-    ensures { λ r. ⌜ r ≡ getD (now (words .entry)) i 0 ⌝ }
+pub fn literal_at(told: &[u64], j: u8) -> Scalar
+    ensures { λ r. ⌜ r .0 ≡ getD (valuesIn (now (told .entry))) j 0 ⌝ }
 {
-    if i < words.len() {
-        return words[i];
-    }
-    0
-}
-
-pub fn literal_at(values: &[u64], j: u8) -> Scalar
-    ensures { λ r. ⌜ r .0 ≡ getD (now (values .entry)) j 0 ⌝ }
-{
-    Scalar(word_at(values, j as usize))
+    Scalar(word_at(told, j as usize))
 }
 
 /// The same, with the number.
-pub fn limit_at(values: &[u64], j: u8) -> Limit
-    ensures { λ r. ⌜ limitOf r ≡ literalAt (now (values .entry)) j ⌝ }
+pub fn limit_at(told: &[u64], j: u8) -> Limit
+    ensures { λ r. ⌜ limitOf r ≡ literalAt (valuesIn (now (told .entry))) j ⌝ }
 {
     Limit {
-        value: literal_at(values, j),
+        value: literal_at(told, j),
         line: j,
         opener: 0,
     }
@@ -67,23 +62,23 @@ pub fn limit_at(values: &[u64], j: u8) -> Limit
 
 // ---- membership
 
-fn is_excluded_by(kinds: &[u8], values: &[u64], j: u8, v: Scalar) -> bool
-    ensures { λ r. ⌜ r ≡ (ofKind (now (kinds .entry)) 0 j && isEqual
-        (scalarCmp payload (v .0) (getD (now (values .entry)) j 0))) ⌝ }
+fn is_excluded_by(told: &[u64], j: u8, v: Scalar) -> bool
+    ensures { λ r. ⌜ r ≡ (ofKind (kindsIn (now (told .entry))) 0 j && isEqual
+        (scalarCmp payload (v .0) (getD (valuesIn (now (told .entry))) j 0))) ⌝ }
 {
-    let w = literal_at(values, j);
-    (byte(kinds, j as usize) == 0) & same(v, w)
+    let w = literal_at(told, j);
+    (kind_at(told, j as usize) == 0) & same(v, w)
 }
 
 /// Is v an excluded value.
-pub fn excludes(kinds: &[u8], values: &[u64], marks: &[u8], n: usize, v: Scalar) -> bool
-    ensures { λ r. ⌜ r ≡ contains lined (payload .key (v .0)) (excludedBy (now (kinds .entry)) (now (values .entry))
+pub fn excludes(told: &[u64], marks: &[u8], n: usize, v: Scalar) -> bool
+    ensures { λ r. ⌜ r ≡ contains lined (payload .key (v .0)) (excludedBy (kindsIn (now (told .entry))) (valuesIn (now (told .entry)))
         (now (marks .entry)) n) ⌝ }
 {
     let mut i: usize = 0;
     while i < n {
         let j = byte(marks, i);
-        if is_excluded_by(kinds, values, j, v) {
+        if is_excluded_by(told, j, v) {
             return true;
         }
         i += 1;
@@ -108,48 +103,33 @@ fn in_list(pool: &[u8], start: u32, count: u32, v: Scalar) -> bool
 }
 
 /// Is v in the list of conjunct j.
-pub fn listed(starts: &[u32], counts: &[u32], pool: &[u8], j: u8, v: Scalar) -> bool
-    ensures { λ r. ⌜ r ≡ contains payload (payload .key (v .0)) (listOf (now (starts .entry)) (now (counts .entry))
+pub fn listed(told: &[u64], pool: &[u8], j: u8, v: Scalar) -> bool
+    ensures { λ r. ⌜ r ≡ contains payload (payload .key (v .0)) (listOf (startsIn (now (told .entry))) (countsIn (now (told .entry)))
         (now (pool .entry)) j) ⌝ }
 {
-    let s = number_at(starts, j as usize);
-    let n = number_at(counts, j as usize);
+    let s = start_at(told, j as usize);
+    let n = count_at(told, j as usize);
     in_list(pool, s, n, v)
 }
 
-fn is_disallowed_by(
-    kinds: &[u8],
-    starts: &[u32],
-    counts: &[u32],
-    pool: &[u8],
-    j: u8,
-    v: Scalar,
-) -> bool
-    ensures { λ r. ⌜ r ≡ (ofKind (now (kinds .entry)) 2 j && contains payload (payload .key (v .0))
-        (listOf (now (starts .entry)) (now (counts .entry)) (now (pool .entry)) j)) ⌝ }
+fn is_disallowed_by(told: &[u64], pool: &[u8], j: u8, v: Scalar) -> bool
+    ensures { λ r. ⌜ r ≡ (ofKind (kindsIn (now (told .entry))) 2 j && contains payload (payload .key (v .0))
+        (listOf (startsIn (now (told .entry))) (countsIn (now (told .entry))) (now (pool .entry)) j)) ⌝ }
 {
-    let h = listed(starts, counts, pool, j, v);
-    (byte(kinds, j as usize) == 2) & h
+    let h = listed(told, pool, j, v);
+    (kind_at(told, j as usize) == 2) & h
 }
 
 /// Is v a disallowed value.
-pub fn disallows(
-    kinds: &[u8],
-    starts: &[u32],
-    counts: &[u32],
-    pool: &[u8],
-    marks: &[u8],
-    n: usize,
-    v: Scalar,
-) -> bool
+pub fn disallows(told: &[u64], pool: &[u8], marks: &[u8], n: usize, v: Scalar) -> bool
     ensures { λ r. ⌜ r ≡ contains lined (payload .key (v .0))
-        (disallowedBy (now (kinds .entry)) (now (starts .entry)) (now (counts .entry)) (now (pool .entry))
+        (disallowedBy (kindsIn (now (told .entry))) (startsIn (now (told .entry))) (countsIn (now (told .entry))) (now (pool .entry))
         (now (marks .entry)) n) ⌝ }
 {
     let mut i: usize = 0;
     while i < n {
         let j = byte(marks, i);
-        if is_disallowed_by(kinds, starts, counts, pool, j, v) {
+        if is_disallowed_by(told, pool, j, v) {
             return true;
         }
         i += 1;
@@ -157,31 +137,24 @@ pub fn disallows(
     false
 }
 
-fn is_barred_by(kinds: &[u8], starts: &[u32], counts: &[u32], pool: &[u8], j: u8, v: Scalar) -> bool
-    ensures { λ r. ⌜ r ≡ (ofKind (now (kinds .entry)) 1 j && not (contains payload (payload .key (v .0))
-        (listOf (now (starts .entry)) (now (counts .entry)) (now (pool .entry)) j))) ⌝ }
+fn is_barred_by(told: &[u64], pool: &[u8], j: u8, v: Scalar) -> bool
+    ensures { λ r. ⌜ r ≡ (ofKind (kindsIn (now (told .entry))) 1 j && not (contains payload (payload .key (v .0))
+        (listOf (startsIn (now (told .entry))) (countsIn (now (told .entry))) (now (pool .entry)) j))) ⌝ }
 {
-    let h = listed(starts, counts, pool, j, v);
-    (byte(kinds, j as usize) == 1) & !h
+    let h = listed(told, pool, j, v);
+    (kind_at(told, j as usize) == 1) & !h
 }
 
 /// Is v in every allowed list.
-pub fn allows(
-    kinds: &[u8],
-    starts: &[u32],
-    counts: &[u32],
-    pool: &[u8],
-    marks: &[u8],
-    n: usize,
-    v: Scalar,
-) -> bool
-    ensures { λ r. ⌜ r ≡ isAllowed lined (allowedBy (now (kinds .entry)) (now (starts .entry)) (now (counts .entry))
+pub fn allows(told: &[u64], pool: &[u8], marks: &[u8], n: usize, v: Scalar) -> bool
+    ensures { λ r. ⌜ r ≡ isAllowed lined (allowedBy (kindsIn (now (told .entry))) (startsIn (now (told .entry)))
+        (countsIn (now (told .entry)))
         (now (pool .entry)) (now (marks .entry)) n) (payload .key (v .0)) ⌝ }
 {
     let mut i: usize = 0;
     while i < n {
         let j = byte(marks, i);
-        if is_barred_by(kinds, starts, counts, pool, j, v) {
+        if is_barred_by(told, pool, j, v) {
             return false;
         }
         i += 1;
@@ -221,16 +194,16 @@ pub fn number_set(marks: &[u8], n: usize) -> [u64; 2]
 }
 
 /// Those of kind k.
-pub fn kind_set(kinds: &[u8], marks: &[u8], n: usize, k: u8) -> [u64; 2]
+pub fn kind_set(told: &[u64], marks: &[u8], n: usize, k: u64) -> [u64; 2]
     requires { ⌜ Low (now marks) n ⌝ }
-    ensures { λ r. ⌜ KindSet (now (kinds .entry)) k (now (marks .entry)) n r ⌝ }
+    ensures { λ r. ⌜ KindSet (kindsIn (now (told .entry))) k (now (marks .entry)) n r ⌝ }
 {
     let mut set = [0u64; 2];
     let mut i: usize = 0;
     while i < n {
         let j = byte(marks, i);
         i += 1;
-        if byte(kinds, j as usize) != k {
+        if kind_at(told, j as usize) != k {
             continue;
         }
         put(&mut set, 0, j as usize);
@@ -240,72 +213,84 @@ pub fn kind_set(kinds: &[u8], marks: &[u8], n: usize, k: u8) -> [u64; 2]
 
 // ---- looking up
 
+// Place p if the index has so many words, else place 0: read without a branch, so that one test decides and the walk over the lists
+// stays off the way.
+fn place_in(index: &[u64], p: usize) -> usize
+    requires { ⌜ 0 < length (now index) ⌝ }
+    ensures { λ r. ⌜ r < length (now (index .entry)) ⌝ }
+    ensures { λ r. ⌜ (p < length (now (index .entry)) → r ≡ p) ⌝ }
+{
+    if p < index.len() { p } else { 0 }
+}
+
+// The word at which the set of the value at place p begins, if the index covers p.
+fn set_of(index: &[u64], p: usize) -> usize
+    requires { ⌜ 0 < length (now index) ⌝ }
+    ensures { λ r. ⌜ (p < length (now (index .entry)) → r ≡ getD (now (index .entry)) p 0) ⌝ }
+{
+    index[place_in(index, p)] as usize
+}
+
 /// Is the value at place p in the list of conjunct j.
-pub fn listed_at(
-    index: &[u64],
-    starts: &[u32],
-    counts: &[u32],
-    pool: &[u8],
-    j: u8,
-    p: usize,
-) -> bool
-    requires { ⌜ Indexed (now starts) (now counts) (now pool) (now index) × (p < 2 ^ 34) ⌝ }
-    ensures { λ r. ⌜ r ≡ valueIn (now (pool .entry)) p (listOf (now (starts .entry)) (now (counts .entry))
+pub fn listed_at(index: &[u64], told: &[u64], pool: &[u8], j: u8, p: usize) -> bool
+    requires { ⌜ Indexed (now told) (now pool) (now index) × (p < 2 ^ 34) ⌝ }
+    ensures { λ r. ⌜ r ≡ valueIn (now (pool .entry)) p (listOf (startsIn (now (told .entry))) (countsIn (now (told .entry)))
         (now (pool .entry)) j) ⌝ }
 {
-    if (p < index.len() / 3) & (j < 128) {
-        return has(index, index[p] as usize, j as usize);
+    let at = set_of(index, p);
+    if ((p + 4096 < index.len() / 2) & (0 < at)) & (j < 128) {
+        return has(index, at, j as usize);
     }
     let v = Scalar(value_at(pool, p));
-    listed(starts, counts, pool, j, v)
+    listed(told, pool, j, v)
 }
 
 /// Is the value at place p in every allowed list; `allowed` are the numbers of kind 1.
 pub fn allows_at(
     index: &[u64],
-    kinds: &[u8],
-    starts: &[u32],
-    counts: &[u32],
+    told: &[u64],
     pool: &[u8],
     marks: &[u8],
     n: usize,
     allowed: &[u64],
     p: usize,
 ) -> bool
-    requires { ⌜ Indexed (now starts) (now counts) (now pool) (now index) × (p < 2 ^ 34) ⌝ }
-    requires { ⌜ Low (now marks) n × KindSet (now kinds) 1 (now marks) n (now allowed) ⌝ }
-    ensures { λ r. ⌜ r ≡ isAllowed lined (allowedBy (now (kinds .entry)) (now (starts .entry)) (now (counts .entry))
+    requires { ⌜ Indexed (now told) (now pool) (now index) × (p < 2 ^ 34) ⌝ }
+    requires { ⌜ Low (now marks) n × KindSet (kindsIn (now told)) 1 (now marks) n (now allowed) ⌝ }
+    ensures { λ r. ⌜ r ≡ isAllowed lined (allowedBy (kindsIn (now (told .entry))) (startsIn (now (told .entry)))
+        (countsIn (now (told .entry)))
         (now (pool .entry)) (now (marks .entry)) n) (payload .key (valueAt (now (pool .entry)) p)) ⌝ }
 {
-    if p < index.len() / 3 {
-        return within(allowed, 0, index, index[p] as usize);
+    let at = set_of(index, p);
+    if (p + 4096 < index.len() / 2) & (0 < at) {
+        return within(allowed, 0, index, at);
     }
     let v = Scalar(value_at(pool, p));
-    allows(kinds, starts, counts, pool, marks, n, v)
+    allows(told, pool, marks, n, v)
 }
 
 /// Is the value at place p a disallowed one; `disallowed` are the numbers of kind 2.
 pub fn disallows_at(
     index: &[u64],
-    kinds: &[u8],
-    starts: &[u32],
-    counts: &[u32],
+    told: &[u64],
     pool: &[u8],
     marks: &[u8],
     n: usize,
     disallowed: &[u64],
     p: usize,
 ) -> bool
-    requires { ⌜ Indexed (now starts) (now counts) (now pool) (now index) × (p < 2 ^ 34) ⌝ }
-    requires { ⌜ Low (now marks) n × KindSet (now kinds) 2 (now marks) n (now disallowed) ⌝ }
-    ensures { λ r. ⌜ r ≡ contains lined (payload .key (valueAt (now (pool .entry)) p)) (disallowedBy (now (kinds .entry)) (now (starts .entry))
-        (now (counts .entry)) (now (pool .entry)) (now (marks .entry)) n) ⌝ }
+    requires { ⌜ Indexed (now told) (now pool) (now index) × (p < 2 ^ 34) ⌝ }
+    requires { ⌜ Low (now marks) n × KindSet (kindsIn (now told)) 2 (now marks) n (now disallowed) ⌝ }
+    ensures { λ r. ⌜ r ≡ contains lined (payload .key (valueAt (now (pool .entry)) p)) (disallowedBy (kindsIn (now (told
+        .entry))) (startsIn (now (told .entry)))
+        (countsIn (now (told .entry))) (now (pool .entry)) (now (marks .entry)) n) ⌝ }
 {
-    if p < index.len() / 3 {
-        return meets(disallowed, 0, index, index[p] as usize);
+    let at = set_of(index, p);
+    if (p + 4096 < index.len() / 2) & (0 < at) {
+        return meets(disallowed, 0, index, at);
     }
     let v = Scalar(value_at(pool, p));
-    disallows(kinds, starts, counts, pool, marks, n, v)
+    disallows(told, pool, marks, n, v)
 }
 
 /// A column's numbers in an array of their own, for a walk over them while its row is written anew.
@@ -313,7 +298,7 @@ pub fn copied(marks: &[u8], n: usize) -> [u8; 128]
     requires { ⌜ (n ≤ length (now marks)) × (n ≤ 128) ⌝ }
     ensures { λ r. ⌜ ((i : ℕ) → i < n → getD r i 0 ≡ getD (now (marks .entry)) i 0) ⌝ }
 {
-    let mut r = [0u8; 128];
+    let mut r = [0u8; CONJUNCTS];
     let mut i: usize = 0;
     while i < n {
         r[i] = marks[i];
@@ -337,40 +322,40 @@ fn push(marks: &mut [u8], mut c: ColumnConstraints, j: u8) -> ColumnConstraints
 
 /// The literal of conjunct j as an excluded value, if it is a new one; to an impossible column too.
 pub fn insert_excluded(
-    kinds: &[u8],
-    values: &[u64],
+    told: &[u64],
     marks: &mut [u8],
     c: ColumnConstraints,
     j: u8,
 ) -> ColumnConstraints
-    requires { ⌜ Fine (length (now marks)) (now marks) (c .len) × (j < length (now marks)) × (getD (now kinds) j 0 ≡ 0) ⌝ }
-    ensures { λ r. ⌜ ((t : Conjuncts) → t .kinds ≡ now (kinds .entry) → t .values ≡ now (values .entry) →
-        columnOf t (numbered (now (marks .exit)) r) ≡ q.put lined (q.Exclude (literalAt (now (values .entry)) j)) (columnOf t (numbered (now (marks .entry)) c))) ⌝ }
+    requires { ⌜ Fine (length (now marks)) (now marks) (c .len) × (j < length (now marks)) × (getD (kindsIn (now told)) j 0 ≡ 0) ⌝ }
+    ensures { λ r. ⌜ ((t : Conjuncts) → t .kinds ≡ kindsIn (now (told .entry)) → t .values ≡ valuesIn (now (told .entry)) →
+        columnOf t (numbered (now (marks .exit)) r) ≡ q.put lined (q.Exclude (literalAt (valuesIn (now (told .entry)))
+        j)) (columnOf t (numbered (now (marks .entry)) c))) ⌝ }
     ensures { λ r. ⌜ Fine (length (now (marks .entry))) (now (marks .exit)) (r .len) ⌝ }
 {
-    let v = literal_at(values, j);
-    if excludes(kinds, values, marks, c.len, v) {
+    let v = literal_at(told, j);
+    if excludes(told, marks, c.len, v) {
         return c;
     }
     push(marks, c, j)
 }
 
 pub fn add_excluded(
-    kinds: &[u8],
-    values: &[u64],
+    told: &[u64],
     marks: &mut [u8],
     c: ColumnConstraints,
     j: u8,
 ) -> ColumnConstraints
-    requires { ⌜ Fine (length (now marks)) (now marks) (c .len) × (j < length (now marks)) × (getD (now kinds) j 0 ≡ 0) ⌝ }
-    ensures { λ r. ⌜ ((t : Conjuncts) → t .kinds ≡ now (kinds .entry) → t .values ≡ now (values .entry) →
-        columnOf t (numbered (now (marks .exit)) r) ≡ q.addExcluded lined (literalAt (now (values .entry)) j) (columnOf t (numbered (now (marks .entry)) c))) ⌝ }
+    requires { ⌜ Fine (length (now marks)) (now marks) (c .len) × (j < length (now marks)) × (getD (kindsIn (now told)) j 0 ≡ 0) ⌝ }
+    ensures { λ r. ⌜ ((t : Conjuncts) → t .kinds ≡ kindsIn (now (told .entry)) → t .values ≡ valuesIn (now (told .entry)) →
+        columnOf t (numbered (now (marks .exit)) r) ≡ q.addExcluded lined (literalAt (valuesIn (now (told .entry))) j)
+        (columnOf t (numbered (now (marks .entry)) c))) ⌝ }
     ensures { λ r. ⌜ Fine (length (now (marks .entry))) (now (marks .exit)) (r .len) ⌝ }
 {
     if c.unsat {
         return c;
     }
-    insert_excluded(kinds, values, marks, c, j)
+    insert_excluded(told, marks, c, j)
 }
 
 /// The list of conjunct j, allowed or disallowed by its kind; to an impossible column too. No list is read.
@@ -403,14 +388,14 @@ pub fn add_allowed(marks: &mut [u8], c: ColumnConstraints, j: u8) -> ColumnConst
 
 /// `strict`: the negated is_in drops nulls, so that a value of it counts as a value constraint.
 pub fn add_disallowed(
-    counts: &[u32],
+    told: &[u64],
     marks: &mut [u8],
     c: ColumnConstraints,
     j: u8,
     strict: bool,
 ) -> ColumnConstraints
     requires { ⌜ Fine (length (now marks)) (now marks) (c .len) × (j < length (now marks)) ⌝ }
-    ensures { λ r. ⌜ ((t : Conjuncts) → t .counts ≡ now (counts .entry) → getD (t .kinds) j 0 ≡ 2 →
+    ensures { λ r. ⌜ ((t : Conjuncts) → t .counts ≡ countsIn (now (told .entry)) → getD (t .kinds) j 0 ≡ 2 →
         columnOf t (numbered (now (marks .exit)) r) ≡ q.addDisallowed lined strict (valuesOf (t .starts) (t .counts) (t .pool) j) (columnOf t (numbered (now (marks .entry)) c))) ⌝ }
     ensures { λ r. ⌜ Fine (length (now (marks .entry))) (now (marks .exit)) (r .len) ⌝ }
 {
@@ -418,18 +403,18 @@ pub fn add_disallowed(
         return c;
     }
     let mut d = insert_list(marks, c, j);
-    d.strict = d.strict | (strict & (0 < number_at(counts, j as usize)));
+    d.strict = d.strict | (strict & (0 < count_at(told, j as usize)));
     d
 }
 
 /// Is some conjunct of kind k among the numbers.
-pub fn has_kind(kinds: &[u8], marks: &[u8], n: usize, k: u8) -> bool
-    ensures { λ r. ⌜ r ≡ anyOfKind (now (kinds .entry)) k (now (marks .entry)) n ⌝ }
+pub fn has_kind(told: &[u64], marks: &[u8], n: usize, k: u64) -> bool
+    ensures { λ r. ⌜ r ≡ anyOfKind (kindsIn (now (told .entry))) k (now (marks .entry)) n ⌝ }
 {
     let mut i: usize = 0;
     while i < n {
         let j = byte(marks, i);
-        if byte(kinds, j as usize) == k {
+        if kind_at(told, j as usize) == k {
             return true;
         }
         i += 1;

@@ -3,6 +3,7 @@ ghost use mathlib.Core.Path.{_≡_};
 ghost use Prim.Native.Nat.{_<_};
 ghost use lib.ListN.{length, getD, set};
 ghost use Rattle.column_table.specs.Words.{columnsOf, pastColumn};
+use crate::words::WORDS;
 use crate::words::read_words;
 use crate::words::write_words;
 use column_constraints::column::ColumnConstraints;
@@ -11,8 +12,8 @@ pub fn load(cells: &[u64], x: usize) -> ColumnConstraints
     requires { ⌜ (x < 64) × (length (now cells) ≡ 448) ⌝ }
     ensures { λ r. ⌜ r ≡ getD (columnsOf (now (cells .entry))) x pastColumn ⌝ }
 {
-    let at = x * 7;
-    let end = at + 7;
+    let at = x * WORDS;
+    let end = at + WORDS;
     read_words(&cells[at..end])
 }
 
@@ -21,7 +22,7 @@ pub fn store(cells: &mut [u64], x: usize, c: ColumnConstraints)
     ensures { λ _. ⌜ columnsOf (now (cells .exit)) ≡ set (columnsOf (now (cells .entry))) x c ⌝ }
     ensures { λ _. ⌜ length (now (cells .exit)) ≡ length (now (cells .entry)) ⌝ }
 {
-    let at = x * 7;
-    let end = at + 7;
+    let at = x * WORDS;
+    let end = at + WORDS;
     write_words(&mut cells[at..end], c);
 }

@@ -10,6 +10,7 @@ ghost use Rattle.constraints.specs.Lined.{Lined, onLine, lined};
 ghost use Rattle.constraints.specs.Mapped.{mapConstraint};
 ghost use Rattle.constraints.specs.Resolve.{resolveDeferred};
 ghost use Rattle.column_constraints.specs.Abstraction.{Conjuncts, conjuncts, numbered, columnOf, Fine};
+ghost use Rattle.column_constraints.specs.Abstraction.{kindsIn, valuesIn};
 ghost use Rattle.column_sets.specs.Index.{Indexed};
 ghost use Rattle.merge.specs.Emit.{ofColumn};
 ghost use Rattle.merge.specs.Lines.{mapComparisons};
@@ -30,10 +31,7 @@ use rewrite::emit::write_column;
 
 /// What conjunct j says of the column c in row x.
 pub fn add_in_row(
-    kinds: &[u8],
-    values: &[u64],
-    starts: &[u32],
-    counts: &[u32],
+    told: &[u64],
     pool: &[u8],
     marks: &mut [u8],
     x: usize,
@@ -42,9 +40,8 @@ pub fn add_in_row(
     s: Says,
 ) -> ColumnConstraints
     requires { ⌜ (x < 64) × Fine (stride (now marks)) (rowOf (now marks) x) (c .len) × (j < stride (now marks)) ⌝ }
-    requires { ⌜ Told (conjuncts (now kinds) (now values) (now starts) (now counts) (now pool)) j (saysIn (now pool) s) ⌝ }
-    ensures { λ r. ⌜ (let t = conjuncts (now (kinds .entry)) (now (values .entry)) (now (starts .entry))
-        (now (counts .entry)) (now (pool .entry)) in columnOf t (numbered (rowOf (now (marks .exit)) x) r) ≡
+    requires { ⌜ Told (conjuncts (now told) (now pool)) j (saysIn (now pool) s) ⌝ }
+    ensures { λ r. ⌜ (let t = conjuncts (now (told .entry)) (now (pool .entry)) in columnOf t (numbered (rowOf (now (marks .exit)) x) r) ≡
         q.addAll lined (map (mapConstraint (onLine j)) (saysIn (now (pool .entry)) s)) (columnOf t (numbered (rowOf (now (marks .entry)) x) c))) ⌝ }
     ensures { λ r. ⌜ Fine (stride (now (marks .exit))) (rowOf (now (marks .exit)) x) (r .len) ⌝ }
     ensures { λ _. ⌜ RowsKept (now (marks .entry)) (now (marks .exit)) x ⌝ }
@@ -52,26 +49,13 @@ pub fn add_in_row(
     let size = marks.len() / 64;
     let at = x * size;
     let end = at + size;
-    add_says(
-        kinds,
-        values,
-        starts,
-        counts,
-        pool,
-        &mut marks[at..end],
-        c,
-        j,
-        s,
-    )
+    add_says(told, pool, &mut marks[at..end], c, j, s)
 }
 
 /// All that the column d in row y says, put into the column c in row x.
 pub fn merge_rows(
     index: &[u64],
-    kinds: &[u8],
-    values: &[u64],
-    starts: &[u32],
-    counts: &[u32],
+    told: &[u64],
     pool: &[u8],
     marks: &mut [u8],
     x: usize,
@@ -80,11 +64,11 @@ pub fn merge_rows(
     d: ColumnConstraints,
 ) -> Merged
     requires { ⌜ (x < 64) × (y < 64) × (stride (now marks) ≤ 128)
-        × Indexed (now starts) (now counts) (now pool) (now index) ⌝ }
+        × Indexed (now told) (now pool) (now index) ⌝ }
     requires { ⌜ Fine (stride (now marks)) (rowOf (now marks) x) (c .len) ⌝ }
     requires { ⌜ Fine (stride (now marks)) (rowOf (now marks) y) (d .len) ⌝ }
-    ensures { λ r. ⌜ (let t = conjuncts (now (kinds .entry)) (now (values .entry)) (now (starts .entry))
-        (now (counts .entry)) (now (pool .entry)) in let cc = columnOf t (numbered (rowOf (now (marks .entry)) x) c) in
+    ensures { λ r. ⌜ (let t = conjuncts (now (told .entry)) (now (pool .entry)) in let cc = columnOf t (numbered (rowOf
+        (now (marks .entry)) x) c) in
         let dd = columnOf t (numbered (rowOf (now (marks .entry)) y) d) in
         (columnOf t (numbered (rowOf (now (marks .exit)) x) (r .column)) ≡ q.mergeFrom lined cc dd) ×
         (r .emitted ≡ q.mergeEmitted lined cc dd) × (r .any ≡ q.mergeAny lined cc dd)) ⌝ }
@@ -97,35 +81,20 @@ pub fn merge_rows(
     let other = copied(&marks[from..to], d.len);
     let at = x * size;
     let end = at + size;
-    merge_from(
-        index,
-        kinds,
-        values,
-        starts,
-        counts,
-        pool,
-        &mut marks[at..end],
-        c,
-        &other,
-        d,
-    )
+    merge_from(index, told, pool, &mut marks[at..end], c, &other, d)
 }
 
 pub fn resolve_row(
     index: &[u64],
-    kinds: &[u8],
-    values: &[u64],
-    starts: &[u32],
-    counts: &[u32],
+    told: &[u64],
     pool: &[u8],
     marks: &mut [u8],
     x: usize,
     c: ColumnConstraints,
 ) -> ColumnConstraints
     requires { ⌜ (x < 64) × (stride (now marks) ≤ 128) × Fine (stride (now marks)) (rowOf (now marks) x) (c .len)
-        × Indexed (now starts) (now counts) (now pool) (now index) ⌝ }
-    ensures { λ r. ⌜ (let t = conjuncts (now (kinds .entry)) (now (values .entry)) (now (starts .entry))
-        (now (counts .entry)) (now (pool .entry)) in columnOf t (numbered (rowOf (now (marks .exit)) x) r) ≡
+        × Indexed (now told) (now pool) (now index) ⌝ }
+    ensures { λ r. ⌜ (let t = conjuncts (now (told .entry)) (now (pool .entry)) in columnOf t (numbered (rowOf (now (marks .exit)) x) r) ≡
         resolveDeferred lined (columnOf t (numbered (rowOf (now (marks .entry)) x) c))) ⌝ }
     ensures { λ r. ⌜ Fine (stride (now (marks .exit))) (rowOf (now (marks .exit)) x) (r .len) ⌝ }
     ensures { λ _. ⌜ RowsKept (now (marks .entry)) (now (marks .exit)) x ⌝ }
@@ -133,28 +102,19 @@ pub fn resolve_row(
     let size = marks.len() / 64;
     let at = x * size;
     let end = at + size;
-    resolve_deferred(
-        index,
-        kinds,
-        values,
-        starts,
-        counts,
-        pool,
-        &mut marks[at..end],
-        c,
-    )
+    resolve_deferred(index, told, pool, &mut marks[at..end], c)
 }
 
 /// How many comparisons the column c in row x is written out as.
-pub fn count_row(kinds: &[u8], marks: &[u8], x: usize, c: ColumnConstraints) -> usize
+pub fn count_row(told: &[u64], marks: &[u8], x: usize, c: ColumnConstraints) -> usize
     requires { ⌜ (x < 64) × (stride (now marks) ≤ 128) × Fine (stride (now marks)) (rowOf (now marks) x) (c .len) ⌝ }
-    ensures { λ r. ⌜ ((t : Conjuncts) → t .kinds ≡ now (kinds .entry) →
+    ensures { λ r. ⌜ ((t : Conjuncts) → t .kinds ≡ kindsIn (now (told .entry)) →
         r ≡ length (collectColumnComparisons lined (columnOf t (numbered (rowOf (now (marks .entry)) x) c)))) ⌝ }
 {
     let size = marks.len() / 64;
     let at = x * size;
     let end = at + size;
-    comparison_count(kinds, &marks[at..end], c)
+    comparison_count(told, &marks[at..end], c)
 }
 
 /// The comparisons of the column c in row x, three records each, from record u on; the first number behind them.
@@ -163,25 +123,24 @@ pub fn write_row(
     rs: &mut [u8],
     u: u32,
     a: Column,
-    kinds: &[u8],
-    values: &[u64],
+    told: &[u64],
     marks: &[u8],
     x: usize,
     c: ColumnConstraints,
 ) -> u32
     requires { ⌜ (x < 64) × (stride (now marks) ≤ 128) × Fine (stride (now marks)) (rowOf (now marks) x) (c .len) ⌝ }
-    requires { ⌜ (u ≤ 4096) × ((s : Conjuncts) → s .kinds ≡ now kinds → s .values ≡ now values →
+    requires { ⌜ (u ≤ 4096) × ((s : Conjuncts) → s .kinds ≡ kindsIn (now told) → s .values ≡ valuesIn (now told) →
         16 * (u + 3 * length (collectColumnComparisons lined (columnOf s (numbered (rowOf (now marks) x) c))))
         ≤ length (now rs)) ⌝ }
-    ensures { λ r. ⌜ ((s : Conjuncts) → s .kinds ≡ now (kinds .entry) → s .values ≡ now (values .entry) →
+    ensures { λ r. ⌜ ((s : Conjuncts) → s .kinds ≡ kindsIn (now (told .entry)) → s .values ≡ valuesIn (now (told .entry)) →
         r ≡ u + 3 * length (collectColumnComparisons lined
         (columnOf s (numbered (rowOf (now (marks .entry)) x) c)))) ⌝ }
-    ensures { λ _. ⌜ ((s : Conjuncts) → s .kinds ≡ now (kinds .entry) → s .values ≡ now (values .entry) →
+    ensures { λ _. ⌜ ((s : Conjuncts) → s .kinds ≡ kindsIn (now (told .entry)) → s .values ≡ valuesIn (now (told .entry)) →
         now (rs .exit) ≡ writeComparisons (now (t .entry)) u (mapComparisons (λ (v : Lined). v .bits) (ofColumn (a .0)
         (collectColumnComparisons lined (columnOf s (numbered (rowOf (now (marks .entry)) x) c))))) (now (rs .entry))) ⌝ }
 {
     let size = marks.len() / 64;
     let at = x * size;
     let end = at + size;
-    write_column(t, rs, u, a, kinds, values, &marks[at..end], c)
+    write_column(t, rs, u, a, told, &marks[at..end], c)
 }

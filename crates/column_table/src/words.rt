@@ -10,7 +10,28 @@ use column_constraints::bound::Bound;
 use column_constraints::bound::Limit;
 use column_constraints::column::ColumnConstraints;
 use constraints::column::Nullability;
+use limits::COLUMNS;
 use truth::scalar::Scalar;
+
+/// Words of a column.
+pub const WORDS: usize = 7;
+/// Words of the table.
+pub const CELLS: usize = COLUMNS * WORDS;
+
+// What stands at each place of a column's words.
+const SMALL: usize = 0;
+
+const LOWER: usize = 1;
+
+const UPPER: usize = 2;
+
+const LEN: usize = 3;
+
+const LOWER_LINES: usize = 4;
+
+const UPPER_LINES: usize = 5;
+
+const SINCE: usize = 6;
 
 fn bound_kind(b: Bound) -> u64
     ensures { λ r. ⌜ r ≡ kindWord b ⌝ }
@@ -129,17 +150,17 @@ pub fn read_words(words: &[u64]) -> ColumnConstraints
     requires { ⌜ length (now words) ≡ 7 ⌝ }
     ensures { λ r. ⌜ r ≡ columnFrom (now (words .entry)) ⌝ }
 {
-    let small = words[0];
-    let low = bound_from(small % 4, words[1], words[4]);
-    let upp = bound_from(small / 4 % 4, words[2], words[5]);
+    let small = words[SMALL];
+    let low = bound_from(small % 4, words[LOWER], words[LOWER_LINES]);
+    let upp = bound_from(small / 4 % 4, words[UPPER], words[UPPER_LINES]);
     let nul = nullability_from(small / 16 % 4);
     ColumnConstraints {
         lower: low,
         upper: upp,
-        len: narrow(words[3]),
+        len: narrow(words[LEN]),
         strict: small / 64 % 2 == 1,
         nullability: nul,
-        since: words[6],
+        since: words[SINCE],
         unsat: small / 128 == 1,
     }
 }
@@ -152,11 +173,11 @@ pub fn write_words(words: &mut [u64], c: ColumnConstraints)
     let low = c.lower;
     let upp = c.upper;
     let nul = c.nullability;
-    words[0] = small_word(low, upp, nul, c.strict, c.unsat);
-    words[1] = bound_value(low);
-    words[2] = bound_value(upp);
-    words[3] = wide(c.len);
-    words[4] = bound_line(low);
-    words[5] = bound_line(upp);
-    words[6] = c.since;
+    words[SMALL] = small_word(low, upp, nul, c.strict, c.unsat);
+    words[LOWER] = bound_value(low);
+    words[UPPER] = bound_value(upp);
+    words[LEN] = wide(c.len);
+    words[LOWER_LINES] = bound_line(low);
+    words[UPPER_LINES] = bound_line(upp);
+    words[SINCE] = c.since;
 }

@@ -1,9 +1,8 @@
--- Making the index: equal values have one set, and each list's conjunct is in the sets of its values. Assumes nothing.
+-- Making the index: each rising value has one set, and each list's conjunct is in the sets of its values. Assumes nothing.
 use mathlib.Core.Path.{_≡_, refl, sym, _∙_, ap}
 use mathlib.Core.Bool.{Bool, true, false, not, _&&_, _||_, true≢false, or-true, or-false, and-false}
-use mathlib.Core.Bool.{or-assoc}
 use mathlib.Core.List.{List, [], _∷_, _++_}
-use mathlib.Core.Logic.{_⊎_, ⊎-elim}
+use mathlib.Core.Logic.{_⊎_, inl, inr, ⊎-elim}
 use Prim.Native.Nat.{ℕ, zero, suc, _+_, _-_, _*_, _/_, _%_, _^_, _<_, _≤_}
 use native.Mathlib.Omega.{arith}
 use native.Mathlib.Numerals.{add-one}
@@ -26,8 +25,8 @@ use Rattle.constraints.specs.Payload.{payload}
 use Rattle.constraints.proofs.Sets.{contains-append}
 use Rattle.sorted.specs.Rising.{In, Rising, Found}
 use Rattle.sorted.specs.BitSets.{member, Put}
-use Rattle.column_constraints.specs.Abstraction.{listOf}
-use Rattle.column_sets.specs.Index.{valueIn, Indexed, Placed, Places, ListPut, ListsPut}
+use Rattle.column_constraints.specs.Abstraction.{listOf, startsIn, countsIn}
+use Rattle.column_sets.specs.Index.{riserIn, Indexed, Placed, Sets, ValuePut}
 use Rattle.column_constraints.proofs.Pigeon.{Eq, yes, no, eq-view}
 use Rattle.column_sets.proofs.Lists.{values-snoc}
 
@@ -83,201 +82,151 @@ once rising p q h i e =
     (lt-or-le q p))
     (lt-or-le p q)
 
-same-test : (a b c d : ℕ) → (a ≡ b → c ≡ d) → (c ≡ d → a ≡ b) → eqb a b ≡ eqb c d
-same-test a b c d f g =
-    by-test (eqb a b) (λ t. t ∙ sym (eq-eqb c d (f (eqb-true a b t))))
-    (λ t. t ∙ sym (ne-eqb c d (λ e. eqb-false a b t (g e))))
+-- ---- a value put into its set
+pub put-past : (before after : List ℕ) (m p r j : ℕ) → Put before after (m + 2 * r) j → ValuePut before after m p r j
+put-past before after m p r j u = record {
+  set = u .put;
+  others = λ q l h. u .kept q h;
+  places = λ q l. inl (u .kept q (λ e. omega (arith, e, l)));
+}
 
--- ---- the places
--- one more value copied
-pub copied-value : (values pool : List ℕ) (p v : ℕ) → p < length values → v ≡ valueAt pool p →
-    ((q : ℕ) → q < p → getD values q 0 ≡ valueAt pool q) → (q : ℕ) → q < p + 1 →
-    getD (set values p v) q 0 ≡ valueAt pool q
-copied-value values pool p v l e h q k = go (eq-view q p)
-  where
-    go : {x : Bool} → Eq q p x → getD (set values p v) q 0 ≡ valueAt pool q
-    go (yes r) = rw r (getD-set-same values p v 0 l ∙ e)
-    go (no r) = getD-set-other values p q v 0 (λ i. r i) ∙ h q (omega (arith, r, k))
-
-pub placed-at : (sorted : List ℕ) (k v x r : ℕ) → x ≡ v → In sorted 0 k v → Found sorted k x r → v < 2 ^ 64 →
-    (word : ℕ) → word ≡ 8192 + 2 * r → Placed sorted k v word
-placed-at sorted k v x r is i f b word e =
-    ⊎-elim
-    (λ (l : r < k). record { rank = r; below = l; stands = f .there l ∙ is; fits = b; is = e })
-    (λ (l : k ≤ r). let h = f .within in absurd (f .absent (omega arith) (rw is i)))
-    (lt-or-le r k)
-
-pub placed-more : (sorted : List ℕ) (k : ℕ) (pool index : List ℕ) (p word : ℕ) → p < length index →
-    Placed sorted k (valueAt pool p) word →
-    ((q : ℕ) → q < p → Placed sorted k (valueAt pool q) (getD index q 0)) → (q : ℕ) → q < p + 1 →
-    Placed sorted k (valueAt pool q) (getD (set index p word) q 0)
-placed-more sorted k pool index p word l e h q i = go (eq-view q p)
-  where
-    go : {x : Bool} → Eq q p x → Placed sorted k (valueAt pool q) (getD (set index p word) q 0)
-    go (yes r) = rw (r, getD-set-same index p word 0 l) e
-    go (no r) = rw (getD-set-other index p q word 0 (λ x. r x)) (h q (omega (arith, r, i)))
-
-one-value : (pool : List ℕ) (p r : ℕ) → valueIn pool p (valuesFrom pool r 1) ≡
-    isEqual (scalarCmp payload (valueAt pool p) (valueAt pool r))
-unfolding valuesFrom
-one-value pool p r = or-false (isEqual (scalarCmp payload (valueAt pool p) (valueAt pool r)))
-
-pub all-placed : (sorted : List ℕ) (k : ℕ) (pool index : List ℕ) → Rising sorted 0 k → k ≤ 8192 →
-    length index ≡ 24576 → ((p : ℕ) → p < 8192 → Placed sorted k (valueAt pool p) (getD index p 0)) →
-    Places pool index
-all-placed sorted k pool index rising room size h = record {
-  size = size;
-  above = λ p l. let e = h p l .is in omega arith;
-  room = λ p l. let e = h p l .is in let b = h p l .below in omega arith;
-  apart = λ p r l m. words p r l m ∙ sym (one-value pool p r ∙ same-value (valueAt pool p) (valueAt pool r)
-      (h p l .fits) (h r m .fits));
-  even = λ p r l m x. let e = h p l .is in let f = h r m .is in omega arith;
+pub put-placed : (before mid : List ℕ) (m p r j : ℕ) → p < m → p < length mid → Put before mid (m + 2 * r) j →
+    ValuePut before (set mid p (m + 2 * r)) m p r j
+put-placed before mid m p r j low room u = record {
+  set = λ i. ap (λ (x : ℕ). bit x (i % 64))
+      (getD-set-other mid p (m + 2 * r + i / 64) (m + 2 * r) 0 (λ e. omega (arith, e, low))) ∙ u .put i;
+  others = λ q l h. getD-set-other mid p q (m + 2 * r) 0 (λ e. omega (arith, e, low, l)) ∙ u .kept q h;
+  places = λ q l. go q l (eq-view q p);
 }
   where
-    words : (p r : ℕ) → p < 8192 → r < 8192 →
-        eqb (getD index p 0) (getD index r 0) ≡ eqb (valueAt pool p) (valueAt pool r)
-    words p r l m =
-        let a = h p l in
-        let b = h r m in
-        let ea = a .is in
-        let eb = b .is in
-        same-test (getD index p 0) (getD index r 0) (valueAt pool p) (valueAt pool r)
-        (λ e. let x : a .rank ≡ b .rank = omega arith in
-        sym (a .stands) ∙ ap (λ (q : ℕ). getD sorted q 0) x ∙ b .stands)
-        (λ e. let x : a .rank ≡ b .rank = once rising (a .rank) (b .rank) (a .below) (b .below)
-        (a .stands ∙ e ∙ sym (b .stands)) in omega arith)
+    go : (q : ℕ) → q < m → {x : Bool} → Eq q p x →
+        (getD (set mid p (m + 2 * r)) q 0 ≡ getD before q 0) ⊎ ((q ≡ p) × (getD (set mid p (m + 2 * r)) q 0 ≡ m + 2 * r))
+    go q l (yes e) = inr (e, rw e (getD-set-same mid p (m + 2 * r) 0 room))
+    go q l (no e) = inl (getD-set-other mid p q (m + 2 * r) 0 (λ i. e i) ∙ u .kept q (λ i. omega (arith, i, l)))
 
--- ---- one list
-one-more : (pool : List ℕ) (p r : ℕ) → valueIn pool p (valueAt pool r ∷ []) ≡ valueIn pool p (valuesFrom pool r 1)
+-- ---- one value more
+riser-more : (pool sorted : List ℕ) (r s i v : ℕ) → getD sorted r 0 < 2 ^ 64 → v < 2 ^ 64 → v ≡ valueAt pool (s + i) →
+    riserIn sorted r (valuesFrom pool s (i + 1)) ≡ (riserIn sorted r (valuesFrom pool s i) || eqb (getD sorted r 0) v)
+riser-more pool sorted r s i v hr hv is = rw (add-one, values-snoc pool s i, ← is)
+    (contains-append payload (payload .key (getD sorted r 0)) (valuesFrom pool s i) (v ∷ []) ∙
+    ap (λ (b : Bool). riserIn sorted r (valuesFrom pool s i) || b)
+    (or-false (isEqual (scalarCmp payload (getD sorted r 0) v)) ∙ same-value (getD sorted r 0) v hr hv))
+
+no-riser : (pool sorted : List ℕ) (r s : ℕ) → riserIn sorted r (valuesFrom pool s 0) ≡ false
 unfolding valuesFrom
-one-more pool p r = refl
-
-value-snoc : (pool : List ℕ) (p s n : ℕ) → valueIn pool p (valuesFrom pool s (n + 1)) ≡
-    (valueIn pool p (valuesFrom pool s n) || valueIn pool p (valuesFrom pool (s + n) 1))
-value-snoc pool p s n = rw (add-one, values-snoc pool s n)
-    (contains-append payload (payload .key (valueAt pool p)) (valuesFrom pool s n) (valueAt pool (s + n) ∷ []) ∙
-    ap (λ (b : Bool). valueIn pool p (valuesFrom pool s n) || b) (one-more pool p (s + n)))
-
-no-value : (pool : List ℕ) (p s : ℕ) → valueIn pool p (valuesFrom pool s 0) ≡ false
-unfolding valuesFrom
-no-value pool p s = refl
-
-nothing-put : (m x : Bool) → m ≡ (m || (x && false))
-nothing-put m x = sym (ap (λ (b : Bool). m || b) (and-false x) ∙ or-false m)
-
-pub list-none : (pool index : List ℕ) (j s : ℕ) → ListPut pool index index j (valuesFrom pool s 0)
-list-none pool index j s = record {
-  size = refl;
-  kept = λ p l. refl;
-  sets = λ p i l k. rw (no-value pool p s) (nothing-put (member index (getD index p 0) i) (eqb j i));
-}
+no-riser pool sorted r s = refl
 
 put-here : (m e v : Bool) → ((m || (e && v)) || e) ≡ (m || (e && (v || true)))
 put-here true e v = refl
 put-here false true v = or-true v ∙ sym (or-true v)
 put-here false false v = refl
 
-pub list-more : (pool before mid after : List ℕ) (j s i at : ℕ) → Places pool before → s + i < 8192 → j < 128 →
-    ListPut pool before mid j (valuesFrom pool s i) → at ≡ getD mid (s + i) 0 → length after ≡ length mid →
-    Put mid after at j → ListPut pool before after j (valuesFrom pool s (i + 1))
-list-more pool before mid after j s i at P room low S e z u = record {
-  size = z ∙ S .size;
-  kept = λ p l. let a = P .above (s + i) room in
-      u .kept p (λ x. let f = start in omega arith) ∙ S .kept p l;
-  sets = λ p n l k. rw (value-snoc pool p s i, ← P .apart p (s + i) l room)
-      (go p n l k (eq-view (getD before p 0) (getD before (s + i) 0)));
+apart : (m r a n j : ℕ) → (r ≡ a → ⊥) → n < 128 → j < 128 → m + 2 * r + n / 64 ≡ m + 2 * a + j / 64 → ⊥
+apart m r a n j h ln lj e = h (omega (arith, e, ln, lj))
+
+pub value-more : (ss cs pool sorted before after : List ℕ) (k m j s i p v a : ℕ) → Rising sorted 0 k → j < 128 →
+    p ≡ s + i → v ≡ valueAt pool p → v < 2 ^ 64 → Found sorted k v a → a < k → ValuePut before after m p a j →
+    Sets ss cs pool sorted before k m j s i → Sets ss cs pool sorted after k m j s (i + 1)
+value-more ss cs pool sorted before after k m j s i p v a rising low at is fits found below U S = record {
+  places = λ q l h. ⊎-elim
+      (λ (e : getD after q 0 ≡ getD before q 0). rw e (S .places q l (rw e at h)))
+      (λ (e : (q ≡ p) × (getD after q 0 ≡ m + 2 * a)).
+      record {
+        rank = a;
+        below = below;
+        stands = found .there below ∙ is ∙ ap (valueAt pool) (sym (e .0));
+        fits = rw (e .0, ← is) fits;
+        is = e .1;
+      })
+      (U .places q l);
+  sets = λ r n lr hr ln. rw (riser-more pool sorted r s i v hr fits (is ∙ ap (valueAt pool) at))
+      (go r n lr hr ln (eq-view r a));
 }
   where
-    start : at ≡ getD before (s + i) 0
-    start = e ∙ S .kept (s + i) room
+    go : (r n : ℕ) → r < k → getD sorted r 0 < 2 ^ 64 → n < 128 → {x : Bool} → Eq r a x →
+        member after (m + 2 * r) n ≡
+        ((ltb n j && riserIn sorted r (listOf ss cs pool n)) ||
+        (eqb j n && (riserIn sorted r (valuesFrom pool s i) || eqb (getD sorted r 0) v)))
+    go r n lr hr ln (yes e) =
+        let t : eqb (getD sorted r 0) v ≡ true = eq-eqb (getD sorted r 0) v (rw e (found .there below)) in
+        rw t (ap (λ (y : ℕ). member after (m + 2 * y) n) e ∙ U .set n ∙
+        ap (λ (y : ℕ). member before (m + 2 * y) n || eqb j n) (sym e) ∙
+        ap (λ (b : Bool). b || eqb j n) (S .sets r n lr hr ln) ∙
+        put-here (ltb n j && riserIn sorted r (listOf ss cs pool n)) (eqb j n) (riserIn sorted r (valuesFrom pool s i)))
+    go r n lr hr ln (no e) =
+        let t : eqb (getD sorted r 0) v ≡ false =
+        ne-eqb (getD sorted r 0) v (λ x. e (once rising r a lr below (x ∙ sym (found .there below)))) in
+        rw (t, or-false (riserIn sorted r (valuesFrom pool s i)))
+        (ap (λ (y : ℕ). bit y (n % 64)) (U .others (m + 2 * r + n / 64) (omega arith) (apart m r a n j e ln low)) ∙
+        S .sets r n lr hr ln)
 
-    far : (p n : ℕ) → p < 8192 → n < 128 → (getD before p 0 ≡ getD before (s + i) 0 → ⊥) →
-        getD before p 0 + n / 64 ≡ at + j / 64 → ⊥
-    far p n l k r x =
-        let f = start in
-        ⊎-elim
-        (λ (h : getD before p 0 < getD before (s + i) 0).
-        let w = P .even p (s + i) l room h in absurd (omega arith))
-        (λ (h : getD before (s + i) 0 ≤ getD before p 0).
-        ⊎-elim
-        (λ (g : getD before (s + i) 0 < getD before p 0).
-        let w = P .even (s + i) p room l g in absurd (omega arith))
-        (λ (g : getD before p 0 ≤ getD before (s + i) 0). r (omega arith))
-        (lt-or-le (getD before (s + i) 0) (getD before p 0)))
-        (lt-or-le (getD before p 0) (getD before (s + i) 0))
-
-    go : (p n : ℕ) → p < 8192 → n < 128 → {x : Bool} → Eq (getD before p 0) (getD before (s + i) 0) x →
-        member after (getD before p 0) n ≡
-        (member before (getD before p 0) n || (eqb j n && (valueIn pool p (valuesFrom pool s i) || x)))
-    go p n l k (yes r) =
-        let g : getD before p 0 ≡ at = r ∙ sym start in
-        ap (λ (y : ℕ). member after y n) g ∙ u .put n ∙
-        ap (λ (y : ℕ). member mid y n || eqb j n) (sym g) ∙
-        ap (λ (b : Bool). b || eqb j n) (S .sets p n l k) ∙
-        put-here (member before (getD before p 0) n) (eqb j n) (valueIn pool p (valuesFrom pool s i))
-    go p n l k (no r) =
-        ap (λ (y : ℕ). bit y (n % 64)) (u .kept (getD before p 0 + n / 64) (far p n l k r)) ∙ S .sets p n l k ∙
-        ap (λ (b : Bool). member before (getD before p 0) n || (eqb j n && b))
-        (sym (or-false (valueIn pool p (valuesFrom pool s i))))
+pub value-skipped : (ss cs pool sorted index : List ℕ) (k m j s i p v a : ℕ) → p ≡ s + i → v ≡ valueAt pool p → v < 2 ^ 64 →
+    Found sorted k v a → k ≤ a → Sets ss cs pool sorted index k m j s i → Sets ss cs pool sorted index k m j s (i + 1)
+value-skipped ss cs pool sorted index k m j s i p v a at is fits found past S = record {
+  places = S .places;
+  sets = λ r n lr hr ln.
+      let w = found .within in
+      let t : eqb (getD sorted r 0) v ≡ false = ne-eqb (getD sorted r 0) v
+      (λ x. found .absent (omega arith) (record { place = r; from = omega arith; below = lr; holds = x })) in
+      rw (
+        riser-more pool sorted r s i v hr fits (is ∙ ap (valueAt pool) at),
+        t,
+        or-false (riserIn sorted r (valuesFrom pool s i)),
+      ) (S .sets r n lr hr ln);
+}
 
 -- ---- all lists
-kept-places : (pool before after : List ℕ) → Places pool before → length after ≡ length before →
-    ((p : ℕ) → p < 8192 → getD after p 0 ≡ getD before p 0) → Places pool after
-kept-places pool before after P z k = record {
-  size = z ∙ P .size;
-  above = λ p l. rw (k p l) (P .above p l);
-  room = λ p l. rw (k p l) (P .room p l);
-  apart = λ p r l m. rw (k p l, k r m) (P .apart p r l m);
-  even = λ p r l m h. rw (k p l, k r m) (P .even p r l m (rw (k p l, k r m) at h));
+pub sets-none : (ss cs pool sorted index : List ℕ) (k m s : ℕ) → ((q : ℕ) → getD index q 0 ≡ 0) →
+    Sets ss cs pool sorted index k m 0 s 0
+sets-none ss cs pool sorted index k m s h = record {
+  places = λ p l g. absurd (let e = h p in omega arith);
+  sets = λ r j lr hr lj. rw (no-riser pool sorted r s, le-ltb j 0 (omega arith), and-false (eqb 0 j))
+      (ap (λ (x : ℕ). bit x (j % 64)) (h (m + 2 * r + j / 64)) ∙ bit-zero (j % 64));
 }
 
-pub lists-none : (ss cs pool index : List ℕ) → Places pool index → ((q : ℕ) → 8192 ≤ q → getD index q 0 ≡ 0) →
-    ListsPut ss cs pool index index 0
-lists-none ss cs pool index P h = record {
-  size = refl;
-  kept = λ p l. refl;
-  sets = λ p i l k. let a = P .above p l in
-      ap (λ (x : ℕ). bit x (i % 64)) (h (getD index p 0 + i / 64) (omega arith)) ∙ bit-zero (i % 64) ∙
-      sym (ap (λ (b : Bool). b && valueIn pool p (listOf ss cs pool i)) (le-ltb i 0 (omega arith)));
-}
-
-pub lists-more : (ss cs pool before mid after : List ℕ) (n s c : ℕ) → Places pool before →
-    ListsPut ss cs pool before mid n → s ≡ getD ss n 0 → c ≡ getD cs n 0 →
-    (Places pool mid → ListPut pool mid after n (valuesFrom pool s c)) → ListsPut ss cs pool before after (n + 1)
+pub sets-next : (ss cs pool sorted index : List ℕ) (k m n s c next : ℕ) → s ≡ getD ss n 0 → c ≡ getD cs n 0 →
+    Sets ss cs pool sorted index k m n s c → Sets ss cs pool sorted index k m (n + 1) next 0
 unfolding listOf
-lists-more ss cs pool before mid after n s c P S es ec f = record {
-  size = L .size ∙ S .size;
-  kept = λ p l. L .kept p l ∙ S .kept p l;
-  sets = λ p i l k. ap (λ (y : ℕ). member after y i) (sym (S .kept p l)) ∙ L .sets p i l k ∙
-      ap (λ (y : ℕ). member mid y i || (eqb n i && valueIn pool p (valuesFrom pool s c))) (S .kept p l) ∙
-      ap (λ (b : Bool). b || (eqb n i && valueIn pool p (valuesFrom pool s c))) (S .sets p i l k) ∙
-      go p i (eq-view n i);
+sets-next ss cs pool sorted index k m n s c next es ec S = record {
+  places = S .places;
+  sets = λ r j lr hr lj. rw (no-riser pool sorted r next, and-false (eqb (n + 1) j))
+      (S .sets r j lr hr lj ∙ go r j (eq-view n j));
 }
   where
-    L : ListPut pool mid after n (valuesFrom pool s c)
-    L = f (kept-places pool before mid P (S .size) (S .kept))
+    go : (r j : ℕ) → {x : Bool} → Eq n j x →
+        ((ltb j n && riserIn sorted r (valuesFrom pool (getD ss j 0) (getD cs j 0))) ||
+        (x && riserIn sorted r (valuesFrom pool s c))) ≡
+        ((ltb j (n + 1) && riserIn sorted r (valuesFrom pool (getD ss j 0) (getD cs j 0))) || false)
+    go r j (yes e) = rw (
+      ← e,
+      es,
+      ec,
+      le-ltb n n (omega arith),
+      lt-ltb n (n + 1) (omega arith),
+      or-false (riserIn sorted r (valuesFrom pool (getD ss n 0) (getD cs n 0))),
+    )
+    go r j (no e) = ⊎-elim
+        (λ (h : j < n). rw (lt-ltb j n h, lt-ltb j (n + 1) (omega arith)))
+        (λ (h : n ≤ j). rw (le-ltb j n h, le-ltb j (n + 1) (omega (arith, e))))
+        (lt-or-le j n)
 
-    go : (p i : ℕ) → {x : Bool} → Eq n i x →
-        ((ltb i n && valueIn pool p (valuesFrom pool (getD ss i 0) (getD cs i 0))) ||
-        (x && valueIn pool p (valuesFrom pool s c))) ≡
-        (ltb i (n + 1) && valueIn pool p (valuesFrom pool (getD ss i 0) (getD cs i 0)))
-    go p i (yes e) = rw (← e, es, ec, le-ltb n n (omega arith), lt-ltb n (n + 1) (omega arith))
-    go p i (no e) = or-false (ltb i n && valueIn pool p (valuesFrom pool (getD ss i 0) (getD cs i 0))) ∙
-        ⊎-elim
-        (λ (h : i < n). rw (lt-ltb i n h, lt-ltb i (n + 1) (omega arith)))
-        (λ (h : n ≤ i). rw (le-ltb i n h, le-ltb i (n + 1) (omega (arith, e))))
-        (lt-or-le i n)
-
-pub indexed : (ss cs pool before after : List ℕ) → Places pool before → ListsPut ss cs pool before after 128 →
-    Indexed ss cs pool after
-indexed ss cs pool before after P S = record {
-  room = λ p l. rw (S .kept p (low p l)) (let b = P .room p (low p l) in let z = size in omega arith);
-  lists = λ p j l k. rw (S .kept p (low p l))
-      (S .sets p j (low p l) k ∙ ap (λ (b : Bool). b && valueIn pool p (listOf ss cs pool j)) (lt-ltb j 128 k));
+pub indexed : (told pool sorted index : List ℕ) (k m : ℕ) → 0 < length index → m + 4096 ≡ length index / 2 →
+    m + 2 * k ≤ length index → Sets (startsIn told) (countsIn told) pool sorted index k m 128 0 0 → Indexed told pool index
+indexed told pool sorted index k m some half room S = record {
+  some = some;
+  room = λ p l. ⊎-elim
+      (λ (h : 0 < getD index p 0). let P = S .places p (omega arith) h in
+      let e = P .is in let b = P .below in omega arith)
+      (λ (h : getD index p 0 ≤ 0). omega arith)
+      (lt-or-le 0 (getD index p 0));
+  lists = λ p j l h lj.
+      let P = S .places p (omega arith) h in
+      let hr : getD sorted (P .rank) 0 < 2 ^ 64 = rw (P .stands) (P .fits) in
+      rw (P .is, ← P .stands) (S .sets (P .rank) j (P .below) hr lj ∙ only (P .rank) j lj);
 }
   where
-    size : length after ≡ 24576
-    size = S .size ∙ P .size
-
-    low : (p : ℕ) → p < length after / 3 → p < 8192
-    low p l = let z = size in omega arith
+    only : (r j : ℕ) → j < 128 →
+        ((ltb j 128 && riserIn sorted r (listOf (startsIn told) (countsIn told) pool j)) || (eqb 128 j && riserIn sorted r (valuesFrom pool 0 0))) ≡
+        riserIn sorted r (listOf (startsIn told) (countsIn told) pool j)
+    only r j l = rw (lt-ltb j 128 l, no-riser pool sorted r 0, and-false (eqb 128 j))
+        (or-false (riserIn sorted r (listOf (startsIn told) (countsIn told) pool j)))

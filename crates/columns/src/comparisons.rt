@@ -11,6 +11,7 @@ ghost use Rattle.constraints.specs.Comparisons.{IsLower, IsUpper, collectColumn
 ghost use Rattle.constraints.specs.Lined.{lined};
 ghost use Rattle.column_constraints.specs.Abstraction.{Conjuncts, numbered, columnOf, boundOf, excludedBy, comparedOf, Fine};
 ghost use Rattle.column_constraints.specs.Abstraction.{limitOf};
+ghost use Rattle.column_constraints.specs.Abstraction.{kindsIn, valuesIn};
 ghost use Rattle.column_constraints.specs.Steps.{placedMark, placedFree, placedPoint, placed};
 use column_constraints::bound::Bound;
 use column_constraints::bound::Limit;
@@ -19,6 +20,7 @@ use column_constraints::column::ColumnConstraints;
 use column_constraints::column::Compared;
 use column_constraints::column::FixedValue;
 use column_sets::marks::limit_at;
+use column_sets::told::kind_at;
 use records::bytes::byte;
 use resolve_deferred::resolve::fixed_value;
 
@@ -42,19 +44,19 @@ fn at_upper(u: Bound) -> Compared
     }
 }
 
-fn at_mark(kinds: &[u8], values: &[u64], j: u8) -> Compared
-    ensures { λ r. ⌜ comparedOf r ≡ placedMark (now (kinds .entry)) (now (values .entry)) j ⌝ }
+fn at_mark(told: &[u64], j: u8) -> Compared
+    ensures { λ r. ⌜ comparedOf r ≡ placedMark (kindsIn (now (told .entry))) (valuesIn (now (told .entry))) j ⌝ }
 {
-    let v = limit_at(values, j);
-    if byte(kinds, j as usize) == 0 {
+    let v = limit_at(told, j);
+    if kind_at(told, j as usize) == 0 {
         return Compared::NotEq(v);
     }
     Compared::Vacant
 }
 
 // A column that no value pins.
-fn at_place(kinds: &[u8], values: &[u64], marks: &[u8], c: ColumnConstraints, p: usize) -> Compared
-    ensures { λ r. ⌜ ((t : Conjuncts) → t .kinds ≡ now (kinds .entry) → t .values ≡ now (values .entry) →
+fn at_place(told: &[u64], marks: &[u8], c: ColumnConstraints, p: usize) -> Compared
+    ensures { λ r. ⌜ ((t : Conjuncts) → t .kinds ≡ kindsIn (now (told .entry)) → t .values ≡ valuesIn (now (told .entry)) →
         comparedOf r ≡ placedFree t (numbered (now (marks .entry)) c) p) ⌝ }
 {
     if p == 0 {
@@ -65,23 +67,17 @@ fn at_place(kinds: &[u8], values: &[u64], marks: &[u8], c: ColumnConstraints, p:
         let upp = c.upper;
         return at_upper(upp);
     }
-    at_mark(kinds, values, byte(marks, p - 2))
+    at_mark(told, byte(marks, p - 2))
 }
 
 /// The comparison at place p. The places are those below `places`.
-pub fn comparison_at(
-    kinds: &[u8],
-    values: &[u64],
-    marks: &[u8],
-    c: ColumnConstraints,
-    p: usize,
-) -> Compared
-    ensures { λ r. ⌜ ((t : Conjuncts) → t .kinds ≡ now (kinds .entry) → t .values ≡ now (values .entry) →
+pub fn comparison_at(told: &[u64], marks: &[u8], c: ColumnConstraints, p: usize) -> Compared
+    ensures { λ r. ⌜ ((t : Conjuncts) → t .kinds ≡ kindsIn (now (told .entry)) → t .values ≡ valuesIn (now (told .entry)) →
         comparedOf r ≡ placed t (numbered (now (marks .entry)) c) p) ⌝ }
 {
     let f = fixed_value(c);
     match f {
-        FixedValue::Nothing => at_place(kinds, values, marks, c, p),
+        FixedValue::Nothing => at_place(told, marks, c, p),
         FixedValue::At(v) => at_point(v, p),
     }
 }
@@ -95,14 +91,14 @@ fn at_point(v: Limit, p: usize) -> Compared
     Compared::Vacant
 }
 
-fn excluded_count(kinds: &[u8], marks: &[u8], n: usize) -> usize
-    ensures { λ r. ⌜ ((vs : List ℕ) → r ≡ length (excludedBy (now (kinds .entry)) vs (now (marks .entry)) n)) ⌝ }
+fn excluded_count(told: &[u64], marks: &[u8], n: usize) -> usize
+    ensures { λ r. ⌜ ((vs : List ℕ) → r ≡ length (excludedBy (kindsIn (now (told .entry))) vs (now (marks .entry)) n)) ⌝ }
 {
     let mut m: usize = 0;
     let mut i: usize = 0;
     while i < n {
         let j = byte(marks, i);
-        m = m + counted(byte(kinds, j as usize) == 0);
+        m = m + counted(kind_at(told, j as usize) == 0);
         i += 1;
     }
     m
@@ -118,9 +114,9 @@ fn counted(b: bool) -> usize
 }
 
 /// How many comparisons the column is written out as.
-pub fn comparison_count(kinds: &[u8], marks: &[u8], c: ColumnConstraints) -> usize
+pub fn comparison_count(told: &[u64], marks: &[u8], c: ColumnConstraints) -> usize
     requires { ⌜ Fine 128 (now marks) (c .len) ⌝ }
-    ensures { λ r. ⌜ ((t : Conjuncts) → t .kinds ≡ now (kinds .entry) →
+    ensures { λ r. ⌜ ((t : Conjuncts) → t .kinds ≡ kindsIn (now (told .entry)) →
         r ≡ length (collectColumnComparisons lined (columnOf t (numbered (now (marks .entry)) c)))) ⌝ }
 {
     let low = c.lower;
@@ -128,7 +124,7 @@ pub fn comparison_count(kinds: &[u8], marks: &[u8], c: ColumnConstraints) -> usi
     let f = fixed_value(c);
     match f {
         FixedValue::Nothing => {
-            let n = excluded_count(kinds, marks, c.len);
+            let n = excluded_count(told, marks, c.len);
             counted(!is_absent(low)) + (counted(!is_absent(upp)) + n)
         }
         FixedValue::At(_) => 1,

@@ -8,6 +8,7 @@ ghost use Rattle.constraints.specs.Column as q;
 ghost use Rattle.constraints.specs.Lined.{lined};
 ghost use Rattle.column_constraints.specs.Abstraction.{Conjuncts, conjuncts, numbered, columnOf, boundOf, valuesOf, Fine};
 ghost use Rattle.column_constraints.specs.Abstraction.{limitOf, literalAt};
+ghost use Rattle.column_constraints.specs.Abstraction.{kindsIn, valuesIn};
 ghost use Rattle.column_sets.specs.Index.{Indexed};
 ghost use Rattle.column_constraints.specs.Steps.{Lists, mergingOf, emitting, recording};
 ghost use Rattle.column_constraints.specs.Steps.{takeLower, takeUpper, takeMark, takeMarks};
@@ -25,6 +26,7 @@ use column_sets::marks::add_allowed;
 use column_sets::marks::add_disallowed;
 use column_sets::marks::add_excluded;
 use column_sets::marks::number_set;
+use column_sets::told::kind_at;
 use records::bytes::byte;
 use sorted::bits::has;
 
@@ -80,15 +82,16 @@ fn merge_upper(m: Merged, b: Bound) -> Merged
     }
 }
 
-fn merge_excluded(kinds: &[u8], values: &[u64], own: &mut [u8], m: Merged, j: u8) -> Merged
-    requires { ⌜ Fine (length (now own)) (now own) (m .column .len) × (j < length (now own)) × (getD (now kinds) j 0 ≡ 0) ⌝ }
-    ensures { λ r. ⌜ ((t : Conjuncts) → t .kinds ≡ now (kinds .entry) → t .values ≡ now (values .entry) →
-        mergingOf t (now (own .exit)) r ≡ emitting (q.Exclude (literalAt (now (values .entry)) j)) (mergingOf t (now (own .entry)) m)) ⌝ }
+fn merge_excluded(told: &[u64], own: &mut [u8], m: Merged, j: u8) -> Merged
+    requires { ⌜ Fine (length (now own)) (now own) (m .column .len) × (j < length (now own)) × (getD (kindsIn (now told)) j 0 ≡ 0) ⌝ }
+    ensures { λ r. ⌜ ((t : Conjuncts) → t .kinds ≡ kindsIn (now (told .entry)) → t .values ≡ valuesIn (now (told .entry)) →
+        mergingOf t (now (own .exit)) r ≡ emitting (q.Exclude (literalAt (valuesIn (now (told .entry))) j)) (mergingOf t
+        (now (own .entry)) m)) ⌝ }
     ensures { λ r. ⌜ Fine (length (now (own .entry))) (now (own .exit)) (r .column .len) ⌝ }
 {
     let c = m.column;
-    let changed = excluded_changes(kinds, values, own, c, j);
-    let d = add_excluded(kinds, values, own, c, j);
+    let changed = excluded_changes(told, own, c, j);
+    let d = add_excluded(told, own, c, j);
     Merged {
         column: d,
         emitted: m.emitted | changed,
@@ -98,17 +101,15 @@ fn merge_excluded(kinds: &[u8], values: &[u64], own: &mut [u8], m: Merged, j: u8
 
 fn merge_allowed(
     index: &[u64],
-    kinds: &[u8],
-    starts: &[u32],
-    counts: &[u32],
+    told: &[u64],
     pool: &[u8],
     own: &mut [u8],
     m: Merged,
     j: u8,
 ) -> Merged
-    requires { ⌜ Fine (length (now own)) (now own) (m .column .len) × (j < length (now own)) × (getD (now kinds) j 0 ≡ 1) ⌝ }
-    requires { ⌜ Indexed (now starts) (now counts) (now pool) (now index) × (length (now own) ≤ 128) ⌝ }
-    ensures { λ r. ⌜ ((t : Conjuncts) → Lists t (now (kinds .entry)) (now (starts .entry)) (now (counts .entry))
+    requires { ⌜ Fine (length (now own)) (now own) (m .column .len) × (j < length (now own)) × (getD (kindsIn (now told)) j 0 ≡ 1) ⌝ }
+    requires { ⌜ Indexed (now told) (now pool) (now index) × (length (now own) ≤ 128) ⌝ }
+    ensures { λ r. ⌜ ((t : Conjuncts) → Lists t (now (told .entry))
         (now (pool .entry)) → mergingOf t (now (own .exit)) r ≡ recording (q.Allow (valuesOf (t .starts) (t .counts) (t .pool) j))
         (mergingOf t (now (own .entry)) m)) ⌝ }
     ensures { λ r. ⌜ Fine (length (now (own .entry))) (now (own .exit)) (r .column .len) ⌝ }
@@ -122,7 +123,7 @@ fn merge_allowed(
             any: true,
         };
     }
-    let changed = allowed_changes(index, kinds, starts, counts, pool, own, c, j);
+    let changed = allowed_changes(index, told, pool, own, c, j);
     let d = add_allowed(own, c, j);
     Merged {
         column: d,
@@ -133,32 +134,30 @@ fn merge_allowed(
 
 fn merge_disallowed(
     index: &[u64],
-    kinds: &[u8],
-    starts: &[u32],
-    counts: &[u32],
+    told: &[u64],
     pool: &[u8],
     own: &mut [u8],
     m: Merged,
     j: u8,
 ) -> Merged
-    requires { ⌜ Fine (length (now own)) (now own) (m .column .len) × (j < length (now own)) × (getD (now kinds) j 0 ≡ 2) ⌝ }
-    requires { ⌜ Indexed (now starts) (now counts) (now pool) (now index) × (length (now own) ≤ 128) ⌝ }
-    ensures { λ r. ⌜ ((t : Conjuncts) → Lists t (now (kinds .entry)) (now (starts .entry)) (now (counts .entry))
+    requires { ⌜ Fine (length (now own)) (now own) (m .column .len) × (j < length (now own)) × (getD (kindsIn (now told)) j 0 ≡ 2) ⌝ }
+    requires { ⌜ Indexed (now told) (now pool) (now index) × (length (now own) ≤ 128) ⌝ }
+    ensures { λ r. ⌜ ((t : Conjuncts) → Lists t (now (told .entry))
         (now (pool .entry)) → mergingOf t (now (own .exit)) r ≡ recording
         (q.Disallow false (valuesOf (t .starts) (t .counts) (t .pool) j)) (mergingOf t (now (own .entry)) m)) ⌝ }
     ensures { λ r. ⌜ Fine (length (now (own .entry))) (now (own .exit)) (r .column .len) ⌝ }
 {
     let c = m.column;
     if m.any {
-        let e = add_disallowed(counts, own, c, j, false);
+        let e = add_disallowed(told, own, c, j, false);
         return Merged {
             column: e,
             emitted: m.emitted,
             any: true,
         };
     }
-    let changed = disallowed_changes(index, kinds, starts, counts, pool, own, c, j);
-    let d = add_disallowed(counts, own, c, j, false);
+    let changed = disallowed_changes(index, told, pool, own, c, j);
+    let d = add_disallowed(told, own, c, j, false);
     Merged {
         column: d,
         emitted: m.emitted,
@@ -167,42 +166,29 @@ fn merge_disallowed(
 }
 
 // One number of the other column: an excluded value or a list, by its kind.
-fn merge_mark(
-    index: &[u64],
-    kinds: &[u8],
-    values: &[u64],
-    starts: &[u32],
-    counts: &[u32],
-    pool: &[u8],
-    own: &mut [u8],
-    m: Merged,
-    j: u8,
-) -> Merged
+fn merge_mark(index: &[u64], told: &[u64], pool: &[u8], own: &mut [u8], m: Merged, j: u8) -> Merged
     requires { ⌜ Fine (length (now own)) (now own) (m .column .len) × (j < length (now own)) ⌝ }
-    requires { ⌜ Indexed (now starts) (now counts) (now pool) (now index) × (length (now own) ≤ 128) ⌝ }
-    ensures { λ r. ⌜ (let t = conjuncts (now (kinds .entry)) (now (values .entry)) (now (starts .entry))
-        (now (counts .entry)) (now (pool .entry)) in mergingOf t (now (own .exit)) r ≡ takeMark t j (mergingOf t (now (own .entry)) m)) ⌝ }
+    requires { ⌜ Indexed (now told) (now pool) (now index) × (length (now own) ≤ 128) ⌝ }
+    ensures { λ r. ⌜ (let t = conjuncts (now (told .entry)) (now (pool .entry)) in mergingOf t (now (own .exit)) r ≡
+        takeMark t j (mergingOf t (now (own .entry)) m)) ⌝ }
     ensures { λ r. ⌜ Fine (length (now (own .entry))) (now (own .exit)) (r .column .len) ⌝ }
 {
-    let k = byte(kinds, j as usize);
+    let k = kind_at(told, j as usize);
     if k == 0 {
-        return merge_excluded(kinds, values, own, m, j);
+        return merge_excluded(told, own, m, j);
     }
     if k == 1 {
-        return merge_allowed(index, kinds, starts, counts, pool, own, m, j);
+        return merge_allowed(index, told, pool, own, m, j);
     }
     if k == 2 {
-        return merge_disallowed(index, kinds, starts, counts, pool, own, m, j);
+        return merge_disallowed(index, told, pool, own, m, j);
     }
     m
 }
 
 fn merge_marks(
     index: &[u64],
-    kinds: &[u8],
-    values: &[u64],
-    starts: &[u32],
-    counts: &[u32],
+    told: &[u64],
     pool: &[u8],
     own: &mut [u8],
     m0: Merged,
@@ -210,9 +196,9 @@ fn merge_marks(
     n: usize,
 ) -> Merged
     requires { ⌜ Fine (length (now own)) (now own) (m0 .column .len) × Fine (length (now own)) (now marks) n ⌝ }
-    requires { ⌜ Indexed (now starts) (now counts) (now pool) (now index) × (length (now own) ≤ 128) ⌝ }
-    ensures { λ r. ⌜ (let t = conjuncts (now (kinds .entry)) (now (values .entry)) (now (starts .entry))
-        (now (counts .entry)) (now (pool .entry)) in mergingOf t (now (own .exit)) r ≡ takeMarks t (now (marks .entry)) n
+    requires { ⌜ Indexed (now told) (now pool) (now index) × (length (now own) ≤ 128) ⌝ }
+    ensures { λ r. ⌜ (let t = conjuncts (now (told .entry)) (now (pool .entry)) in mergingOf t (now (own .exit)) r ≡
+        takeMarks t (now (marks .entry)) n
         (mergingOf t (now (own .entry)) m0)) ⌝ }
     ensures { λ r. ⌜ Fine (length (now (own .entry))) (now (own .exit)) (r .column .len) ⌝ }
 {
@@ -225,7 +211,7 @@ fn merge_marks(
         if has(&held, 0, j as usize) {
             continue;
         }
-        m = merge_mark(index, kinds, values, starts, counts, pool, own, m, j);
+        m = merge_mark(index, told, pool, own, m, j);
     }
     m
 }
@@ -233,10 +219,7 @@ fn merge_marks(
 /// All that the column d says, its numbers in `marks`, put into c, its numbers in `own`.
 pub fn merge_from(
     index: &[u64],
-    kinds: &[u8],
-    values: &[u64],
-    starts: &[u32],
-    counts: &[u32],
+    told: &[u64],
     pool: &[u8],
     own: &mut [u8],
     c: ColumnConstraints,
@@ -244,9 +227,8 @@ pub fn merge_from(
     d: ColumnConstraints,
 ) -> Merged
     requires { ⌜ Fine (length (now own)) (now own) (c .len) × Fine (length (now own)) (now marks) (d .len) ⌝ }
-    requires { ⌜ Indexed (now starts) (now counts) (now pool) (now index) × (length (now own) ≤ 128) ⌝ }
-    ensures { λ r. ⌜ (let t = conjuncts (now (kinds .entry)) (now (values .entry)) (now (starts .entry))
-        (now (counts .entry)) (now (pool .entry)) in
+    requires { ⌜ Indexed (now told) (now pool) (now index) × (length (now own) ≤ 128) ⌝ }
+    ensures { λ r. ⌜ (let t = conjuncts (now (told .entry)) (now (pool .entry)) in
         (columnOf t (numbered (now (own .exit)) (r .column)) ≡ q.mergeFrom lined (columnOf t (numbered (now (own .entry)) c)) (columnOf t (numbered (now (marks .entry)) d))) ×
         (r .emitted ≡ q.mergeEmitted lined (columnOf t (numbered (now (own .entry)) c)) (columnOf t (numbered (now (marks .entry)) d))) ×
         (r .any ≡ q.mergeAny lined (columnOf t (numbered (now (own .entry)) c)) (columnOf t (numbered (now (marks .entry)) d)))) ⌝ }
@@ -261,18 +243,7 @@ pub fn merge_from(
     };
     let m1 = merge_lower(m0, low);
     let m2 = merge_upper(m1, upp);
-    let mut m = merge_marks(
-        index,
-        kinds,
-        values,
-        starts,
-        counts,
-        pool,
-        own,
-        m2,
-        marks,
-        d.len,
-    );
+    let mut m = merge_marks(index, told, pool, own, m2, marks, d.len);
     m.any = m.emitted | m.any;
     m
 }

@@ -23,62 +23,38 @@ pub mod told;
 use crate::labels::label_lines;
 use crate::labels::number_columns;
 use crate::told::tell_lines;
+use column_table::words::CELLS;
+use limits::COLUMNS;
 use resolve_columns::conclude::resolve_all;
 
-/// The first n of `nodes` are the lines; kinds, values, starts and counts are their tables, `index` is the index of the lists or
+/// The first n of `nodes` are the lines; `told` is what they say, `index` is the index of the lists or
 /// has none, `marks` has room for the columns' numbers.
 pub fn contradict(
     rs: &[u8],
     p: &[u8],
     nodes: &[u32],
     n: usize,
-    kinds: &[u8],
-    values: &[u64],
-    starts: &[u32],
-    counts: &[u32],
+    told: &[u64],
     index: &[u64],
     marks: &mut [u8],
 ) -> bool
     requires { ⌜ (n ≤ stride (now marks)) × (stride (now marks) ≤ 128) × (n ≤ length (now nodes))
-        × Indexed (now starts) (now counts) (now p) (now index) ⌝ }
-    requires { ⌜ ((i : ℕ) → i < n → ToldConjunct (conjuncts (now kinds) (now values) (now starts) (now counts) (now p)) i
+        × Indexed (now told) (now p) (now index) ⌝ }
+    requires { ⌜ ((i : ℕ) → i < n → ToldConjunct (conjuncts (now told) (now p)) i
         (classify (aexprOf (now rs) (now p)) (getD (now nodes) i 0))) ⌝ }
     requires { ⌜ ((i : ℕ) → i < n → ColumnsBelow 64 (classify (aexprOf (now rs) (now p)) (getD (now nodes) i 0))) ⌝ }
     ensures { λ r. ⌜ r ≡ dead lined (collectTo (aexprOf (now (rs .entry)) (now (p .entry))) (now (nodes .entry)) n) ⌝ }
 {
-    let mut cells = [0u64; 448];
-    let mut labels = [0u32; 64];
-    let mut order = [0u32; 64];
+    let mut cells = [0u64; CELLS];
+    let mut labels = [0u32; COLUMNS];
+    let mut order = [0u32; COLUMNS];
     number_columns(&mut labels);
     number_columns(&mut order);
     label_lines(rs, nodes, n, &mut labels);
-    let stopped = tell_lines(
-        rs,
-        p,
-        nodes,
-        n,
-        kinds,
-        values,
-        starts,
-        counts,
-        &labels,
-        &mut cells,
-        marks,
-    );
+    let stopped = tell_lines(rs, p, nodes, n, told, &labels, &mut cells, marks);
     if stopped {
         return true;
     }
-    let r = resolve_all(
-        index,
-        kinds,
-        values,
-        starts,
-        counts,
-        p,
-        &mut cells,
-        marks,
-        &order,
-        64,
-    );
+    let r = resolve_all(index, told, p, &mut cells, marks, &order, 64);
     r.unsat
 }

@@ -52,10 +52,7 @@ fn tell_non_null(cells: &mut [u64], a: Column)
 
 /// What line j says of the column a; whether the column is then impossible.
 fn tell_column(
-    kinds: &[u8],
-    values: &[u64],
-    starts: &[u32],
-    counts: &[u32],
+    told: &[u64],
     pool: &[u8],
     cells: &mut [u64],
     marks: &mut [u8],
@@ -64,9 +61,8 @@ fn tell_column(
     s: Says,
 ) -> bool
     requires { ⌜ Fits (now cells) (now marks) × (a .0 < 64) × (j < stride (now marks)) ⌝ }
-    requires { ⌜ Told (conjuncts (now kinds) (now values) (now starts) (now counts) (now pool)) j (saysIn (now pool) s) ⌝ }
-    ensures { λ r. ⌜ (let t = conjuncts (now (kinds .entry)) (now (values .entry)) (now (starts .entry))
-        (now (counts .entry)) (now (pool .entry)) in (T : ColumnTable) →
+    requires { ⌜ Told (conjuncts (now told) (now pool)) j (saysIn (now pool) s) ⌝ }
+    ensures { λ r. ⌜ (let t = conjuncts (now (told .entry)) (now (pool .entry)) in (T : ColumnTable) →
         Shows t (columnsOf (now (cells .entry))) (now (marks .entry)) T →
         Added t (columnsOf (now (cells .exit))) (now (marks .exit)) (a .0)
         (map (mapConstraint (onLine j)) (saysIn (now (pool .entry)) s)) r T) ⌝ }
@@ -75,7 +71,7 @@ fn tell_column(
 {
     let x = slot(a);
     let c = load(cells, x);
-    let r = add_in_row(kinds, values, starts, counts, pool, marks, x, c, j, s);
+    let r = add_in_row(told, pool, marks, x, c, j, s);
     store(cells, x, r);
     r.unsat
 }
@@ -85,10 +81,7 @@ fn tell_line(
     rs: &[u8],
     pool: &[u8],
     node: Node,
-    kinds: &[u8],
-    values: &[u64],
-    starts: &[u32],
-    counts: &[u32],
+    told: &[u64],
     labels: &[u32],
     cells: &mut [u64],
     marks: &mut [u8],
@@ -96,11 +89,10 @@ fn tell_line(
 ) -> bool
     requires { ⌜ Fits (now cells) (now marks) × (j < stride (now marks)) × (length (now labels) ≡ 64)
         × ((c : ℕ) → c < 64 → getD (now labels) c 0 < 64) ⌝ }
-    requires { ⌜ ToldConjunct (conjuncts (now kinds) (now values) (now starts) (now counts) (now pool)) j
+    requires { ⌜ ToldConjunct (conjuncts (now told) (now pool)) j
         (c.classify (aexprOf (now rs) (now pool)) (node .0)) ⌝ }
     requires { ⌜ ColumnsBelow 64 (c.classify (aexprOf (now rs) (now pool)) (node .0)) ⌝ }
-    ensures { λ r. ⌜ (let t = conjuncts (now (kinds .entry)) (now (values .entry)) (now (starts .entry))
-        (now (counts .entry)) (now (pool .entry)) in (T : ColumnTable) →
+    ensures { λ r. ⌜ (let t = conjuncts (now (told .entry)) (now (pool .entry)) in (T : ColumnTable) →
         Shows t (columnsOf (now (cells .entry))) (now (marks .entry)) T →
         Tells t (columnsOf (now (cells .exit))) (now (marks .exit)) r (tellOne lined (labelAt (now (labels .entry)))
         (mapConjunct (onLine j) (c.classify (aexprOf (now (rs .entry)) (now (pool .entry))) (node .0))) T)) ⌝ }
@@ -111,11 +103,11 @@ fn tell_line(
     match k {
         Conjunct::Bounds(a, s) => {
             let x = label_of(labels, a);
-            tell_column(kinds, values, starts, counts, pool, cells, marks, x, j, s)
+            tell_column(told, pool, cells, marks, x, j, s)
         }
         Conjunct::Normalized(a, s) => {
             let x = label_of(labels, a);
-            tell_column(kinds, values, starts, counts, pool, cells, marks, x, j, s)
+            tell_column(told, pool, cells, marks, x, j, s)
         }
         Conjunct::Equality(a, b) => {
             let x = label_of(labels, a);
@@ -126,7 +118,7 @@ fn tell_line(
         }
         Conjunct::Recorded(_, a, s) => {
             let x = label_of(labels, a);
-            tell_column(kinds, values, starts, counts, pool, cells, marks, x, j, s)
+            tell_column(told, pool, cells, marks, x, j, s)
         }
         Conjunct::NonNullPair(a, b) => {
             let x = label_of(labels, a);
@@ -145,10 +137,7 @@ pub fn tell_lines(
     pool: &[u8],
     nodes: &[u32],
     n: usize,
-    kinds: &[u8],
-    values: &[u64],
-    starts: &[u32],
-    counts: &[u32],
+    told: &[u64],
     labels: &[u32],
     cells: &mut [u64],
     marks: &mut [u8],
@@ -156,10 +145,10 @@ pub fn tell_lines(
     requires { ⌜ (n ≤ stride (now marks)) × (stride (now marks) ≤ 128) × (n ≤ length (now nodes))
         × (length (now cells) ≡ 448) × (columnsOf (now cells) ≡ replicate 64 pastColumn) × (length (now labels) ≡ 64)
         × ((c : ℕ) → c < 64 → getD (now labels) c 0 < 64) ⌝ }
-    requires { ⌜ ((i : ℕ) → i < n → ToldConjunct (conjuncts (now kinds) (now values) (now starts) (now counts) (now pool)) i
+    requires { ⌜ ((i : ℕ) → i < n → ToldConjunct (conjuncts (now told) (now pool)) i
         (c.classify (aexprOf (now rs) (now pool)) (getD (now nodes) i 0))) ⌝ }
     requires { ⌜ ((i : ℕ) → i < n → ColumnsBelow 64 (c.classify (aexprOf (now rs) (now pool)) (getD (now nodes) i 0))) ⌝ }
-    ensures { λ r. ⌜ ToldLines (conjuncts (now (kinds .entry)) (now (values .entry)) (now (starts .entry)) (now (counts .entry))
+    ensures { λ r. ⌜ ToldLines (conjuncts (now (told .entry))
         (now (pool .entry))) (columnsOf (now (cells .exit))) (now (marks .exit)) (now (labels .entry))
         (aexprOf (now (rs .entry)) (now (pool .entry))) (now (nodes .entry)) n r ⌝ }
     ensures { λ _. ⌜ length (now (cells .exit)) ≡ length (now (cells .entry)) ⌝ }
@@ -169,19 +158,7 @@ pub fn tell_lines(
     while i < n {
         let node = Node(nodes[i]);
         let j = i as u8;
-        let stops = tell_line(
-            rs,
-            pool,
-            node,
-            kinds,
-            values,
-            starts,
-            counts,
-            labels,
-            cells,
-            marks,
-            j,
-        );
+        let stops = tell_line(rs, pool, node, told, labels, cells, marks, j);
         if stops {
             return true;
         }

@@ -7,6 +7,7 @@ ghost use lib.ListN.{length, getD};
 ghost use Rattle.constraints.specs.Comparisons.{collectColumnComparisons};
 ghost use Rattle.constraints.specs.Lined.{lined};
 ghost use Rattle.column_constraints.specs.Abstraction.{Conjuncts, numbered, columnOf, Fine};
+ghost use Rattle.column_constraints.specs.Abstraction.{kindsIn, valuesIn};
 ghost use Rattle.column_reasons.specs.ColumnText.{columnText, tableText};
 ghost use Rattle.merge.specs.Reasons.{shownIn};
 ghost use Rattle.merge.specs.Write.{splice};
@@ -25,14 +26,13 @@ use records::record::Column;
 fn row_length(
     t: &[u8],
     a: Column,
-    kinds: &[u8],
-    values: &[u64],
+    told: &[u64],
     marks: &[u8],
     x: usize,
     c: ColumnConstraints,
 ) -> usize
     requires { ⌜ (x < 64) × (stride (now marks) ≤ 128) × Fine (stride (now marks)) (rowOf (now marks) x) (c .len) ⌝ }
-    ensures { λ r. ⌜ ((s : Conjuncts) → s .kinds ≡ now (kinds .entry) → s .values ≡ now (values .entry) →
+    ensures { λ r. ⌜ ((s : Conjuncts) → s .kinds ≡ kindsIn (now (told .entry)) → s .values ≡ valuesIn (now (told .entry)) →
         (text : List ℕ) → r ≡ length (columnText (shownIn (now (t .entry)) text) (a .0) (collectColumnComparisons lined
         (columnOf s (numbered (rowOf (now (marks .entry)) x) c))))) ⌝ }
     ensures { λ r. ⌜ r ≤ 1116691503200 ⌝ }
@@ -40,7 +40,7 @@ fn row_length(
     let size = marks.len() / 64;
     let at = x * size;
     let end = at + size;
-    column_length(t, a, kinds, values, &marks[at..end], c)
+    column_length(t, a, told, &marks[at..end], c)
 }
 
 /// The reasons of the column c in row x from `next` on; the place behind them.
@@ -50,34 +50,32 @@ fn write_row_reasons(
     t: &[u8],
     text: &[u8],
     a: Column,
-    kinds: &[u8],
-    values: &[u64],
+    told: &[u64],
     marks: &[u8],
     x: usize,
     c: ColumnConstraints,
 ) -> usize
     requires { ⌜ (x < 64) × (stride (now marks) ≤ 128) × Fine (stride (now marks)) (rowOf (now marks) x) (c .len) ⌝ }
-    requires { ⌜ ((s : Conjuncts) → s .kinds ≡ now kinds → s .values ≡ now values →
+    requires { ⌜ ((s : Conjuncts) → s .kinds ≡ kindsIn (now told) → s .values ≡ valuesIn (now told) →
         next + length (columnText (shownIn (now t) (now text)) (a .0)
         (collectColumnComparisons lined (columnOf s (numbered (rowOf (now marks) x) c)))) ≤ length (now out)) ⌝ }
-    ensures { λ r. ⌜ ((s : Conjuncts) → s .kinds ≡ now (kinds .entry) → s .values ≡ now (values .entry) →
+    ensures { λ r. ⌜ ((s : Conjuncts) → s .kinds ≡ kindsIn (now (told .entry)) → s .values ≡ valuesIn (now (told .entry)) →
         r ≡ next + length (columnText (shownIn (now (t .entry)) (now (text .entry))) (a .0) (collectColumnComparisons lined
         (columnOf s (numbered (rowOf (now (marks .entry)) x) c))))) ⌝ }
-    ensures { λ _. ⌜ ((s : Conjuncts) → s .kinds ≡ now (kinds .entry) → s .values ≡ now (values .entry) →
+    ensures { λ _. ⌜ ((s : Conjuncts) → s .kinds ≡ kindsIn (now (told .entry)) → s .values ≡ valuesIn (now (told .entry)) →
         now (out .exit) ≡ splice (now (out .entry)) next (columnText (shownIn (now (t .entry)) (now (text .entry))) (a .0)
         (collectColumnComparisons lined (columnOf s (numbered (rowOf (now (marks .entry)) x) c))))) ⌝ }
 {
     let size = marks.len() / 64;
     let at = x * size;
     let end = at + size;
-    write_column_reasons(out, next, t, text, a, kinds, values, &marks[at..end], c)
+    write_column_reasons(out, next, t, text, a, told, &marks[at..end], c)
 }
 
 /// How many bytes the reasons of the columns of `order` have, whatever text pool is lent.
 pub fn reasons_length(
     t: &[u8],
-    kinds: &[u8],
-    values: &[u64],
+    told: &[u64],
     cells: &[u64],
     marks: &[u8],
     order: &[u32],
@@ -85,7 +83,7 @@ pub fn reasons_length(
 ) -> usize
     requires { ⌜ Fits (now cells) (now marks) × (columns ≤ length (now order)) × (columns ≤ 256) ⌝ }
     requires { ⌜ ((o : ℕ) → o < columns → getD (now order) o 0 < 64) ⌝ }
-    ensures { λ r. ⌜ ((s : Conjuncts) → s .kinds ≡ now (kinds .entry) → s .values ≡ now (values .entry) →
+    ensures { λ r. ⌜ ((s : Conjuncts) → s .kinds ≡ kindsIn (now (told .entry)) → s .values ≡ valuesIn (now (told .entry)) →
         (text : List ℕ) → r ≡ length (tableText (shownIn (now (t .entry)) text) (firstOf (now (order .entry)) columns)
         (shown s (columnsOf (now (cells .entry))) (now (marks .entry))))) ⌝ }
 {
@@ -95,7 +93,7 @@ pub fn reasons_length(
         let a = Column(order[w]);
         let x = slot(a);
         let c = load(cells, x);
-        size = size + row_length(t, a, kinds, values, marks, x, c);
+        size = size + row_length(t, a, told, marks, x, c);
         w += 1;
     }
     size
@@ -106,8 +104,7 @@ pub fn write_reasons(
     out: &mut [u8],
     t: &[u8],
     text: &[u8],
-    kinds: &[u8],
-    values: &[u64],
+    told: &[u64],
     cells: &[u64],
     marks: &[u8],
     order: &[u32],
@@ -115,10 +112,10 @@ pub fn write_reasons(
 )
     requires { ⌜ Fits (now cells) (now marks) × (columns ≤ length (now order)) × (columns ≤ 256) ⌝ }
     requires { ⌜ ((o : ℕ) → o < columns → getD (now order) o 0 < 64) ⌝ }
-    requires { ⌜ ((s : Conjuncts) → s .kinds ≡ now kinds → s .values ≡ now values →
+    requires { ⌜ ((s : Conjuncts) → s .kinds ≡ kindsIn (now told) → s .values ≡ valuesIn (now told) →
         length (tableText (shownIn (now t) (now text)) (firstOf (now order) columns)
         (shown s (columnsOf (now cells)) (now marks))) ≤ length (now out)) ⌝ }
-    ensures { λ _. ⌜ ((s : Conjuncts) → s .kinds ≡ now (kinds .entry) → s .values ≡ now (values .entry) →
+    ensures { λ _. ⌜ ((s : Conjuncts) → s .kinds ≡ kindsIn (now (told .entry)) → s .values ≡ valuesIn (now (told .entry)) →
         now (out .exit) ≡ splice (now (out .entry)) 0
         (tableText (shownIn (now (t .entry)) (now (text .entry))) (firstOf (now (order .entry)) columns)
         (shown s (columnsOf (now (cells .entry))) (now (marks .entry))))) ⌝ }
@@ -129,7 +126,7 @@ pub fn write_reasons(
         let a = Column(order[w]);
         let x = slot(a);
         let c = load(cells, x);
-        next = write_row_reasons(out, next, t, text, a, kinds, values, marks, x, c);
+        next = write_row_reasons(out, next, t, text, a, told, marks, x, c);
         w += 1;
     }
 }

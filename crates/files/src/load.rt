@@ -15,6 +15,12 @@ use checking::check::CheckAnswer;
 use file_structure::end_word;
 use file_structure::structure_ok;
 use file_structure::total_of;
+use limits::COLUMNS;
+use limits::FEW_RECORDS;
+use limits::RECORD;
+use limits::RECORDS;
+use limits::VALUE;
+use limits::VALUES;
 
 // What loading answers: a refusal with its number, or the root and the totals of columns, records, values and bytes of text.
 pub enum LoadAnswer {
@@ -110,13 +116,13 @@ fn check_held(
     if 64 < columns {
         return CheckAnswer::Refused(1);
     }
-    let mut t = [0u8; 64];
+    let mut t = [0u8; COLUMNS];
     if (4096 < used) | ((8192 < values) | (8192 < text)) {
         return check_columns(f, columns, used, values, text, root, &mut t);
     }
     if (used <= 64) & (values <= 64) {
-        let mut few = [0u8; 1024];
-        let mut small = [0u8; 512];
+        let mut few = [0u8; RECORD * FEW_RECORDS];
+        let mut small = [0u8; VALUE * 64];
         return check_copies(
             f,
             columns,
@@ -129,8 +135,8 @@ fn check_held(
             &mut small,
         );
     }
-    let mut rs = [0u8; 65536];
-    let mut p = [0u8; 65536];
+    let mut rs = [0u8; RECORD * RECORDS];
+    let mut p = [0u8; VALUE * VALUES];
     check_copies(
         f,
         columns,

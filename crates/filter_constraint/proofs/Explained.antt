@@ -23,13 +23,14 @@ use Rattle.reasons.specs.Text.{reasonsText}
 use Rattle.reckoning.specs.Reckon.{roomFor, reckoned, reckonedAnswer}
 use Rattle.reckoning.specs.Rewritten.{isRewritten}
 use Rattle.filter_constraint.specs.Explained.{nodesText}
-use Rattle.column_constraints.specs.Abstraction.{Conjuncts, conjuncts}
+use Rattle.column_constraints.specs.Abstraction.{Conjuncts}
 use Rattle.column_table.specs.State.{ColumnTable, Fits, shown, bitsOf}
 use Rattle.column_table.specs.Words.{columnsOf}
 use Rattle.filter_constraint.specs.Concluded.{linedTo, Concluded}
 use Rattle.filter_constraint.specs.Merges.{Converted, Counts, Stopped, Stayed, Chained, Merges}
 use Rattle.filter_constraint.proofs.Concluding.{outcomeTo, passesTo, Answered, answered-as, without-lines, total-same}
 use Rattle.column_table.proofs.Resolving.{bits-length}
+use Rattle.column_constraints.specs.Abstraction.{conjunctsOf}
 
 -- ---- An answer that writes no chain is left alone, and the buffer with it.
 pub kept-answer : (size len : ℕ) (a : RewriteAnswer) → isRewritten a ≡ false → refuseLong size len a ≡ a
@@ -260,7 +261,7 @@ module _ (t rs p trees : List ℕ) (used : ℕ) (nodes : List ℕ) (n : ℕ) (ki
       (answered-as t rs trees used (outcomeTo (aexprOf rs p) nodes n) o (r .answer) out e h) k w in
       (f .0, (f .1 .0, (f .1 .1 .0, (l ∙ f .1 .1 .1 .0, f .1 .1 .1 .1))))
 
-  pub numbers-merged : Merges (linedTo (aexprOf rs p) nodes n) (conjuncts kinds values starts counts p) t rs trees nodes values [] []
+  pub numbers-merged : Merges (linedTo (aexprOf rs p) nodes n) (conjunctsOf kinds values starts counts p) t rs trees nodes values [] []
       buffer used r out after → r .passes ≡ passesTo (aexprOf rs p) nodes n → Told
   numbers-merged M k = go (M .unsat) (M .unchanged) refl refl
     where
@@ -274,7 +275,7 @@ module _ (t rs p trees : List ℕ) (used : ℕ) (nodes : List ℕ) (n : ℕ) (ki
           told-kept Unchanged (without-lines (aexprOf rs p) nodes n Unchanged (M .concluded .stays ex ey)) (a .1 .1 .1)
           (a .0, a .1 .0 ∙ ap (λ x. writtenIf x rs rs) (sym (a .0))) k (ap isRewritten (a .0)) (a .1 .1 .0)
       go false false ex ey =
-          let s = conjuncts kinds values starts counts p in
+          let s = conjunctsOf kinds values starts counts p in
           let ns = firstOf (M .kept) (M .keeps) in
           let order = firstOf (M .order) (M .columns) in
           let T = shown s (columnsOf (M .cells)) (M .marks) in

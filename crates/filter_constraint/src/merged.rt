@@ -49,7 +49,7 @@ fn stopped(columns: usize, keeps: usize) -> MergedColumns
     }
 }
 
-/// The first n of `nodes` are the screen's conjuncts; kinds, values, starts and counts are their tables. `index` is the index
+/// The first n of `nodes` are the screen's conjuncts; `told` is what they say. `index` is the index
 /// of the lists, or has none. `cells` holds empty columns, and then the resolved ones; `marks` has room for the columns'
 /// numbers: 64 rows, n of them in each. `order` has room for two columns a conjunct, `kept`, `lefts`, `rights` and `equals` for
 /// the conjuncts.
@@ -58,10 +58,7 @@ pub fn merge_columns(
     p: &[u8],
     nodes: &[u32],
     n: usize,
-    kinds: &[u8],
-    values: &[u64],
-    starts: &[u32],
-    counts: &[u32],
+    told: &[u64],
     index: &[u64],
     cells: &mut [u64],
     marks: &mut [u8],
@@ -72,13 +69,13 @@ pub fn merge_columns(
     equals: &mut [u32],
 ) -> MergedColumns
     requires { ⌜ (n ≤ stride (now marks)) × (stride (now marks) ≤ 128) × (n ≤ length (now nodes)) × (length (now cells) ≡ 448)
-        × (columnsOf (now cells) ≡ replicate 64 pastColumn) × Indexed (now starts) (now counts) (now p) (now index) ⌝ }
+        × (columnsOf (now cells) ≡ replicate 64 pastColumn) × Indexed (now told) (now p) (now index) ⌝ }
     requires { ⌜ Room n (now order) (now kept) (now lefts) (now rights) (now equals) ⌝ }
-    requires { ⌜ ((i : ℕ) → i < n → ToldConjunct (conjuncts (now kinds) (now values) (now starts) (now counts) (now p)) i
+    requires { ⌜ ((i : ℕ) → i < n → ToldConjunct (conjuncts (now told) (now p)) i
         (classify (aexprOf (now rs) (now p)) (getD (now nodes) i 0))) ⌝ }
     requires { ⌜ ((i : ℕ) → i < n → ColumnsBelow 64 (classify (aexprOf (now rs) (now p)) (getD (now nodes) i 0))) ⌝ }
     ensures { λ r. ⌜ Concluded (linedTo (aexprOf (now (rs .entry)) (now (p .entry))) (now (nodes .entry)) n)
-        (shown (conjuncts (now (kinds .entry)) (now (values .entry)) (now (starts .entry)) (now (counts .entry))
+        (shown (conjuncts (now (told .entry))
         (now (p .entry))) (columnsOf (now (cells .exit))) (now (marks .exit))) (now (order .exit)) (now (kept .exit))
         (r .unsat) (r .unchanged) (r .columns) (r .keeps) (r .total) ⌝ }
     ensures { λ r. ⌜ r .passes ≡ mergePasses payload (map (classify (aexprOf (now (rs .entry)) (now (p .entry))))
@@ -91,10 +88,7 @@ pub fn merge_columns(
         p,
         nodes,
         n,
-        kinds,
-        values,
-        starts,
-        counts,
+        told,
         cells,
         marks,
         order,
@@ -108,10 +102,7 @@ pub fn merge_columns(
     }
     let m = propagate_equalities(
         index,
-        kinds,
-        values,
-        starts,
-        counts,
+        told,
         p,
         cells,
         marks,
@@ -121,18 +112,7 @@ pub fn merge_columns(
         s.columns,
     );
     let k = keep_equalities(cells, lefts, equals, s.edges, kept, s.keeps);
-    let r = resolve_all(
-        index,
-        kinds,
-        values,
-        starts,
-        counts,
-        p,
-        cells,
-        marks,
-        order,
-        s.columns,
-    );
+    let r = resolve_all(index, told, p, cells, marks, order, s.columns);
     MergedColumns {
         unsat: r.unsat,
         unchanged: !((r.total < s.bounds) | (s.normalized | (m.emitted | k.dropped))),

@@ -5,7 +5,7 @@ ghost use Prim.Native.Nat.{ℕ, _<_, _≤_};
 ghost use lib.ListN.{length, getD};
 ghost use Rattle.truth.specs.FromBytes.{aexprOf};
 ghost use Rattle.constraints.specs.Payload.{payload};
-ghost use Rattle.column_constraints.specs.Abstraction.{conjuncts};
+ghost use Rattle.column_constraints.specs.Abstraction.{conjuncts, kindsIn, valuesIn};
 ghost use Rattle.column_sets.specs.Index.{Indexed};
 ghost use Rattle.merge.specs.Classify.{classify};
 ghost use Rattle.merge.specs.Passes.{mergePasses};
@@ -18,6 +18,7 @@ ghost use Rattle.filter_constraint.specs.Merges.{Converted, Counts, Merg
 ghost use Rattle.filter_constraint.specs.Room.{Room};
 use crate::merged::merge_columns;
 use crate::rebuild::rebuild;
+use column_table::words::CELLS;
 use merge::answer::RewriteAnswer;
 use merge::answer::Rewriting;
 use reckoning::reckon::nothing_passes;
@@ -47,11 +48,12 @@ fn put_literals(t: &[u8], own: &[u8], nodes: &[u32], cells: &mut [u64])
     to_literals(t, own, nodes, cells);
 }
 
-/// The first n of `nodes` are the screen's conjuncts; kinds, values, starts and counts are their tables, `trees` the
+/// The first n of `nodes` are the screen's conjuncts; `told` is what they say, `trees` the
 /// tree counts of the records up to the root. `index` is the index of the lists, or has none. `marks` has room
 /// for the columns' numbers: 64 rows, n of them in each. `order` has room for two columns a conjunct, `kept`, `lefts`,
 /// `rights` and `equals` for the conjuncts. Of a screen with symbols `rs` and `p` are the screen of ranks, `own` the records
-/// sent and `text` the text pool; of one without, both are empty. `bits` are the literals that are written.
+/// sent and `text` the text pool; of one without, both are empty. `bits` is `told`
+/// with the literals that are written.
 pub fn merge_filter_constraints(
     t: &[u8],
     rs: &mut [u8],
@@ -60,10 +62,7 @@ pub fn merge_filter_constraints(
     trees: &[u16],
     nodes: &[u32],
     n: usize,
-    kinds: &[u8],
-    values: &[u64],
-    starts: &[u32],
-    counts: &[u32],
+    told: &[u64],
     index: &[u64],
     marks: &mut [u8],
     order: &mut [u32],
@@ -77,30 +76,28 @@ pub fn merge_filter_constraints(
     reasons: &mut [u8],
 ) -> Rewriting
     requires { ⌜ (n ≤ stride (now marks)) × (stride (now marks) ≤ 128) × (used ≤ 4096) × (n ≤ length (now nodes))
-        × Indexed (now starts) (now counts) (now p) (now index) ⌝ }
+        × Indexed (now told) (now p) (now index) ⌝ }
     requires { ⌜ Room n (now order) (now kept) (now lefts) (now rights) (now equals) ⌝ }
-    requires { ⌜ ((i : ℕ) → i < n → ToldConjunct (conjuncts (now kinds) (now values) (now starts) (now counts) (now p)) i
+    requires { ⌜ ((i : ℕ) → i < n → ToldConjunct (conjuncts (now told) (now p)) i
         (classify (aexprOf (now rs) (now p)) (getD (now nodes) i 0))) ⌝ }
     requires { ⌜ ((i : ℕ) → i < n → ColumnsBelow 64 (classify (aexprOf (now rs) (now p)) (getD (now nodes) i 0))) ⌝ }
     requires { ⌜ Counts (linedTo (aexprOf (now rs) (now p)) (now nodes) n)
-        (conjuncts (now kinds) (now values) (now starts) (now counts) (now p)) (now t) (now own) (now nodes) (now bits) ⌝ }
+        (conjuncts (now told) (now p)) (now t) (now own) (now nodes) (valuesIn (now bits)) ⌝ }
+    requires { ⌜ kindsIn (now bits) ≡ kindsIn (now told) ⌝ }
     ensures { λ r. ⌜ Merges (linedTo (aexprOf (now (rs .entry)) (now (p .entry))) (now (nodes .entry)) n)
-        (conjuncts (now (kinds .entry)) (now (values .entry)) (now (starts .entry)) (now (counts .entry)) (now (p .entry)))
-        (now (t .entry)) (now (rs .entry)) (now (trees .entry)) (now (nodes .entry)) (now (bits .entry)) (now (own .entry))
+        (conjuncts (now (told .entry)) (now (p .entry)))
+        (now (t .entry)) (now (rs .entry)) (now (trees .entry)) (now (nodes .entry)) (valuesIn (now (bits .entry))) (now (own .entry))
         (now (text .entry)) (now (reasons .entry)) used r (now (rs .exit)) (now (reasons .exit)) ⌝ }
     ensures { λ r. ⌜ r .passes ≡ mergePasses payload (map (classify (aexprOf (now (rs .entry)) (now (p .entry))))
         (firstOf (now (nodes .entry)) n)) ⌝ }
 {
-    let mut cells = [0u64; 448];
+    let mut cells = [0u64; CELLS];
     let m = merge_columns(
         rs,
         p,
         nodes,
         n,
-        kinds,
-        values,
-        starts,
-        counts,
+        told,
         index,
         &mut cells,
         marks,
@@ -122,7 +119,6 @@ pub fn merge_filter_constraints(
         rs,
         used,
         trees,
-        kinds,
         bits,
         &cells,
         marks,

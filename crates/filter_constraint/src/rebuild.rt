@@ -4,6 +4,7 @@ ghost use Prim.Native.Nat.{ℕ, _<_, _≤_};
 ghost use lib.ListN.{length, getD};
 ghost use Rattle.constraints.specs.Lined.{lined};
 ghost use Rattle.column_constraints.specs.Abstraction.{Conjuncts};
+ghost use Rattle.column_constraints.specs.Abstraction.{kindsIn, valuesIn};
 ghost use Rattle.column_reasons.specs.ColumnText.{tableText};
 ghost use Rattle.merge.specs.Emit.{Rebuilt, comparisons};
 ghost use Rattle.merge.specs.Reasons.{shownIn};
@@ -35,8 +36,7 @@ pub fn rebuild(
     rs: &mut [u8],
     used: u32,
     trees: &[u16],
-    kinds: &[u8],
-    values: &[u64],
+    told: &[u64],
     cells: &[u64],
     marks: &[u8],
     order: &[u32],
@@ -50,21 +50,21 @@ pub fn rebuild(
     requires { ⌜ Fits (now cells) (now marks) × (columns ≤ length (now order)) × (columns ≤ 256) × (keeps ≤ length (now kept))
         × (keeps ≤ 256) × (used ≤ 4096) × (total ≤ 100000) × (0 < total) ⌝ }
     requires { ⌜ ((o : ℕ) → o < columns → getD (now order) o 0 < 64) ⌝ }
-    requires { ⌜ ((s : Conjuncts) → s .kinds ≡ now kinds → s .values ≡ now values →
+    requires { ⌜ ((s : Conjuncts) → s .kinds ≡ kindsIn (now told) → s .values ≡ valuesIn (now told) →
         total ≡ length (comparisons lined (firstOf (now order) columns) (shown s (columnsOf (now cells)) (now marks)))) ⌝ }
-    ensures { λ r. ⌜ ((s : Conjuncts) → s .kinds ≡ now (kinds .entry) → s .values ≡ now (values .entry) →
+    ensures { λ r. ⌜ ((s : Conjuncts) → s .kinds ≡ kindsIn (now (told .entry)) → s .values ≡ valuesIn (now (told .entry)) →
         r .answer ≡ refuseLong (length (tableText (shownIn (now (t .entry)) (now (text .entry))) (firstOf (now (order .entry)) columns)
         (shown s (columnsOf (now (cells .entry))) (now (marks .entry))))) (length (now (reasons .entry)))
         (reckoned (length (now (rs .entry))) (now (trees .entry)) used (firstOf (now (kept .entry)) keeps) total)) ⌝ }
-    ensures { λ r. ⌜ ((s : Conjuncts) → s .kinds ≡ now (kinds .entry) → s .values ≡ now (values .entry) →
+    ensures { λ r. ⌜ ((s : Conjuncts) → s .kinds ≡ kindsIn (now (told .entry)) → s .values ≡ valuesIn (now (told .entry)) →
         now (rs .exit) ≡ writtenIf (r .answer) (now (rs .entry)) (outcomeBytes (now (t .entry)) (now (rs .entry)) used
         (Rebuilt (firstOf (now (kept .entry)) keeps) (bitsOf (comparisons lined (firstOf (now (order .entry)) columns)
         (shown s (columnsOf (now (cells .entry))) (now (marks .entry)))))))) ⌝ }
-    ensures { λ r. ⌜ ((s : Conjuncts) → s .kinds ≡ now (kinds .entry) → s .values ≡ now (values .entry) →
+    ensures { λ r. ⌜ ((s : Conjuncts) → s .kinds ≡ kindsIn (now (told .entry)) → s .values ≡ valuesIn (now (told .entry)) →
         now (reasons .exit) ≡ textIf (r .answer) (now (reasons .entry))
         (tableText (shownIn (now (t .entry)) (now (text .entry))) (firstOf (now (order .entry)) columns)
         (shown s (columnsOf (now (cells .entry))) (now (marks .entry))))) ⌝ }
-    ensures { λ r. ⌜ ((s : Conjuncts) → s .kinds ≡ now (kinds .entry) → s .values ≡ now (values .entry) →
+    ensures { λ r. ⌜ ((s : Conjuncts) → s .kinds ≡ kindsIn (now (told .entry)) → s .values ≡ valuesIn (now (told .entry)) →
         r .length ≡ lengthIf (r .answer) (tableText (shownIn (now (t .entry)) (now (text .entry)))
         (firstOf (now (order .entry)) columns)
         (shown s (columnsOf (now (cells .entry))) (now (marks .entry))))) ⌝ }
@@ -76,26 +76,16 @@ pub fn rebuild(
             length: 0,
         };
     }
-    let length = reasons_length(t, kinds, values, cells, marks, order, columns);
+    let length = reasons_length(t, told, cells, marks, order, columns);
     if reasons.len() < length {
         return Rebuilding {
             answer: RewriteAnswer::Refused(16),
             length: 0,
         };
     }
-    let u = write_comparisons(t, rs, used, kinds, values, cells, marks, order, columns);
+    let u = write_comparisons(t, rs, used, told, cells, marks, order, columns);
     write_ands(rs, kept, keeps, used, keeps + total, u);
-    write_reasons(
-        reasons,
-        t,
-        text,
-        kinds,
-        values,
-        cells,
-        marks,
-        order,
-        columns,
-    );
+    write_reasons(reasons, t, text, told, cells, marks, order, columns);
     Rebuilding {
         answer: answer,
         length: length,

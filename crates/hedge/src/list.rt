@@ -18,6 +18,9 @@ ghost use Rattle.chain_rows.specs.Classes.{Judged};
 use chain_rows::judge::judge_rows;
 use checking::check::CheckAnswer;
 use checking::check::check_counted;
+use limits::FEW_RECORDS;
+use limits::RECORDS;
+use limits::ROWS;
 use records::record::Node;
 use row_list::count_class;
 use row_list::write_list;
@@ -161,10 +164,10 @@ pub fn hedge_list(
     ensures { λ _. ⌜ now (list .exit) ≡ hedgeBytes (now (table .entry)) (now (records .entry)) (now (pool .entry)) used root
         (now (values .entry)) (now (nulls .entry)) (now (list .entry)) tally ⌝ }
 {
-    let mut classes = [0u8; 1024];
+    let mut classes = [0u8; ROWS];
     if used <= 64 {
-        let mut few = [0u8; 64];
-        let mut small = [0u16; 64];
+        let mut few = [0u8; FEW_RECORDS];
+        let mut small = [0u16; FEW_RECORDS];
         let first = check_counted(table, records, pool, used, root, &mut few, &mut small);
         return list_answered(
             first,
@@ -181,8 +184,8 @@ pub fn hedge_list(
             &mut classes,
         );
     }
-    let mut types = [0u8; 4096];
-    let mut trees = [0u16; 4096];
+    let mut types = [0u8; RECORDS];
+    let mut trees = [0u16; RECORDS];
     let answer = check_counted(table, records, pool, used, root, &mut types, &mut trees);
     list_answered(
         answer,

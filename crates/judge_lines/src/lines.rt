@@ -23,16 +23,13 @@ fn first_line(
     p: &[u8],
     nodes: &mut [u32],
     n: usize,
-    kinds: &[u8],
-    values: &[u64],
-    starts: &[u32],
-    counts: &[u32],
+    told: &[u64],
     index: &[u64],
     marks: &mut [u8],
 ) -> usize
     requires { ⌜ (n ≤ stride (now marks)) × (stride (now marks) ≤ 128) × (n ≤ length (now nodes))
-        × Indexed (now starts) (now counts) (now p) (now index) ⌝ }
-    requires { ⌜ ((i : ℕ) → i < n → ToldConjunct (conjuncts (now kinds) (now values) (now starts) (now counts) (now p)) i
+        × Indexed (now told) (now p) (now index) ⌝ }
+    requires { ⌜ ((i : ℕ) → i < n → ToldConjunct (conjuncts (now told) (now p)) i
         (c.classify (aexprOf (now rs) (now p)) (getD (now nodes) i 0))) ⌝ }
     requires { ⌜ ((i : ℕ) → i < n → ColumnsBelow 64 (c.classify (aexprOf (now rs) (now p)) (getD (now nodes) i 0))) ⌝ }
     requires { ⌜ c.classify (aexprOf (now rs) (now p)) 0 ≡ c.Opaque 0 ⌝ }
@@ -43,18 +40,7 @@ fn first_line(
     while i < n {
         let node = nodes[i];
         nodes[i] = 0;
-        let nothing = lets_nothing_pass(
-            rs,
-            p,
-            nodes,
-            n,
-            kinds,
-            values,
-            starts,
-            counts,
-            index,
-            marks,
-        );
+        let nothing = lets_nothing_pass(rs, p, nodes, n, told, index, marks);
         nodes[i] = node;
         if !nothing {
             return i;
@@ -70,25 +56,22 @@ pub fn judge_lines(
     p: &[u8],
     nodes: &mut [u32],
     n: usize,
-    kinds: &[u8],
-    values: &[u64],
-    starts: &[u32],
-    counts: &[u32],
+    told: &[u64],
     index: &[u64],
     marks: &mut [u8],
 ) -> WayAnswer
     requires { ⌜ (n ≤ stride (now marks)) × (stride (now marks) ≤ 128) × (n ≤ length (now nodes))
-        × Indexed (now starts) (now counts) (now p) (now index) ⌝ }
-    requires { ⌜ ((i : ℕ) → i < n → ToldConjunct (conjuncts (now kinds) (now values) (now starts) (now counts) (now p)) i
+        × Indexed (now told) (now p) (now index) ⌝ }
+    requires { ⌜ ((i : ℕ) → i < n → ToldConjunct (conjuncts (now told) (now p)) i
         (c.classify (aexprOf (now rs) (now p)) (getD (now nodes) i 0))) ⌝ }
     requires { ⌜ ((i : ℕ) → i < n → ColumnsBelow 64 (c.classify (aexprOf (now rs) (now p)) (getD (now nodes) i 0))) ⌝ }
     requires { ⌜ c.classify (aexprOf (now rs) (now p)) 0 ≡ c.Opaque 0 ⌝ }
     ensures { λ r. ⌜ r ≡ lineAnswer (aexprOf (now (rs .entry)) (now (p .entry))) (firstOf (now (nodes .entry)) n) ⌝ }
 {
-    if !lets_nothing_pass(rs, p, nodes, n, kinds, values, starts, counts, index, marks) {
+    if !lets_nothing_pass(rs, p, nodes, n, told, index, marks) {
         return WayAnswer::Passes;
     }
-    let i = first_line(rs, p, nodes, n, kinds, values, starts, counts, index, marks);
+    let i = first_line(rs, p, nodes, n, told, index, marks);
     if i < n {
         return WayAnswer::Line(i as u64);
     }

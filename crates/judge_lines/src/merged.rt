@@ -13,26 +13,23 @@ ghost use Rattle.column_table.specs.Rows.{stride};
 ghost use Rattle.judge_lines.specs.Lines.{nothingPasses};
 use contradiction::contradict;
 
-/// The first n of `nodes` are the lines; kinds, values, starts and counts are their tables, `index` is the index of the lists or
+/// The first n of `nodes` are the lines; `told` is what they say, `index` is the index of the lists or
 /// has none, `marks` has room for the columns' numbers.
 pub fn lets_nothing_pass(
     rs: &[u8],
     p: &[u8],
     nodes: &[u32],
     n: usize,
-    kinds: &[u8],
-    values: &[u64],
-    starts: &[u32],
-    counts: &[u32],
+    told: &[u64],
     index: &[u64],
     marks: &mut [u8],
 ) -> bool
     requires { ⌜ (n ≤ stride (now marks)) × (stride (now marks) ≤ 128) × (n ≤ length (now nodes))
-        × Indexed (now starts) (now counts) (now p) (now index) ⌝ }
-    requires { ⌜ ((i : ℕ) → i < n → ToldConjunct (conjuncts (now kinds) (now values) (now starts) (now counts) (now p)) i
+        × Indexed (now told) (now p) (now index) ⌝ }
+    requires { ⌜ ((i : ℕ) → i < n → ToldConjunct (conjuncts (now told) (now p)) i
         (classify (aexprOf (now rs) (now p)) (getD (now nodes) i 0))) ⌝ }
     requires { ⌜ ((i : ℕ) → i < n → ColumnsBelow 64 (classify (aexprOf (now rs) (now p)) (getD (now nodes) i 0))) ⌝ }
     ensures { λ r. ⌜ r ≡ nothingPasses (aexprOf (now (rs .entry)) (now (p .entry))) (firstOf (now (nodes .entry)) n) ⌝ }
 {
-    contradict(rs, p, nodes, n, kinds, values, starts, counts, index, marks)
+    contradict(rs, p, nodes, n, told, index, marks)
 }

@@ -16,8 +16,6 @@ ghost use Rattle.truth.specs.Halves.{key, biasOf};
 ghost use Rattle.masks.specs.Masks.{inverse, maskTo, Tells, Shown};
 
 pub mod block;
-pub mod compare;
-pub mod literal;
 pub mod reach;
 
 /// Bit i of `truths`: true of row i. Bit i of `unknowns`: unknown of row i. Neither: false.

@@ -22,6 +22,9 @@ ghost use Rattle.merge_conjuncts.specs.Merged.{MergedNodes};
 use far_lists::far::travels_far;
 use filter_constraint::indexed::merge_indexed;
 use filter_constraint::merging::merge_filter_constraints;
+use limits::COLUMNS;
+use limits::CONJUNCTS;
+use limits::FEW_CONJUNCTS;
 use merge::answer::Rewriting;
 use records::record::Node;
 use rewrite::literals::read_literals;
@@ -36,10 +39,7 @@ fn merge_few_read(
     trees: &[u16],
     nodes: &[u32],
     n: usize,
-    kinds: &[u8],
-    values: &[u64],
-    starts: &[u32],
-    counts: &[u32],
+    told: &[u64],
     marks: &mut [u8],
     order: &mut [u32],
     kept: &mut [u32],
@@ -50,14 +50,14 @@ fn merge_few_read(
 ) -> Rewriting
     requires { ⌜ (n ≤ stride (now marks)) × (stride (now marks) ≤ 128) × (used ≤ 4096) × (n ≤ length (now nodes)) ⌝ }
     requires { ⌜ Room n (now order) (now kept) (now lefts) (now rights) (now equals) ⌝ }
-    requires { ⌜ ((i : ℕ) → i < n → ToldConjunct (conjuncts (now kinds) (now values) (now starts) (now counts) (now p)) i
+    requires { ⌜ ((i : ℕ) → i < n → ToldConjunct (conjuncts (now told) (now p)) i
         (classify (aexprOf (now rs) (now p)) (getD (now nodes) i 0))) ⌝ }
     requires { ⌜ ((i : ℕ) → i < n → ColumnsBelow 64 (classify (aexprOf (now rs) (now p)) (getD (now nodes) i 0))) ⌝ }
     ensures { λ r. ⌜ MergedNodes (now (t .entry)) (now (rs .entry)) (now (p .entry)) used (now (trees .entry))
         (now (nodes .entry)) n (now (reasons .entry)) r (now (rs .exit)) (now (reasons .exit)) ⌝ }
 {
     let empty = [0u8; 0];
-    if travels_far(rs, nodes, n, starts, counts) {
+    if travels_far(rs, nodes, n, told) {
         return merge_indexed(
             t,
             rs,
@@ -66,17 +66,14 @@ fn merge_few_read(
             trees,
             nodes,
             n,
-            kinds,
-            values,
-            starts,
-            counts,
+            told,
             marks,
             order,
             kept,
             lefts,
             rights,
             equals,
-            values,
+            told,
             &empty,
             &empty,
             reasons,
@@ -91,10 +88,7 @@ fn merge_few_read(
         trees,
         nodes,
         n,
-        kinds,
-        values,
-        starts,
-        counts,
+        told,
         &none,
         marks,
         order,
@@ -102,7 +96,7 @@ fn merge_few_read(
         lefts,
         rights,
         equals,
-        values,
+        told,
         &empty,
         &empty,
         reasons,
@@ -137,25 +131,14 @@ pub fn merge_few(
         (explainedText (now (rs .entry)) (now (p .entry)) used (root .0)) ⌝ }
     ensures length { λ r. ⌜ r .length ≡ lengthIf (r .answer) (explainedText (now (rs .entry)) (now (p .entry)) used (root .0)) ⌝ }
 {
-    let mut kinds = [0u8; 16];
-    let mut values = [0u64; 16];
-    let mut starts = [0u32; 16];
-    let mut counts = [0u32; 16];
-    let mut marks = [0u8; 1024];
-    let mut order = [0u32; 32];
-    let mut kept = [0u32; 16];
-    let mut lefts = [0u32; 16];
-    let mut rights = [0u32; 16];
-    let mut equals = [0u32; 16];
-    read_literals(
-        rs,
-        nodes,
-        n,
-        &mut kinds,
-        &mut values,
-        &mut starts,
-        &mut counts,
-    );
+    let mut told = [0u64; 2 * FEW_CONJUNCTS];
+    let mut marks = [0u8; COLUMNS * FEW_CONJUNCTS];
+    let mut order = [0u32; 2 * FEW_CONJUNCTS];
+    let mut kept = [0u32; FEW_CONJUNCTS];
+    let mut lefts = [0u32; FEW_CONJUNCTS];
+    let mut rights = [0u32; FEW_CONJUNCTS];
+    let mut equals = [0u32; FEW_CONJUNCTS];
+    read_literals(rs, nodes, n, &mut told);
     merge_few_read(
         t,
         rs,
@@ -164,10 +147,7 @@ pub fn merge_few(
         trees,
         nodes,
         n,
-        &kinds,
-        &values,
-        &starts,
-        &counts,
+        &told,
         &mut marks,
         &mut order,
         &mut kept,
@@ -187,10 +167,7 @@ fn merge_many_read(
     trees: &[u16],
     nodes: &[u32],
     n: usize,
-    kinds: &[u8],
-    values: &[u64],
-    starts: &[u32],
-    counts: &[u32],
+    told: &[u64],
     marks: &mut [u8],
     order: &mut [u32],
     kept: &mut [u32],
@@ -201,14 +178,14 @@ fn merge_many_read(
 ) -> Rewriting
     requires { ⌜ (n ≤ stride (now marks)) × (stride (now marks) ≤ 128) × (used ≤ 4096) × (n ≤ length (now nodes)) ⌝ }
     requires { ⌜ Room n (now order) (now kept) (now lefts) (now rights) (now equals) ⌝ }
-    requires { ⌜ ((i : ℕ) → i < n → ToldConjunct (conjuncts (now kinds) (now values) (now starts) (now counts) (now p)) i
+    requires { ⌜ ((i : ℕ) → i < n → ToldConjunct (conjuncts (now told) (now p)) i
         (classify (aexprOf (now rs) (now p)) (getD (now nodes) i 0))) ⌝ }
     requires { ⌜ ((i : ℕ) → i < n → ColumnsBelow 64 (classify (aexprOf (now rs) (now p)) (getD (now nodes) i 0))) ⌝ }
     ensures { λ r. ⌜ MergedNodes (now (t .entry)) (now (rs .entry)) (now (p .entry)) used (now (trees .entry))
         (now (nodes .entry)) n (now (reasons .entry)) r (now (rs .exit)) (now (reasons .exit)) ⌝ }
 {
     let empty = [0u8; 0];
-    if travels_far(rs, nodes, n, starts, counts) {
+    if travels_far(rs, nodes, n, told) {
         return merge_indexed(
             t,
             rs,
@@ -217,17 +194,14 @@ fn merge_many_read(
             trees,
             nodes,
             n,
-            kinds,
-            values,
-            starts,
-            counts,
+            told,
             marks,
             order,
             kept,
             lefts,
             rights,
             equals,
-            values,
+            told,
             &empty,
             &empty,
             reasons,
@@ -242,10 +216,7 @@ fn merge_many_read(
         trees,
         nodes,
         n,
-        kinds,
-        values,
-        starts,
-        counts,
+        told,
         &none,
         marks,
         order,
@@ -253,7 +224,7 @@ fn merge_many_read(
         lefts,
         rights,
         equals,
-        values,
+        told,
         &empty,
         &empty,
         reasons,
@@ -286,25 +257,14 @@ pub fn merge_many(
         (explainedText (now (rs .entry)) (now (p .entry)) used (root .0)) ⌝ }
     ensures length { λ r. ⌜ r .length ≡ lengthIf (r .answer) (explainedText (now (rs .entry)) (now (p .entry)) used (root .0)) ⌝ }
 {
-    let mut kinds = [0u8; 128];
-    let mut values = [0u64; 128];
-    let mut starts = [0u32; 128];
-    let mut counts = [0u32; 128];
-    let mut marks = [0u8; 8192];
-    let mut order = [0u32; 256];
-    let mut kept = [0u32; 128];
-    let mut lefts = [0u32; 128];
-    let mut rights = [0u32; 128];
-    let mut equals = [0u32; 128];
-    read_literals(
-        rs,
-        nodes,
-        n,
-        &mut kinds,
-        &mut values,
-        &mut starts,
-        &mut counts,
-    );
+    let mut told = [0u64; 2 * CONJUNCTS];
+    let mut marks = [0u8; COLUMNS * CONJUNCTS];
+    let mut order = [0u32; 2 * CONJUNCTS];
+    let mut kept = [0u32; CONJUNCTS];
+    let mut lefts = [0u32; CONJUNCTS];
+    let mut rights = [0u32; CONJUNCTS];
+    let mut equals = [0u32; CONJUNCTS];
+    read_literals(rs, nodes, n, &mut told);
     merge_many_read(
         t,
         rs,
@@ -313,10 +273,7 @@ pub fn merge_many(
         trees,
         nodes,
         n,
-        &kinds,
-        &values,
-        &starts,
-        &counts,
+        &told,
         &mut marks,
         &mut order,
         &mut kept,

@@ -6,6 +6,7 @@ ghost use Prim.Native.Nat.{_≤_};
 ghost use lib.ListN.{length};
 ghost use Rattle.read_operands.specs.Walk.{walked, stackOf, InputsBelow};
 ghost use Rattle.next_minterm.specs.Iter.{stackIn, Next, Taken};
+use limits::CONJUNCTS;
 use read_operands::minterms::Sides;
 use read_operands::minterms::sides_at;
 use records::record::Node;
@@ -75,7 +76,7 @@ pub struct Stack {
 pub fn rooted(root: Node) -> Stack
     ensures { λ r. ⌜ (stackIn r ≡ (root .0 ∷ [])) × (r .len ≤ 128) ⌝ }
 {
-    let mut nodes = [0u32; 128];
+    let mut nodes = [0u32; CONJUNCTS];
     nodes[0] = root.0;
     Stack {
         nodes: nodes,

@@ -9,6 +9,8 @@ ghost use Rattle.checking.specs.declared.check.CheckAnswer.the-variants as chec
 ghost use Rattle.plain_lines.specs.Refusal.{plainRefusal, refusalIn, LinesIn};
 use checking::check::CheckAnswer;
 use checking::check::check_counted;
+use limits::FEW_RECORDS;
+use limits::RECORDS;
 use minterm_iter::minterms;
 use plain::is_plain;
 use records::record::Node;
@@ -108,11 +110,11 @@ pub fn plain_lines(
     ensures lines { λ r. ⌜ LinesIn (now (rs .entry)) root (now (nodes .exit)) r ⌝ }
 {
     if used <= 64 {
-        let mut few = [0u8; 64];
-        let mut small = [0u16; 64];
+        let mut few = [0u8; FEW_RECORDS];
+        let mut small = [0u16; FEW_RECORDS];
         return lines_within(t, rs, p, used, root, &mut few, &mut small, nodes);
     }
-    let mut types = [0u8; 4096];
-    let mut trees = [0u16; 4096];
+    let mut types = [0u8; RECORDS];
+    let mut trees = [0u16; RECORDS];
     lines_within(t, rs, p, used, root, &mut types, &mut trees, nodes)
 }

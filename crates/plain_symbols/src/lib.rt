@@ -16,6 +16,7 @@ ghost use Rattle.plain_symbols.specs.Refusal.{refusalNumber, plainRefusa
 use check_lent::check_lent;
 use checking::check::CheckAnswer;
 use checking::reads::columns_word;
+use limits::CONJUNCTS;
 use numbered_screen::number_records;
 use numbered_screen::number_table;
 use plain_lines::PlainLines;
@@ -69,7 +70,7 @@ fn numbers_refusal(
     requires accepted { ⌜ Checked (now table) (now records) (now p) used root ⌝ }
     ensures { λ k. ⌜ k ≡ refusalNumber (checkedRefusal (now (t .entry)) (now (rs .entry)) (now (p .entry)) used root) ⌝ }
 {
-    let mut nodes = [0u32; 128];
+    let mut nodes = [0u32; CONJUNCTS];
     match plain_lines(table, records, p, used, root, &mut nodes) {
         PlainLines::Refused(k) => k,
         PlainLines::Lines(_) => {

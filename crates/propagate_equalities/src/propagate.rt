@@ -41,10 +41,7 @@ pub struct Propagated {
 // bytes between a bound's tag and its value, as two words that overlap, and loading these waits for both to be stored.
 fn take_in(
     index: &[u64],
-    kinds: &[u8],
-    values: &[u64],
-    starts: &[u32],
-    counts: &[u32],
+    told: &[u64],
     pool: &[u8],
     cells: &mut [u64],
     marks: &mut [u8],
@@ -52,28 +49,15 @@ fn take_in(
     y: usize,
 ) -> Moved
     requires { ⌜ Fits (now cells) (now marks) × (x < 64) × (y < 64)
-        × Indexed (now starts) (now counts) (now pool) (now index) ⌝ }
-    ensures { λ r. ⌜ (let t = conjuncts (now (kinds .entry)) (now (values .entry)) (now (starts .entry))
-        (now (counts .entry)) (now (pool .entry)) in (T : ColumnTable) →
+        × Indexed (now told) (now pool) (now index) ⌝ }
+    ensures { λ r. ⌜ (let t = conjuncts (now (told .entry)) (now (pool .entry)) in (T : ColumnTable) →
         Shows t (columnsOf (now (cells .entry))) (now (marks .entry)) T →
         TakenIn t (columnsOf (now (cells .exit))) (now (marks .exit)) x y (r .emitted) (r .any) T) ⌝ }
     ensures { λ _. ⌜ Fits (now (cells .exit)) (now (marks .exit)) ⌝ }
 {
     let c = load(cells, x);
     let d = load(cells, y);
-    let m = merge_rows(
-        index,
-        kinds,
-        values,
-        starts,
-        counts,
-        pool,
-        marks,
-        x,
-        c,
-        y,
-        d,
-    );
+    let m = merge_rows(index, told, pool, marks, x, c, y, d);
     let f = m.column;
     store(cells, x, f);
     Moved {
@@ -85,10 +69,7 @@ fn take_in(
 /// The right column takes in what the left says, then the left what the right now says.
 pub fn merge_edge(
     index: &[u64],
-    kinds: &[u8],
-    values: &[u64],
-    starts: &[u32],
-    counts: &[u32],
+    told: &[u64],
     pool: &[u8],
     cells: &mut [u64],
     marks: &mut [u8],
@@ -96,9 +77,8 @@ pub fn merge_edge(
     b: Column,
 ) -> Moved
     requires { ⌜ Fits (now cells) (now marks) × (a .0 < 64) × (b .0 < 64)
-        × Indexed (now starts) (now counts) (now pool) (now index) ⌝ }
-    ensures { λ r. ⌜ (let t = conjuncts (now (kinds .entry)) (now (values .entry)) (now (starts .entry))
-        (now (counts .entry)) (now (pool .entry)) in (T : ColumnTable) →
+        × Indexed (now told) (now pool) (now index) ⌝ }
+    ensures { λ r. ⌜ (let t = conjuncts (now (told .entry)) (now (pool .entry)) in (T : ColumnTable) →
         Shows t (columnsOf (now (cells .entry))) (now (marks .entry)) T →
         EdgeMerged t (columnsOf (now (cells .exit))) (now (marks .exit)) (a .0) (b .0) (r .emitted) (r .any) T) ⌝ }
     ensures { λ _. ⌜ Fits (now (cells .exit)) (now (marks .exit)) ⌝ }
@@ -111,30 +91,8 @@ pub fn merge_edge(
             any: false,
         };
     }
-    let right = take_in(
-        index,
-        kinds,
-        values,
-        starts,
-        counts,
-        pool,
-        cells,
-        marks,
-        y,
-        x,
-    );
-    let left = take_in(
-        index,
-        kinds,
-        values,
-        starts,
-        counts,
-        pool,
-        cells,
-        marks,
-        x,
-        y,
-    );
+    let right = take_in(index, told, pool, cells, marks, y, x);
+    let left = take_in(index, told, pool, cells, marks, x, y);
     Moved {
         emitted: right.emitted | left.emitted,
         any: right.any | left.any,
@@ -167,10 +125,7 @@ fn is_impossible(cells: &[u64], a: Column) -> bool
 /// impossible is noted as one that changed, whatever the merge says of it.
 fn sweep_edge(
     index: &[u64],
-    kinds: &[u8],
-    values: &[u64],
-    starts: &[u32],
-    counts: &[u32],
+    told: &[u64],
     pool: &[u8],
     cells: &mut [u64],
     marks: &mut [u8],
@@ -179,16 +134,14 @@ fn sweep_edge(
     changed: u64,
 ) -> Swept
     requires { ⌜ Fits (now cells) (now marks) × (a .0 < 64) × (b .0 < 64)
-        × Indexed (now starts) (now counts) (now pool) (now index) ⌝ }
-    requires { ⌜ (let t = conjuncts (now kinds) (now values) (now starts) (now counts) (now pool) in
+        × Indexed (now told) (now pool) (now index) ⌝ }
+    requires { ⌜ (let t = conjuncts (now told) (now pool) in
         QuietUnless (shown t (columnsOf (now cells)) (now marks)) changed (a .0) (b .0)) ⌝ }
-    ensures { λ r. ⌜ (let t = conjuncts (now (kinds .entry)) (now (values .entry)) (now (starts .entry))
-        (now (counts .entry)) (now (pool .entry)) in (T : ColumnTable) →
+    ensures { λ r. ⌜ (let t = conjuncts (now (told .entry)) (now (pool .entry)) in (T : ColumnTable) →
         Shows t (columnsOf (now (cells .entry))) (now (marks .entry)) T →
         EdgeMerged t (columnsOf (now (cells .exit))) (now (marks .exit)) (a .0) (b .0) (r .emitted) (r .any) T) ⌝ }
     ensures { λ _. ⌜ Fits (now (cells .exit)) (now (marks .exit)) ⌝ }
-    ensures { λ r. ⌜ (let t = conjuncts (now (kinds .entry)) (now (values .entry)) (now (starts .entry))
-        (now (counts .entry)) (now (pool .entry)) in
+    ensures { λ r. ⌜ (let t = conjuncts (now (told .entry)) (now (pool .entry)) in
         Noted (shown t (columnsOf (now (cells .entry))) (now (marks .entry)))
         (shown t (columnsOf (now (cells .exit))) (now (marks .exit))) (a .0) (b .0) (r .word)) ⌝ }
 {
@@ -201,18 +154,7 @@ fn sweep_edge(
             word: 0,
         };
     }
-    let m = merge_edge(
-        index,
-        kinds,
-        values,
-        starts,
-        counts,
-        pool,
-        cells,
-        marks,
-        a,
-        b,
-    );
+    let m = merge_edge(index, told, pool, cells, marks, a, b);
     let impossible = is_impossible(cells, a) | is_impossible(cells, b);
     if m.any | impossible {
         return Swept {
@@ -231,10 +173,7 @@ fn sweep_edge(
 /// One pass over the equalities of the columns `lefts` and `rights`, after one that noted the columns `before`.
 pub fn propagate_pass(
     index: &[u64],
-    kinds: &[u8],
-    values: &[u64],
-    starts: &[u32],
-    counts: &[u32],
+    told: &[u64],
     pool: &[u8],
     cells: &mut [u64],
     marks: &mut [u8],
@@ -244,18 +183,16 @@ pub fn propagate_pass(
     before: u64,
 ) -> Swept
     requires { ⌜ Fits (now cells) (now marks) × (edges ≤ length (now lefts)) × (edges ≤ length (now rights))
-        × Indexed (now starts) (now counts) (now pool) (now index) ⌝ }
+        × Indexed (now told) (now pool) (now index) ⌝ }
     requires { ⌜ EdgesBelow (now lefts) (now rights) edges ⌝ }
-    requires { ⌜ (let t = conjuncts (now kinds) (now values) (now starts) (now counts) (now pool) in
+    requires { ⌜ (let t = conjuncts (now told) (now pool) in
         QuietEdges (shown t (columnsOf (now cells)) (now marks)) (now lefts) (now rights) edges before) ⌝ }
-    ensures { λ r. ⌜ (let t = conjuncts (now (kinds .entry)) (now (values .entry)) (now (starts .entry))
-        (now (counts .entry)) (now (pool .entry)) in (T : ColumnTable) (equals : List ℕ) →
+    ensures { λ r. ⌜ (let t = conjuncts (now (told .entry)) (now (pool .entry)) in (T : ColumnTable) (equals : List ℕ) →
         Shows t (columnsOf (now (cells .entry))) (now (marks .entry)) T →
         EdgesMerged t (columnsOf (now (cells .exit))) (now (marks .exit))
         (edgesOf (now (lefts .entry)) (now (rights .entry)) equals edges) (r .emitted) (r .any) T) ⌝ }
     ensures { λ _. ⌜ Fits (now (cells .exit)) (now (marks .exit)) ⌝ }
-    ensures { λ r. ⌜ (let t = conjuncts (now (kinds .entry)) (now (values .entry)) (now (starts .entry))
-        (now (counts .entry)) (now (pool .entry)) in
+    ensures { λ r. ⌜ (let t = conjuncts (now (told .entry)) (now (pool .entry)) in
         QuietEdges (shown t (columnsOf (now (cells .exit))) (now (marks .exit))) (now (lefts .entry)) (now (rights .entry))
         edges (r .word)) ⌝ }
 {
@@ -266,10 +203,7 @@ pub fn propagate_pass(
     while e < edges {
         let m = sweep_edge(
             index,
-            kinds,
-            values,
-            starts,
-            counts,
+            told,
             pool,
             cells,
             marks,
@@ -292,10 +226,7 @@ pub fn propagate_pass(
 /// Passes up to and with the first that changes nothing, at most as many as columns; none without equalities.
 pub fn propagate_equalities(
     index: &[u64],
-    kinds: &[u8],
-    values: &[u64],
-    starts: &[u32],
-    counts: &[u32],
+    told: &[u64],
     pool: &[u8],
     cells: &mut [u64],
     marks: &mut [u8],
@@ -305,10 +236,9 @@ pub fn propagate_equalities(
     columns: usize,
 ) -> Propagated
     requires { ⌜ Fits (now cells) (now marks) × (edges ≤ length (now lefts)) × (edges ≤ length (now rights))
-        × Indexed (now starts) (now counts) (now pool) (now index) ⌝ }
+        × Indexed (now told) (now pool) (now index) ⌝ }
     requires { ⌜ EdgesBelow (now lefts) (now rights) edges ⌝ }
-    ensures { λ r. ⌜ (let t = conjuncts (now (kinds .entry)) (now (values .entry)) (now (starts .entry))
-        (now (counts .entry)) (now (pool .entry)) in (T : ColumnTable) (equals : List ℕ) →
+    ensures { λ r. ⌜ (let t = conjuncts (now (told .entry)) (now (pool .entry)) in (T : ColumnTable) (equals : List ℕ) →
         Shows t (columnsOf (now (cells .entry))) (now (marks .entry)) T →
         Spread t (columnsOf (now (cells .exit))) (now (marks .exit))
         (edgesOf (now (lefts .entry)) (now (rights .entry)) equals edges) columns (r .emitted) (r .passes) T) ⌝ }
@@ -321,10 +251,7 @@ pub fn propagate_equalities(
     while (passes < columns) & going {
         let m = propagate_pass(
             index,
-            kinds,
-            values,
-            starts,
-            counts,
+            told,
             pool,
             cells,
             marks,

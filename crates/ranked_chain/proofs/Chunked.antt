@@ -13,8 +13,7 @@ use Rattle.truth.proofs.Keys.{lt-or-le}
 use Rattle.masks.specs.Block.{chainRow, chainTruth}
 use Rattle.chain_rows.specs.Classes.{truthClass, Classed, Evaluates}
 use Rattle.chain_rows.proofs.Rows.{row-end}
-use Rattle.symbol_rows.specs.RowTestWith.{rowFaultWith}
-use Rattle.row_ranks.specs.RowRanks.{RowRanks, FitRows, BlockRanks}
+use Rattle.row_ranks.specs.RowRanks.{RowRanks, BlockRanks}
 use Rattle.row_ranks.proofs.Rows.{back}
 use Rattle.ranked_chain.specs.Chunks.{EveryRow, RowTruths, ClassesOf}
 
@@ -101,16 +100,16 @@ module _ (l : List ℕ) (base count : ℕ) (ys : List ℕ) (room : base + count 
       ∙ getD-append-add (take base l) (ys ++ drop (base + count - base) (drop base l)) i 0
       ∙ List·getD-append ys (drop (base + count - base) (drop base l)) 0 i (omega (arith, e, h))
 
-module _ (text t S : List ℕ) (m : ℕ) (values nulls rs p : List ℕ) (root base count : ℕ) (block classes ys : List ℕ)
+module _ (t C values nulls rs p : List ℕ) (root base count : ℕ) (block classes ys : List ℕ)
     (inside : base + count ≤ length nulls) (long : length nulls ≤ length classes) (room : 8 * length t * count ≤ length block)
     (size : length ys ≡ length (take (base + count - base) (drop base classes)))
-    (told : BlockRanks text t S m values nulls base count block)
+    (told : BlockRanks t C values nulls base count block)
     (classed : Classed rs p (length t) (take (8 * length t * count) block) (take (base + count - base) (drop base nulls)) root ys
     (length (take (base + count - base) (drop base nulls)))) where
   as-long : length ys ≡ count
   as-long = size ∙ part-long classes base count (omega (arith, inside, long))
 
-  module _ (f : ℕ → Truth) (truths : RowTruths text t S m values nulls rs p root f) where
+  module _ (f : ℕ → Truth) (truths : RowTruths t C values nulls rs p root f) where
     class-new : (i : ℕ) → i < count → getD (back classes base (base + count - base) ys) (base + i) 0 ≡ truthClass (f (base + i))
     unfolding Classed chainTruth
     class-new i h =
@@ -120,7 +119,7 @@ module _ (text t S : List ℕ) (m : ℕ) (values nulls rs p : List ℕ) (root ba
         ∙ ap (λ n. truthClass (rowTruth rs p (chainRow (length t) (take (8 * length t * count) block) i) n root))
         (part-at nulls base count inside i h)
         ∙ ap truthClass (truths .truths (base + i) (omega (arith, inside, h)) _ (lent-row-long (length t) count block room i h)
-        (subst (λ row. RowRanks text t S m (chainRow (length t) values (base + i)) (getD nulls (base + i) 0) row)
+        (subst (λ row. RowRanks t C (chainRow (length t) values (base + i)) (getD nulls (base + i) 0) (length t) row)
         (sym (lent-row (length t) count block room i h)) (told .rows i h)))
 
     pub chunk-classes : ClassesOf f classes base → ClassesOf f (back classes base (base + count - base) ys) (base + count)
@@ -132,17 +131,6 @@ module _ (text t S : List ℕ) (m : ℕ) (values nulls rs p : List ℕ) (root ba
         subst (λ k. getD (back classes base (base + count - base) ys) k 0 ≡ truthClass (f k)) e
         (class-new (r - base) (omega (arith, l, h))))
         (lt-or-le r base)
-
--- ---- Rows of all.
-pub fit-part : (text t values nulls : List ℕ) (base count : ℕ) → FitRows text t values nulls 0 (length nulls)
-    → base + count ≤ length nulls → FitRows text t values nulls base count
-fit-part text t values nulls base count all inside =
-    record {
-      fits = λ i h.
-          let e : 0 + (base + i) ≡ base + i = omega arith in
-          subst (λ k. rowFaultWith text t (chainRow (length t) values k) (getD nulls k 0) ≡ 0) e
-          (all .fits (base + i) (omega (arith, h, inside)));
-    }
 
 pub classes-none : (f : ℕ → Truth) (classes : List ℕ) → ClassesOf f classes 0
 unfolding ClassesOf

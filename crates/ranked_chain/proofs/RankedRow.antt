@@ -1,4 +1,4 @@
--- A row with numbers in the place of its symbols makes of the screen of wide ranks what the row makes of the screen. Assumes nothing.
+-- A row with numbers in the place of its symbols makes of the screen of numbers what the row makes of the screen. Assumes nothing.
 use mathlib.Core.Path.{_≡_, refl, sym, _∙_, ap, subst, fun-ext}
 use mathlib.Core.Bool.{Bool, true, false, cond, not, _&&_, true≢false}
 use mathlib.Core.List.{List, [], _∷_, map}
@@ -39,9 +39,10 @@ use Rattle.symbol_screens.proofs.RankedRows.{NumberKey, SymbolAt, bySymbol, byR
 use Rattle.symbol_reduction.proofs.TextInputs.{decode-ind, shape-kind}
 use Rattle.symbol_rows.specs.RowTestWith.{rowFaultWith}
 use Rattle.symbol_reduction.proofs.TextLeaves.{row-long, column-pooled}
-use Rattle.row_ranks.specs.RowRanks.{wideRank, Dictionary, holdsSymbol, RowRanks}
+use Rattle.text_order.specs.Codes.{Codes}
+use Rattle.row_ranks.specs.RowRanks.{holdsSymbol, RowRanks}
 use Rattle.ranked_screen.specs.Screen.{poolValue, RankedPool}
-use Rattle.ranked_chain.specs.RankedChain.{isTextLiteral, isNumberList, raised, WideRecords, Widened, ChainRanks}
+use Rattle.ranked_chain.specs.RankedChain.{isTextLiteral, isNumberList, raised, WideRecords, ChainRanks}
 use Rattle.ranked_chain.proofs.RaisedLists.{in-pool, list-kind, no-list, raised-same}
 use Rattle.ranked_chain.proofs.Slots as slots
 
@@ -125,7 +126,7 @@ decode-literal : (f : Fields) → f .kind ≡ 2 → decode f ≡ kind.Literal (f
 unfolding decode
 decode-literal f k = rw k
 
--- ---- What is read of the screen of wide ranks.
+-- ---- What is read of the screen of numbers.
 module _ (text t rs p : List ℕ) (used root : ℕ) (ok : CheckedIn (lent text) t rs p used root) (wide numbers : List ℕ) (count : ℕ)
     (enough : placeCount p used ≤ count) (same : (i : ℕ) → i < placeCount p used → getD numbers i 0 ≡ getD wide i 0)
     (out pool : List ℕ) (records : WideRecords rs wide (length p / 8) used out)
@@ -233,7 +234,7 @@ module _ (text t rs p : List ℕ) (used root : ℕ) (ok : CheckedIn (lent text) 
       (λ e. by-test (isNumberList (F n)) (list-read n h e) (kept-read n h e)))
 
 -- ---- The row.
-module _ (text t row : List ℕ) (nulls : ℕ) (S : List ℕ) (m : ℕ) (block : List ℕ) (told : RowRanks text t S m row nulls block)
+module _ (text t row : List ℕ) (nulls : ℕ) (C block : List ℕ) (told : RowRanks t C row nulls (length t) block)
     (long : length row ≡ 8 * length t) (as-long : length block ≡ 8 * length t) (values numbers : List ℕ) (n count : ℕ)
     (enough : n + length t ≤ count)
     (value-of : (c : ℕ) → c < length t → holdsSymbol t nulls c ≡ true → getD values (n + c) 0 ≡ valueAt row c)
@@ -290,9 +291,9 @@ module _ (text t row : List ℕ) (nulls : ℕ) (S : List ℕ) (m : ℕ) (block :
 
 -- ---- A row without a fault, of a checked screen.
 module _ (text t rs p : List ℕ) (used root : ℕ) (ok : CheckedIn (lent text) t rs p used root) (sizes : placeCount p used ≤ 12288)
-    (narrow : length t ≤ 64) (bytes : (q : ℕ) → getD text q 0 < 256) (S : List ℕ) (m : ℕ) (out pool : List ℕ)
-    (ranks : ChainRanks text rs p used S m out pool) (row : List ℕ) (nulls : ℕ) (fault : rowFaultWith text t row nulls ≡ 0)
-    (block : List ℕ) (as-long : length block ≡ 8 * length t) (told : RowRanks text t S m row nulls block) where
+    (narrow : length t ≤ 64) (bytes : (q : ℕ) → getD text q 0 < 256) (C out pool : List ℕ) (codes : Codes text C)
+    (ranks : ChainRanks text rs p used C out pool) (row : List ℕ) (nulls : ℕ) (fault : rowFaultWith text t row nulls ≡ 0)
+    (block : List ℕ) (as-long : length block ≡ 8 * length t) (told : RowRanks t C row nulls (length t) block) where
   abbrev n : ℕ
   n = placeCount p used
 
@@ -307,43 +308,36 @@ module _ (text t rs p : List ℕ) (used root : ℕ) (ok : CheckedIn (lent text) 
 
   abbrev values : List ℕ
   values =
-      slots.allValues text (ranks .values) (ranks .ranks) n first (ranks .pooled) (ranks .ranked) S m (ranks .dictionary) t row nulls
-      block told inside
+      slots.allValues text (ranks .values) (ranks .wide) n first (ranks .pooled) C codes (ranks .numbered) t row nulls block told inside
 
   abbrev numbers : List ℕ
   numbers =
-      slots.allNumbers text (ranks .values) (ranks .ranks) n first (ranks .pooled) (ranks .ranked) S m (ranks .dictionary) t row nulls
-      block told inside
+      slots.allNumbers text (ranks .values) (ranks .wide) n first (ranks .pooled) C codes (ranks .numbered) t row nulls block told inside
 
   abbrev count : ℕ
-  count = wideRank m + n + length t
+  count = 262144 + n + length t
 
-  wide : (i : ℕ) → i < n → getD numbers i 0 ≡ wideRank (getD (ranks .ranks) i 0)
+  wide : (i : ℕ) → i < n → getD numbers i 0 ≡ getD (ranks .wide) i 0
   wide i h =
-      slots.number-of-screen text (ranks .values) (ranks .ranks) n first (ranks .pooled) (ranks .ranked) S m (ranks .dictionary) t row
-      nulls block told inside i h
+      slots.number-of-screen text (ranks .values) (ranks .wide) n first (ranks .pooled) C codes (ranks .numbered) t row nulls block told inside i h
 
   standing-all : Standing (length text) rs p used values
   standing-all =
       record {
         stands = λ i h.
-            slots.value-of-screen text (ranks .values) (ranks .ranks) n first (ranks .pooled) (ranks .ranked) S m (ranks .dictionary) t row
-            nulls block told inside i h ∙ ranks .standing .stands i h;
+            slots.value-of-screen text (ranks .values) (ranks .wide) n first (ranks .pooled) C codes (ranks .numbered) t row nulls block told inside i h ∙ ranks .standing .stands i h;
       }
 
   value-of : (c : ℕ) → c < length t → holdsSymbol t nulls c ≡ true → getD values (n + c) 0 ≡ valueAt row c
   value-of c l h =
-      slots.value-of-row text (ranks .values) (ranks .ranks) n first (ranks .pooled) (ranks .ranked) S m (ranks .dictionary) t row
-      nulls block told inside c l h
+      slots.value-of-row text (ranks .values) (ranks .wide) n first (ranks .pooled) C codes (ranks .numbered) t row nulls block told inside c l h
 
   number-of : (c : ℕ) → c < length t → holdsSymbol t nulls c ≡ true → getD numbers (n + c) 0 ≡ valueAt block c
   number-of c l h =
-      slots.number-of-row text (ranks .values) (ranks .ranks) n first (ranks .pooled) (ranks .ranked) S m (ranks .dictionary) t row
-      nulls block told inside c l h
+      slots.number-of-row text (ranks .values) (ranks .wide) n first (ranks .pooled) C codes (ranks .numbered) t row nulls block told inside c l h
 
   small : count ≤ 9223372036854775808
-  unfolding wideRank
-  small = let h = ranks .dictionary .few in omega (arith, h, sizes, narrow)
+  small = omega (arith, sizes, narrow)
 
   enough-screen : n ≤ count
   enough-screen = omega arith
@@ -354,19 +348,17 @@ module _ (text t rs p : List ℕ) (used root : ℕ) (ok : CheckedIn (lent text) 
   pub ranked-row : truthWith text (heldAt rs p used) (rowKeysWith text t row nulls) root ≡ rowTruth out pool block nulls root
   ranked-row =
       ap (λ (r : ℕ → Option ℤ). truthWith text (heldAt rs p used) r root)
-      (fun-ext (by-symbol text t row nulls S m block told (row-long text t row nulls fault) as-long values numbers n count enough-row
+      (fun-ext (by-symbol text t row nulls C block told (row-long text t row nulls fault) as-long values numbers n count enough-row
       value-of number-of))
       ∙ ranked-truth text t rs p used root ok values numbers standing-all count enough-screen bytes
-      (slots.all-pooled text (ranks .values) (ranks .ranks) n first (ranks .pooled) (ranks .ranked) S m (ranks .dictionary) t row nulls
-      block told inside)
+      (slots.all-pooled text (ranks .values) (ranks .wide) n first (ranks .pooled) C codes (ranks .numbered) t row nulls block told inside)
       small
-      (slots.all-ranked text (ranks .values) (ranks .ranks) n first (ranks .pooled) (ranks .ranked) S m (ranks .dictionary) t row nulls
-      block told inside)
+      (slots.all-ranked text (ranks .values) (ranks .wide) n first (ranks .pooled) C codes (ranks .numbered) t row nulls block told inside)
       (rowPlaces t row nulls n) (row-kinds t row nulls n)
       ∙ ap (λ (r : ℕ → Option ℤ). truthIn (rankedAt rs p used numbers count) r root)
-      (fun-ext (by-number text t row nulls S m block told (row-long text t row nulls fault) as-long values numbers n count enough-row
+      (fun-ext (by-number text t row nulls C block told (row-long text t row nulls fault) as-long values numbers n count enough-row
       value-of number-of))
       ∙ ap (λ c. c .truth)
       (cells-agree key ordZ truthKeys (rankedAt rs p used numbers count) (aexprOf out pool) (rowKeys block nulls) used
       (λ k h. sym (reads text t rs p used root ok (ranks .wide) numbers count enough-screen
-      (λ i g. wide i g ∙ sym (ranks .widened .widened i g)) out pool (ranks .records) (ranks .held) k h)) root (ok .root-used))
+      wide out pool (ranks .records) (ranks .held) k h)) root (ok .root-used))

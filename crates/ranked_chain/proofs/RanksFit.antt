@@ -1,4 +1,4 @@
--- The records of the screen of wide ranks may be evaluated. Assumes nothing.
+-- The records of the screen of numbers may be evaluated. Assumes nothing.
 use mathlib.Core.Path.{_≡_, refl, sym, _∙_, ap, subst}
 use mathlib.Core.Bool.{Bool, true, false, _&&_}
 use mathlib.Core.List.{List}
@@ -84,7 +84,7 @@ module _ (text t rs p : List ℕ) (used root : ℕ) (ok : CheckedIn (lent text) 
         member = λ k. subst (λ f. G (f .b) .kind ≡ 9) (sym s) (in-list n h (sym (ap (λ f. f .kind) s) ∙ k));
       }
 
-  -- a literal with its wide rank, or a list of numbers
+  -- a literal with its number, or a list of numbers
   fit-leaf : (n : ℕ) → Inputs n (toAExpr pool (decode (G n))) → (G n .kind ≡ 9 → 8 * (G n .a + G n .b) ≤ length pool)
       → (G n .kind ≡ 2) ⊎ (G n .kind ≡ 9) → Fit out pool block n (G n)
   unfolding aexprOf recordAt

@@ -10,16 +10,12 @@ use lib.ListN.{length, getD}
 use borrow.Author.Tests.{ltb-true, ltb-false, lt-ltb}
 use Rattle.records.specs.Bytes.{valueAt}
 use Rattle.records.specs.Shape.{inPool}
-use Rattle.truth.specs.Order.{View, is-less, is-equal, is-greater}
 use Rattle.truth.specs.Halves.{ordering}
-use Rattle.truth.specs.declared.scalar.Ordering.{Ordering}
-use Rattle.truth.specs.declared.scalar.Ordering.the-variants.{Less, Equal, Greater}
-use Rattle.truth.proofs.Orders.{cmp-lt, cmp-gt, cmp-eq}
-use Rattle.symbols.specs.Symbol.{symbol, cmpBytes, lessBytes}
-use Rattle.symbols.proofs.Orders.{viewN, lessN, total-bytes}
-use Rattle.symbols.proofs.Comparing.{number-less, number-equal, number-greater}
+use Rattle.symbols.specs.Symbol.{symbol, cmpBytes}
 use Rattle.symbol_ranks.specs.Ranks.{Ranked, Pooled}
-use Rattle.row_ranks.specs.RowRanks.{wideRank, Dictionary, holdsSymbol, RowRanks}
+use Rattle.text_order.specs.Codes.{codeOf, Codes}
+use Rattle.row_ranks.specs.RowRanks.{holdsSymbol, RowRanks}
+use Rattle.ranked_chain.specs.RankedChain.{Numbered}
 
 -- ---- A list by its values.
 pub tabulate : (ℕ → ℕ) → ℕ → List ℕ
@@ -37,45 +33,9 @@ unfolding tabulate
 tabulate-long f zero = refl
 tabulate-long f (suc n) = let e = tabulate-long (λ j. f (suc j)) n in ap suc e
 
--- ---- Comparisons read from the other side.
-abbrev mirrored : Ordering → Ordering
-mirrored Less = Greater
-mirrored Equal = Equal
-mirrored Greater = Less
-
-numbers-turned : (a b : ℕ) → ordering (compare b a) ≡ mirrored (ordering (compare a b))
-numbers-turned a b = go (viewN a b)
-  where
-    go : {o : Ordering} → View lessN a b o → ordering (compare b a) ≡ mirrored o
-    go (is-less h) = number-greater b a h
-    go (is-equal e) = number-equal b a (sym e)
-    go (is-greater h) = number-less b a h
-
-bytes-turned : (l m : List ℕ) → cmpBytes m l ≡ mirrored (cmpBytes l m)
-bytes-turned l m = go (total-bytes .view l m)
-  where
-    go : {o : Ordering} → View lessBytes l m o → cmpBytes m l ≡ mirrored o
-    go (is-less h) = cmp-gt total-bytes {a = m} {b = l} h
-    go (is-equal e) = cmp-eq total-bytes {a = m} {b = l} (sym e)
-    go (is-greater h) = cmp-lt total-bytes {a = m} {b = l} h
-
-turned : (a b : ℕ) (l m : List ℕ) → ordering (compare a b) ≡ cmpBytes l m → ordering (compare b a) ≡ cmpBytes m l
-turned a b l m e = numbers-turned a b ∙ ap mirrored e ∙ sym (bytes-turned l m)
-
--- wide ranks compare as ranks
-wide-alike : (x y : ℕ) → ordering (compare (wideRank x) (wideRank y)) ≡ ordering (compare x y)
-unfolding wideRank
-wide-alike x y = go (viewN x y)
-  where
-    go : {o : Ordering} → View lessN x y o → ordering (compare (128 * (x + 1)) (128 * (y + 1))) ≡ o
-    go (is-less h) = number-less (128 * (x + 1)) (128 * (y + 1)) (omega (arith, h))
-    go (is-equal e) = number-equal (128 * (x + 1)) (128 * (y + 1)) (omega (arith, e))
-    go (is-greater h) = number-greater (128 * (x + 1)) (128 * (y + 1)) (omega (arith, h))
-
 -- ---- What stands at a place of the list: a place of the screen, or a symbol of the row. Whatever lies behind stands for place 0.
-module _ (text values ranks : List ℕ) (n : ℕ) (first : 0 < n) (pooled : Pooled text values n) (ranked : Ranked text values n ranks)
-    (S : List ℕ) (m : ℕ) (dictionary : Dictionary text values n ranks S m) (t row : List ℕ) (nulls : ℕ) (out : List ℕ)
-    (told : RowRanks text t S m row nulls out)
+module _ (text values wide : List ℕ) (n : ℕ) (first : 0 < n) (pooled : Pooled text values n) (C : List ℕ) (codes : Codes text C)
+    (numbered : Numbered C values n wide) (t row : List ℕ) (nulls : ℕ) (out : List ℕ) (told : RowRanks t C row nulls (length t) out)
     (inside : (c : ℕ) → c < length t → holdsSymbol t nulls c ≡ true → inPool (length text) (valueAt row c) ≡ true) where
   data Slot : Type 0 where
     OfScreen : (i : ℕ) → i < n → Slot
@@ -95,37 +55,31 @@ module _ (text values ranks : List ℕ) (n : ℕ) (first : 0 < n) (pooled : Pool
   slotValue (OfRow c l h) = valueAt row c
 
   abbrev slotNumber : Slot → ℕ
-  slotNumber (OfScreen i h) = wideRank (getD ranks i 0)
+  slotNumber (OfScreen i h) = getD wide i 0
   slotNumber (OfRow c l h) = valueAt out c
-
-  row-beside : (c j : ℕ) → c < length t → holdsSymbol t nulls c ≡ true → j < n
-      → ordering (compare (valueAt out c) (wideRank (getD ranks j 0))) ≡ cmpBytes (symbol text (valueAt row c)) (symbol text (getD values j 0))
-  row-beside c j l h k =
-      told .beside c (getD ranks j 0) l h (dictionary .named j k)
-      ∙ ap (λ s. cmpBytes (symbol text (valueAt row c)) s) (dictionary .same j k)
-
-  alike : (a b : Slot) → ordering (compare (slotNumber a) (slotNumber b)) ≡ cmpBytes (symbol text (slotValue a)) (symbol text (slotValue b))
-  alike (OfScreen i h) (OfScreen j k) = wide-alike (getD ranks i 0) (getD ranks j 0) ∙ ranked .compares i j h k
-  alike (OfScreen i h) (OfRow d l k) =
-      turned (valueAt out d) (wideRank (getD ranks i 0)) (symbol text (valueAt row d)) (symbol text (getD values i 0))
-      (row-beside d i l k h)
-  alike (OfRow c l h) (OfScreen j k) = row-beside c j l h k
-  alike (OfRow c l h) (OfRow d g k) = told .alike c d l g h k
-
-  low : (a : Slot) → slotNumber a < wideRank m
-  unfolding wideRank
-  low (OfScreen i h) = let k = dictionary .named i h in omega (arith, k)
-  low (OfRow c l h) = told .below c l h
 
   in-pool : (a : Slot) → inPool (length text) (slotValue a) ≡ true
   in-pool (OfScreen i h) = pooled .pooled i h
   in-pool (OfRow c l h) = inside c l h
 
+  coded : (a : Slot) → slotNumber a ≡ codeOf C (slotValue a)
+  coded (OfScreen i h) = numbered .coded i h
+  coded (OfRow c l h) = told .coded c l h
+
+  alike : (a b : Slot) → ordering (compare (slotNumber a) (slotNumber b)) ≡ cmpBytes (symbol text (slotValue a)) (symbol text (slotValue b))
+  alike a b =
+      ap (λ x. ordering (compare x (slotNumber b))) (coded a)
+      ∙ ap (λ x. ordering (compare (codeOf C (slotValue a)) x)) (coded b)
+      ∙ codes .alike (slotValue a) (slotValue b) (in-pool a) (in-pool b)
+
+  low : (a : Slot) → slotNumber a < 262144
+  low a = let e = coded a in let h = codes .below (slotValue a) (in-pool a) in omega (arith, e, h)
+
   abbrev slot : ℕ → Slot
   slot i = slotAt i (ltb i n) refl
 
   abbrev pub allCount : ℕ
-  allCount = wideRank m + n + length t
+  allCount = 262144 + n + length t
 
   pub allValues : List ℕ
   allValues = tabulate (λ i. slotValue (slot i)) allCount
@@ -166,14 +120,14 @@ module _ (text values ranks : List ℕ) (n : ℕ) (first : 0 < n) (pooled : Pool
   -- ---- What stands where.
   module _ (i : ℕ) (h : i < n) where
     screen-slot : (b : Bool) (e : ltb i n ≡ b) → (slotValue (slotAt i b e) ≡ getD values i 0)
-        × (slotNumber (slotAt i b e) ≡ wideRank (getD ranks i 0))
+        × (slotNumber (slotAt i b e) ≡ getD wide i 0)
     screen-slot true e = (refl, refl)
     screen-slot false e = absurd (true≢false (sym (lt-ltb i n h) ∙ e))
 
     pub value-of-screen : getD allValues i 0 ≡ getD values i 0
     value-of-screen = value-at i (omega (arith, h)) ∙ screen-slot (ltb i n) refl .0
 
-    pub number-of-screen : getD allNumbers i 0 ≡ wideRank (getD ranks i 0)
+    pub number-of-screen : getD allNumbers i 0 ≡ getD wide i 0
     number-of-screen = number-at i (omega (arith, h)) ∙ screen-slot (ltb i n) refl .1
 
   module _ (c : ℕ) (l : c < length t) (h : holdsSymbol t nulls c ≡ true) where

@@ -18,9 +18,9 @@ pub record EveryRow (columns : ℕ) (rs p : List ℕ) (root : ℕ) : Type 0 wher
   pub evaluable : (row : List ℕ) → length row ≡ 8 * columns → Evaluable rs p row root
 
 -- f says what the numbers of each row, whichever they are, make of the root.
-pub record RowTruths (text t S : List ℕ) (m : ℕ) (values nulls rs p : List ℕ) (root : ℕ) (f : ℕ → Truth) : Type 0 where
+pub record RowTruths (t C values nulls rs p : List ℕ) (root : ℕ) (f : ℕ → Truth) : Type 0 where
   pub truths : (r : ℕ) → r < length nulls → (row : List ℕ) → length row ≡ 8 * length t
-      → RowRanks text t S m (chainRow (length t) values r) (getD nulls r 0) row → rowTruth rs p row (getD nulls r 0) root ≡ f r
+      → RowRanks t C (chainRow (length t) values r) (getD nulls r 0) (length t) row → rowTruth rs p row (getD nulls r 0) root ≡ f r
 
 -- The first n classes are those of f.
 unfoldable pub ClassesOf : (ℕ → Truth) → List ℕ → ℕ → Type 0

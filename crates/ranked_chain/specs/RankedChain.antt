@@ -1,6 +1,6 @@
--- A screen with symbols as one of numbers (02, 2.10), for the rows of a chain: wide ranks in the literals of type Text, in front of
+-- A screen with symbols as one of numbers (02, 2.10), for the rows of a chain: numbers in the literals of type Text, in front of
 -- the pool those of all its values, and behind them the values, for the lists of the other types (ranked_screen, Screen). rs are the
--- records, p the pool, `ranks` those of the screen's places (symbol_screens, Placed), `wide` their wide ranks.
+-- records, p the pool, `wide` the numbers of the screen's places (symbol_screens, Placed).
 use mathlib.Core.Path.{_≡_}
 use mathlib.Core.Bool.{Bool, true, false, cond, not, _&&_}
 use mathlib.Core.List.{List}
@@ -9,16 +9,16 @@ use lib.Dec.{eqb}
 use lib.ListN.{length, getD}
 use Rattle.records.specs.Record.{node, fieldsAt}
 use Rattle.records.specs.declared.record.Fields.{Fields}
-use Rattle.symbol_ranks.specs.Ranks.{Ranked, Pooled}
+use Rattle.symbol_ranks.specs.Ranks.{Pooled}
 use Rattle.symbol_screens.specs.Placed.{placeCount, Standing}
 use Rattle.ranked_screen.specs.Screen.{RankedPool}
-use Rattle.row_ranks.specs.RowRanks.{wideRank, Dictionary}
+use Rattle.text_order.specs.Codes.{codeOf}
 
 -- ---- The literals.
 unfoldable pub isTextLiteral : Fields → Bool
 isTextLiteral f = eqb (f .kind) 2 && eqb (f .ty) 4
 
--- The first n records of `out` have their wide ranks; every record has its kind, and all fields if it is no literal of type Text.
+-- The first n records of `out` have their numbers; every record has its kind, and all fields if it is no literal of type Text.
 pub record RankedLiterals (rs wide : List ℕ) (used n : ℕ) (out : List ℕ) : Type 0 where
   pub kept : (i : ℕ) → i < used → isTextLiteral (fieldsAt rs (node i)) ≡ false → fieldsAt out (node i) ≡ fieldsAt rs (node i)
   pub kind : (i : ℕ) → i < used → fieldsAt out (node i) .kind ≡ fieldsAt rs (node i) .kind
@@ -55,25 +55,16 @@ pub record WideRecords (rs wide : List ℕ) (words used : ℕ) (out : List ℕ) 
   pub literals : RankedLiterals rs wide used used middle
   pub lists : RaisedLists words used middle out
 
--- ---- The ranks.
--- The first n ranks are low: their wide ranks are numbers of 64 bits.
-pub record LowRanks (ranks : List ℕ) (n : ℕ) : Type 0 where
-  pub low : (i : ℕ) → i < n → getD ranks i 0 < 12288
+-- ---- The numbers of the first n values, by the words C of the text's starts.
+pub record Numbered (C values : List ℕ) (n : ℕ) (numbers : List ℕ) : Type 0 where
+  pub coded : (i : ℕ) → i < n → getD numbers i 0 ≡ codeOf C (getD values i 0)
 
--- The first n are wide in `wide`.
-pub record Widened (ranks : List ℕ) (n : ℕ) (wide : List ℕ) : Type 0 where
-  pub widened : (i : ℕ) → i < n → getD wide i 0 ≡ wideRank (getD ranks i 0)
-  pub rest : (i : ℕ) → n ≤ i → getD wide i 0 ≡ getD ranks i 0
-
--- ---- What is promised: `out` and `pool` hold the screen of wide ranks, S its m symbols.
-pub record ChainRanks (text rs p : List ℕ) (used : ℕ) (S : List ℕ) (m : ℕ) (out pool : List ℕ) : Type 0 where
+-- ---- What is promised: `out` and `pool` hold the screen of these numbers.
+pub record ChainRanks (text rs p : List ℕ) (used : ℕ) (C out pool : List ℕ) : Type 0 where
   pub values : List ℕ
-  pub ranks : List ℕ
   pub wide : List ℕ
   pub standing : Standing (length text) rs p used values
   pub pooled : Pooled text values (placeCount p used)
-  pub ranked : Ranked text values (placeCount p used) ranks
-  pub dictionary : Dictionary text values (placeCount p used) ranks S m
-  pub widened : Widened ranks (placeCount p used) wide
+  pub numbered : Numbered C values (placeCount p used) wide
   pub records : WideRecords rs wide (length p / 8) used out
   pub held : RankedPool p wide used (2 * (length p / 8)) pool

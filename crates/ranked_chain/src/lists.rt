@@ -1,4 +1,4 @@
-// The lists of other types than Text lie behind the wide ranks: they start as many places farther behind as the pool has values.
+// The lists of other types than Text lie behind the numbers of the pool's symbols: they start as many places farther behind as the pool has values.
 ghost use mathlib.Core.Path.{_≡_};
 ghost use Prim.Native.Nat.{_+_, _*_, _≤_, _<_};
 ghost use lib.ListN.{length};

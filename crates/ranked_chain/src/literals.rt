@@ -1,4 +1,4 @@
-// The records with wide ranks in their literals of type Text.
+// The records with numbers in their literals of type Text.
 ghost use mathlib.Core.Path.{_≡_};
 ghost use mathlib.Core.Bool.{cond};
 ghost use Prim.Native.Nat.{_+_, _*_, _≤_, _<_};
@@ -29,7 +29,7 @@ fn rank_literal(records: &[u8], i: usize, rank: u64, out: &mut [u8])
     put_value(out, 2 * i + 1, rank);
 }
 
-/// `out` holds the records, `ranks` wide ranks.
+/// `out` holds the records, `ranks` the numbers of the places.
 pub fn rank_literals(records: &[u8], ranks: &[u64], used: usize, out: &mut [u8])
     requires { ⌜ (used ≤ 4096) × (used ≤ length (now ranks)) × (16 * used ≤ length (now out)) ⌝ }
     requires { ⌜ Copied (now records) (now out) (16 * used) ⌝ }

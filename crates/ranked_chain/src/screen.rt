@@ -1,4 +1,4 @@
-// The screen of wide ranks, and the dictionary of its symbols.
+// The screen of numbers.
 ghost use Prim.Native.Nat.{_*_, _/_, _≤_};
 ghost use lib.ListN.{length};
 ghost use Rattle.ranked_screen.specs.Screen.{Accepted};
@@ -6,14 +6,12 @@ ghost use Rattle.symbol_screens.specs.Placed.{placeCount};
 ghost use Rattle.ranked_chain.specs.RankedChain.{ListsPooled, WideRecords, ChainRanks};
 use crate::lists::raise_lists;
 use crate::literals::rank_literals;
-use crate::wide::widen;
+use crate::numbers::number_all;
 use ranked_screen::places::fill_values;
 use ranked_screen::pool::rank_pool;
-use row_ranks::dictionary::dictionary;
-use symbol_ranks::symbol_ranks;
 use symbol_reduction::reduce::copy_front;
 
-// The records into `out`, with wide ranks in their literals and their lists behind these.
+// The records into `out`, with numbers in their literals and their lists behind these.
 fn rank_records(records: &[u8], p: &[u8], ranks: &[u64], used: u32, out: &mut [u8])
     requires { ⌜ (used ≤ 4096) × (length (now p) ≤ 65536) × (placeCount (now p) used ≤ length (now ranks)) ⌝ }
     requires { ⌜ (16 * used ≤ length (now records)) × (16 * used ≤ length (now out)) × ListsPooled (now records) used ⌝ }
@@ -24,30 +22,26 @@ fn rank_records(records: &[u8], p: &[u8], ranks: &[u64], used: u32, out: &mut [u
     raise_lists(out, used as usize, (p.len() / 8) as u32);
 }
 
-/// How many different symbols the screen has, which are then in the front of `symbols`.
+/// Into `pool` and `out`, by the words of the text's starts.
 pub fn rank_chain(
     text: &[u8],
+    codes: &[u64],
     records: &[u8],
     p: &[u8],
     used: u32,
-    symbols: &mut [u64],
     pool: &mut [u8],
     out: &mut [u8],
-) -> usize
+)
     requires { ⌜ Accepted (now text) (now records) (now p) used ⌝ }
-    requires { ⌜ (12288 ≤ length (now symbols)) × (2 * length (now p) ≤ length (now pool)) × (16 * used ≤ length (now out)) ⌝ }
-    ensures { λ m. ⌜ ChainRanks (now (text .entry)) (now (records .entry)) (now (p .entry)) used (now (symbols .exit)) m
+    requires { ⌜ (8192 ≤ length (now codes)) × (2 * length (now p) ≤ length (now pool)) × (16 * used ≤ length (now out)) ⌝ }
+    ensures { λ _. ⌜ ChainRanks (now (text .entry)) (now (records .entry)) (now (p .entry)) used (now (codes .entry))
         (now (out .exit)) (now (pool .exit)) ⌝ }
 {
     let mut values = [0u64; 12288];
-    let mut ranks = [0u64; 12288];
+    let mut numbers = [0u64; 12288];
     let n = used as usize + p.len() / 8;
     fill_values(text.len() as u32, records, p, used as usize, &mut values);
-    // The places sorted stand where the symbols will.
-    symbol_ranks(text, &values, n, symbols, &mut ranks);
-    let m = dictionary(&values, &ranks, n, symbols);
-    widen(&mut ranks, n);
-    rank_records(records, p, &ranks, used, out);
-    rank_pool(p, &ranks, used as usize, pool);
-    m
+    number_all(codes, &values, n, &mut numbers);
+    rank_records(records, p, &numbers, used, out);
+    rank_pool(p, &numbers, used as usize, pool);
 }

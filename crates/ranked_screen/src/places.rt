@@ -9,7 +9,7 @@ use records::bytes::value_at;
 use records::record::Node;
 use records::record::Record;
 use records::record::record_at;
-use records::shape::in_pool;
+use value_types::in_pool;
 
 fn literal_bits(r: Record) -> u64
     ensures { λ v. ⌜ v ≡ literalBits r ⌝ }

@@ -5,7 +5,7 @@ ghost use lib.ListN.{length};
 ghost use Rattle.record_check.specs.Fit.{allFitIn, listOkIn};
 ghost use Rattle.record_check.specs.Outside.{CountsOf, Counts};
 use records::bytes::value_in;
-use records::shape::in_type;
+use value_types::in_type;
 
 // Values that the pool holds.
 fn all_fit(text: u32, p: &[u8], ty: u8, start: u32, count: u32) -> bool

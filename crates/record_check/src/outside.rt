@@ -7,7 +7,7 @@ ghost use lib.ListN.{length};
 ghost use Rattle.records.specs.Shape.{inTypeIn};
 ghost use Rattle.record_check.specs.Outside.{Outside};
 use records::bytes::value_in;
-use records::shape::in_type;
+use value_types::in_type;
 
 // 1 for a value outside the type.
 fn miss(text: u32, ty: u8, v: u64) -> u16

@@ -9,8 +9,8 @@ ghost use Rattle.record_check.specs.Step.{nullTestStep, betweenStep, lis
 use crate::fit::list_ok;
 use records::record::Fields;
 use records::record::Node;
-use records::shape::in_type;
-use records::shape::known_type;
+use value_types::in_type;
+use value_types::known_type;
 
 // A record's fault, 0 for none; its entry in the table; its tree count, one more than those of its inputs.
 pub struct Step {

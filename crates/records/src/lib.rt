@@ -4,4 +4,3 @@
 pub mod bytes;
 pub mod operator;
 pub mod record;
-pub mod shape;

@@ -6,6 +6,7 @@ ghost use Prim.Native.Nat.{ℕ, _+_, _*_, _<_, _≤_};
 ghost use lib.ListN.{length, getD};
 ghost use Rattle.constraints.specs.Lined.{lined};
 ghost use Rattle.column_constraints.specs.Abstraction.{Conjuncts, conjuncts};
+ghost use Rattle.column_constraints.specs.Abstraction.{kindsIn, valuesIn};
 ghost use Rattle.column_sets.specs.Index.{Indexed};
 ghost use Rattle.merge.specs.Collect.{isIn};
 ghost use Rattle.merge.specs.Emit.{comparisons};
@@ -71,10 +72,7 @@ pub fn keep_equalities(
 /// Every column of `order` resolved; whether one is impossible, and how many comparisons they are written out as.
 pub fn resolve_all(
     index: &[u64],
-    kinds: &[u8],
-    values: &[u64],
-    starts: &[u32],
-    counts: &[u32],
+    told: &[u64],
     pool: &[u8],
     cells: &mut [u64],
     marks: &mut [u8],
@@ -82,11 +80,10 @@ pub fn resolve_all(
     columns: usize,
 ) -> ResolvedColumns
     requires { ⌜ Fits (now cells) (now marks) × (columns ≤ length (now order)) × (columns ≤ 256)
-        × Indexed (now starts) (now counts) (now pool) (now index) ⌝ }
+        × Indexed (now told) (now pool) (now index) ⌝ }
     requires { ⌜ ((o : ℕ) → o < columns → (getD (now order) o 0 < 64) ×
         (isIn (getD (now order) o 0) (firstOf (now order) o) ≡ false)) ⌝ }
-    ensures { λ r. ⌜ (let t = conjuncts (now (kinds .entry)) (now (values .entry)) (now (starts .entry))
-        (now (counts .entry)) (now (pool .entry)) in (T : ColumnTable) →
+    ensures { λ r. ⌜ (let t = conjuncts (now (told .entry)) (now (pool .entry)) in (T : ColumnTable) →
         Shows t (columnsOf (now (cells .entry))) (now (marks .entry)) T →
         Resolved t (columnsOf (now (cells .exit))) (now (marks .exit)) (firstOf (now (order .entry)) columns)
         false (r .unsat) (r .total) T) ⌝ }
@@ -98,10 +95,10 @@ pub fn resolve_all(
     while o < columns {
         let x = slot(Column(order[o]));
         let c = load(cells, x);
-        let d = resolve_row(index, kinds, values, starts, counts, pool, marks, x, c);
+        let d = resolve_row(index, told, pool, marks, x, c);
         store(cells, x, d);
         unsat = unsat | d.unsat;
-        total = total + count_row(kinds, marks, x, d);
+        total = total + count_row(told, marks, x, d);
         o += 1;
     }
     ResolvedColumns {
@@ -115,8 +112,7 @@ pub fn write_comparisons(
     t: &[u8],
     rs: &mut [u8],
     used: u32,
-    kinds: &[u8],
-    values: &[u64],
+    told: &[u64],
     cells: &[u64],
     marks: &[u8],
     order: &[u32],
@@ -124,12 +120,12 @@ pub fn write_comparisons(
 ) -> u32
     requires { ⌜ Fits (now cells) (now marks) × (columns ≤ length (now order)) × (columns ≤ 256) ⌝ }
     requires { ⌜ ((o : ℕ) → o < columns → getD (now order) o 0 < 64) ⌝ }
-    requires { ⌜ ((s : Conjuncts) → s .kinds ≡ now kinds → s .values ≡ now values →
+    requires { ⌜ ((s : Conjuncts) → s .kinds ≡ kindsIn (now told) → s .values ≡ valuesIn (now told) →
         (used + 3 * length (comparisons lined (firstOf (now order) columns) (shown s (columnsOf (now cells)) (now marks)))
         ≤ 4096) ×
         (16 * (used + 3 * length (comparisons lined (firstOf (now order) columns)
         (shown s (columnsOf (now cells)) (now marks)))) ≤ length (now rs))) ⌝ }
-    ensures { λ r. ⌜ ((s : Conjuncts) → s .kinds ≡ now (kinds .entry) → s .values ≡ now (values .entry) →
+    ensures { λ r. ⌜ ((s : Conjuncts) → s .kinds ≡ kindsIn (now (told .entry)) → s .values ≡ valuesIn (now (told .entry)) →
         Written (now (t .entry)) used (now (rs .entry)) (comparisons lined (firstOf (now (order .entry)) columns)
         (shown s (columnsOf (now (cells .entry))) (now (marks .entry)))) r (now (rs .exit))) ⌝ }
 {
@@ -139,7 +135,7 @@ pub fn write_comparisons(
         let a = Column(order[w]);
         let x = slot(a);
         let c = load(cells, x);
-        u = write_row(t, rs, u, a, kinds, values, marks, x, c);
+        u = write_row(t, rs, u, a, told, marks, x, c);
         w += 1;
     }
     u

@@ -12,6 +12,7 @@ ghost use Rattle.constraints.specs.Resolve as z;
 ghost use Rattle.constraints.specs.Lined.{lined};
 ghost use Rattle.column_constraints.specs.Abstraction.{Conjuncts, conjuncts, numbered, columnOf, boundOf, fixedOf, Fine};
 ghost use Rattle.column_constraints.specs.Abstraction.{limitOf, literalAt};
+ghost use Rattle.column_constraints.specs.Abstraction.{kindsIn, valuesIn};
 ghost use Rattle.column_sets.specs.Index.{Indexed, Low};
 ghost use Rattle.column_constraints.specs.Steps.{Lists, applyExcluded, stepExcluded, stepMark, stepMarks, begun};
 ghost use Rattle.constraints.specs.declared.column.ExcludedResolution.the-variants.{Keep};
@@ -32,6 +33,7 @@ use column_sets::marks::has_kind;
 use column_sets::marks::insert_excluded;
 use column_sets::marks::insert_list;
 use column_sets::marks::limit_at;
+use column_sets::told::kind_at;
 use constraints::column::ExcludedResolution;
 use records::bytes::byte;
 use truth::scalar::Ordering;
@@ -207,63 +209,47 @@ fn open_upper(c: ColumnConstraints, v: Limit) -> ColumnConstraints
     }
 }
 
-fn apply_excluded(
-    kinds: &[u8],
-    values: &[u64],
-    own: &mut [u8],
-    c: ColumnConstraints,
-    j: u8,
-) -> ColumnConstraints
-    requires { ⌜ Fine (length (now own)) (now own) (c .len) × (j < length (now own)) × (getD (now kinds) j 0 ≡ 0) ⌝ }
-    ensures { λ r. ⌜ ((t : Conjuncts) → t .kinds ≡ now (kinds .entry) → t .values ≡ now (values .entry) →
-        columnOf t (numbered (now (own .exit)) r) ≡ applyExcluded (literalAt (now (values .entry)) j) (columnOf t (numbered (now (own .entry)) c))) ⌝ }
+fn apply_excluded(told: &[u64], own: &mut [u8], c: ColumnConstraints, j: u8) -> ColumnConstraints
+    requires { ⌜ Fine (length (now own)) (now own) (c .len) × (j < length (now own)) × (getD (kindsIn (now told)) j 0 ≡ 0) ⌝ }
+    ensures { λ r. ⌜ ((t : Conjuncts) → t .kinds ≡ kindsIn (now (told .entry)) → t .values ≡ valuesIn (now (told .entry)) →
+        columnOf t (numbered (now (own .exit)) r) ≡ applyExcluded (literalAt (valuesIn (now (told .entry))) j) (columnOf
+        t (numbered (now (own .entry)) c))) ⌝ }
     ensures { λ r. ⌜ Fine (length (now (own .entry))) (now (own .exit)) (r .len) ⌝ }
 {
-    let v = limit_at(values, j);
+    let v = limit_at(told, j);
     let f = classify_excluded(c, v);
     match f {
         ExcludedResolution::Drop => c,
-        ExcludedResolution::Keep => insert_excluded(kinds, values, own, c, j),
+        ExcludedResolution::Keep => insert_excluded(told, own, c, j),
         ExcludedResolution::TightenLower => open_lower(c, v),
         ExcludedResolution::TightenUpper => open_upper(c, v),
     }
 }
 
 // One excluded value. A range found empty takes no further one.
-fn step_excluded(
-    kinds: &[u8],
-    values: &[u64],
-    own: &mut [u8],
-    c: ColumnConstraints,
-    j: u8,
-) -> ColumnConstraints
-    requires { ⌜ Fine (length (now own)) (now own) (c .len) × (j < length (now own)) × (getD (now kinds) j 0 ≡ 0) ⌝ }
-    ensures { λ r. ⌜ ((t : Conjuncts) → t .kinds ≡ now (kinds .entry) → t .values ≡ now (values .entry) →
-        columnOf t (numbered (now (own .exit)) r) ≡ stepExcluded (literalAt (now (values .entry)) j) (columnOf t (numbered (now (own .entry)) c))) ⌝ }
+fn step_excluded(told: &[u64], own: &mut [u8], c: ColumnConstraints, j: u8) -> ColumnConstraints
+    requires { ⌜ Fine (length (now own)) (now own) (c .len) × (j < length (now own)) × (getD (kindsIn (now told)) j 0 ≡ 0) ⌝ }
+    ensures { λ r. ⌜ ((t : Conjuncts) → t .kinds ≡ kindsIn (now (told .entry)) → t .values ≡ valuesIn (now (told .entry)) →
+        columnOf t (numbered (now (own .exit)) r) ≡ stepExcluded (literalAt (valuesIn (now (told .entry))) j) (columnOf
+        t (numbered (now (own .entry)) c))) ⌝ }
     ensures { λ r. ⌜ Fine (length (now (own .entry))) (now (own .exit)) (r .len) ⌝ }
 {
     if c.unsat {
         return c;
     }
-    let d = apply_excluded(kinds, values, own, c, j);
+    let d = apply_excluded(told, own, c, j);
     check_bound_consistency(d)
 }
 
-fn step_mark(
-    kinds: &[u8],
-    values: &[u64],
-    own: &mut [u8],
-    c: ColumnConstraints,
-    j: u8,
-) -> ColumnConstraints
+fn step_mark(told: &[u64], own: &mut [u8], c: ColumnConstraints, j: u8) -> ColumnConstraints
     requires { ⌜ Fine (length (now own)) (now own) (c .len) × (j < length (now own)) ⌝ }
-    ensures { λ r. ⌜ ((t : Conjuncts) → t .kinds ≡ now (kinds .entry) → t .values ≡ now (values .entry) →
+    ensures { λ r. ⌜ ((t : Conjuncts) → t .kinds ≡ kindsIn (now (told .entry)) → t .values ≡ valuesIn (now (told .entry)) →
         columnOf t (numbered (now (own .exit)) r) ≡ stepMark t j (columnOf t (numbered (now (own .entry)) c))) ⌝ }
     ensures { λ r. ⌜ Fine (length (now (own .entry))) (now (own .exit)) (r .len) ⌝ }
 {
-    let k = byte(kinds, j as usize);
+    let k = kind_at(told, j as usize);
     if k == 0 {
-        return step_excluded(kinds, values, own, c, j);
+        return step_excluded(told, own, c, j);
     }
     if k == 1 {
         return insert_list(own, c, j);
@@ -294,15 +280,14 @@ fn begin_walk(c: ColumnConstraints) -> ColumnConstraints
 
 // The column anew from its bounds: each number in turn, excluded values resolved against the bounds so far.
 fn step_marks(
-    kinds: &[u8],
-    values: &[u64],
+    told: &[u64],
     own: &mut [u8],
     c0: ColumnConstraints,
     marks: &[u8],
     n: usize,
 ) -> ColumnConstraints
     requires { ⌜ Fine (length (now own)) (now own) (c0 .len) × Fine (length (now own)) (now marks) n ⌝ }
-    ensures { λ r. ⌜ ((t : Conjuncts) → t .kinds ≡ now (kinds .entry) → t .values ≡ now (values .entry) →
+    ensures { λ r. ⌜ ((t : Conjuncts) → t .kinds ≡ kindsIn (now (told .entry)) → t .values ≡ valuesIn (now (told .entry)) →
         columnOf t (numbered (now (own .exit)) r) ≡ stepMarks t (now (marks .entry)) n (columnOf t (numbered (now (own .entry)) c0))) ⌝ }
     ensures { λ r. ⌜ Fine (length (now (own .entry))) (now (own .exit)) (r .len) ⌝ }
 {
@@ -310,14 +295,15 @@ fn step_marks(
     let mut i: usize = 0;
     while i < n {
         let j = byte(marks, i);
-        c = step_mark(kinds, values, own, c, j);
+        c = step_mark(told, own, c, j);
         i += 1;
     }
     c
 }
 
-pub fn has_value_constraint(kinds: &[u8], marks: &[u8], c: ColumnConstraints) -> bool
-    ensures { λ r. ⌜ ((t : Conjuncts) → t .kinds ≡ now (kinds .entry) → r ≡ z.hasValueConstraint (columnOf t (numbered (now (marks .entry)) c))) ⌝ }
+pub fn has_value_constraint(told: &[u64], marks: &[u8], c: ColumnConstraints) -> bool
+    ensures { λ r. ⌜ ((t : Conjuncts) → t .kinds ≡ kindsIn (now (told .entry)) → r ≡ z.hasValueConstraint (columnOf t
+        (numbered (now (marks .entry)) c))) ⌝ }
 {
     let low = c.lower;
     let upp = c.upper;
@@ -327,88 +313,76 @@ pub fn has_value_constraint(kinds: &[u8], marks: &[u8], c: ColumnConstraints) ->
     if !is_absent(upp) {
         return true;
     }
-    if has_kind(kinds, marks, c.len, 0) {
+    if has_kind(told, marks, c.len, 0) {
         return true;
     }
-    if has_kind(kinds, marks, c.len, 1) {
+    if has_kind(told, marks, c.len, 1) {
         return true;
     }
     c.strict
 }
 
-fn null_conflict(kinds: &[u8], marks: &[u8], c: ColumnConstraints) -> bool
-    ensures { λ r. ⌜ ((t : Conjuncts) → t .kinds ≡ now (kinds .entry) → r ≡ z.nullConflict (columnOf t (numbered (now (marks .entry)) c))) ⌝ }
+fn null_conflict(told: &[u64], marks: &[u8], c: ColumnConstraints) -> bool
+    ensures { λ r. ⌜ ((t : Conjuncts) → t .kinds ≡ kindsIn (now (told .entry)) → r ≡ z.nullConflict (columnOf t
+        (numbered (now (marks .entry)) c))) ⌝ }
 {
     let nul = c.nullability;
     if !is_null(nul) {
         return false;
     }
-    has_value_constraint(kinds, marks, c)
+    has_value_constraint(told, marks, c)
 }
 
-fn fixed_disallowed(
-    kinds: &[u8],
-    starts: &[u32],
-    counts: &[u32],
-    pool: &[u8],
-    marks: &[u8],
-    c: ColumnConstraints,
-) -> bool
-    ensures { λ r. ⌜ ((t : Conjuncts) → Lists t (now (kinds .entry)) (now (starts .entry)) (now (counts .entry))
+fn fixed_disallowed(told: &[u64], pool: &[u8], marks: &[u8], c: ColumnConstraints) -> bool
+    ensures { λ r. ⌜ ((t : Conjuncts) → Lists t (now (told .entry))
         (now (pool .entry)) → r ≡ z.fixedDisallowed lined (columnOf t (numbered (now (marks .entry)) c)) (z.fixedValue lined (columnOf t (numbered (now (marks .entry)) c)))) ⌝ }
 {
     let f = fixed_value(c);
     match f {
         FixedValue::Nothing => false,
-        FixedValue::At(v) => disallows(kinds, starts, counts, pool, marks, c.len, v.value),
+        FixedValue::At(v) => disallows(told, pool, marks, c.len, v.value),
     }
 }
 
 // The last two tests: some allowed value is feasible, and the value that the bounds pin is not disallowed.
 fn with_lists(
     index: &[u64],
-    kinds: &[u8],
-    values: &[u64],
-    starts: &[u32],
-    counts: &[u32],
+    told: &[u64],
     pool: &[u8],
     marks: &[u8],
     mut c: ColumnConstraints,
 ) -> ColumnConstraints
-    requires { ⌜ Indexed (now starts) (now counts) (now pool) (now index) × Low (now marks) (c .len) ⌝ }
-    ensures { λ r. ⌜ (let t = conjuncts (now (kinds .entry)) (now (values .entry)) (now (starts .entry))
-        (now (counts .entry)) (now (pool .entry)) in columnOf t (numbered (now (marks .entry)) r) ≡ z.withLists lined (columnOf t (numbered (now (marks .entry)) c))) ⌝ }
+    requires { ⌜ Indexed (now told) (now pool) (now index) × Low (now marks) (c .len) ⌝ }
+    ensures { λ r. ⌜ (let t = conjuncts (now (told .entry)) (now (pool .entry)) in columnOf t (numbered (now (marks
+        .entry)) r) ≡ z.withLists lined (columnOf t (numbered (now (marks .entry)) c))) ⌝ }
     ensures { λ r. ⌜ r .len ≡ c .len ⌝ }
 {
     if c.unsat {
         return c;
     }
-    let a = any_allowed(index, kinds, values, starts, counts, pool, marks, c);
-    let p = fixed_disallowed(kinds, starts, counts, pool, marks, c);
+    let a = any_allowed(index, told, pool, marks, c);
+    let p = fixed_disallowed(told, pool, marks, c);
     c.unsat = !a | p;
     c
 }
 
 pub fn resolve_deferred(
     index: &[u64],
-    kinds: &[u8],
-    values: &[u64],
-    starts: &[u32],
-    counts: &[u32],
+    told: &[u64],
     pool: &[u8],
     own: &mut [u8],
     c: ColumnConstraints,
 ) -> ColumnConstraints
     requires { ⌜ Fine (length (now own)) (now own) (c .len) × (length (now own) ≤ 128) ⌝ }
-    requires { ⌜ Indexed (now starts) (now counts) (now pool) (now index) ⌝ }
-    ensures { λ r. ⌜ (let t = conjuncts (now (kinds .entry)) (now (values .entry)) (now (starts .entry))
-        (now (counts .entry)) (now (pool .entry)) in columnOf t (numbered (now (own .exit)) r) ≡ z.resolveDeferred lined (columnOf t (numbered (now (own .entry)) c))) ⌝ }
+    requires { ⌜ Indexed (now told) (now pool) (now index) ⌝ }
+    ensures { λ r. ⌜ (let t = conjuncts (now (told .entry)) (now (pool .entry)) in columnOf t (numbered (now (own
+        .exit)) r) ≡ z.resolveDeferred lined (columnOf t (numbered (now (own .entry)) c))) ⌝ }
     ensures { λ r. ⌜ Fine (length (now (own .entry))) (now (own .exit)) (r .len) ⌝ }
 {
-    let conflict = null_conflict(kinds, own, c);
+    let conflict = null_conflict(told, own, c);
     let old = copied(own, c.len);
     let w = begin_walk(c);
-    let mut d = step_marks(kinds, values, own, w, &old, c.len);
+    let mut d = step_marks(told, own, w, &old, c.len);
     d.unsat = c.unsat | (conflict | d.unsat);
-    with_lists(index, kinds, values, starts, counts, pool, own, d)
+    with_lists(index, told, pool, own, d)
 }

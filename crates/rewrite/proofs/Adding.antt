@@ -3,13 +3,14 @@ use mathlib.Core.Path.{_≡_}
 use mathlib.Core.List.{List, []}
 use Prim.Native.Nat.{ℕ}
 use Rattle.truth.specs.Comparison.{Comparison, Eq, NotEq, Lt, LtEq, Gt, GtEq}
-use Rattle.column_constraints.specs.Abstraction.{Conjuncts, conjuncts, Fine}
+use Rattle.column_constraints.specs.Abstraction.{Conjuncts, Fine}
 use Rattle.merge.specs.Classify.{comparisonConstraints}
 use Rattle.rewrite.specs.Told.{Told}
+use Rattle.column_constraints.specs.Abstraction.{conjunctsOf}
 
 -- A comparison reads no list.
 pub told-compared : (t : Conjuncts) (j : ℕ) (k : Comparison) (v : ℕ) → Told t j (comparisonConstraints k v) →
-    Told (conjuncts (t .kinds) (t .values) [] [] []) j (comparisonConstraints k v)
+    Told (conjunctsOf (t .kinds) (t .values) [] [] []) j (comparisonConstraints k v)
 told-compared t j Eq v h = h
 told-compared t j NotEq v h = h
 told-compared t j Lt v h = h

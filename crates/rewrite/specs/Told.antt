@@ -2,7 +2,7 @@
 -- conjunct, and when the tables say what it says.
 use mathlib.Core.Path.{_≡_}
 use mathlib.Core.List.{List, [], _∷_}
-use Prim.Native.Nat.{ℕ}
+use Prim.Native.Nat.{ℕ, _/_, _%_}
 use lib.ListN.{getD}
 use Rattle.constraints.specs.Column.{Constraint, Lower, Upper, Exclude, Allow, Disallow, Require}
 use Rattle.column_constraints.specs.Abstraction.{Conjuncts, listOf}
@@ -40,29 +40,14 @@ kindOf (says.Allow start count) = 1
 kindOf (says.Disallow strict start count) = 2
 kindOf (says.Require must) = 3
 
-abbrev pub literalOf : Says → ℕ
-literalOf says.Nothing = 0
-literalOf (says.Compare k v) = v .0
-literalOf (says.Between ends v w) = 0
-literalOf (says.Allow start count) = 0
-literalOf (says.Disallow strict start count) = 0
-literalOf (says.Require must) = 0
-
-abbrev pub startOf : Says → ℕ
-startOf says.Nothing = 0
-startOf (says.Compare k v) = 0
-startOf (says.Between ends v w) = 0
-startOf (says.Allow start count) = start
-startOf (says.Disallow strict start count) = start
-startOf (says.Require must) = 0
-
-abbrev pub countOf : Says → ℕ
-countOf says.Nothing = 0
-countOf (says.Compare k v) = 0
-countOf (says.Between ends v w) = 0
-countOf (says.Allow start count) = count
-countOf (says.Disallow strict start count) = count
-countOf (says.Require must) = 0
+-- A word that says what it gives: its literal, or its list's start and 2^32 times the count.
+abbrev pub Worded : Says → ℕ → Type 0
+Worded says.Nothing word = Unit {0}
+Worded (says.Compare k v) word = word ≡ v .0
+Worded (says.Between ends v w) word = Unit {0}
+Worded (says.Allow start count) word = (word % 4294967296 ≡ start) × (word / 4294967296 ≡ count)
+Worded (says.Disallow strict start count) word = (word % 4294967296 ≡ start) × (word / 4294967296 ≡ count)
+Worded (says.Require must) word = Unit {0}
 
 -- The tables hold at j what a constraint, or a list of them, needs there: its excluded value or its list.
 abbrev pub Holds : Conjuncts → ℕ → Constraint ℕ → Type 0

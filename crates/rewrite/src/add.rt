@@ -8,7 +8,8 @@ ghost use Rattle.truth.specs.FromBytes.{closesLow, closesHigh};
 ghost use Rattle.constraints.specs.Column as q;
 ghost use Rattle.constraints.specs.Lined.{onLine, lined};
 ghost use Rattle.constraints.specs.Mapped.{mapConstraint};
-ghost use Rattle.column_constraints.specs.Abstraction.{Conjuncts, conjuncts, numbered, columnOf, limitOf, Fine};
+ghost use Rattle.column_constraints.specs.Abstraction.{Conjuncts, conjunctsOf, conjuncts, numbered, columnOf, limitOf, Fine};
+ghost use Rattle.column_constraints.specs.Abstraction.{kindsIn, valuesIn};
 ghost use Rattle.merge.specs.Classify.{comparisonConstraints};
 ghost use Rattle.read_operands.specs.Read.{saysIn, comparisonIn};
 ghost use Rattle.rewrite.specs.Told.{Told};
@@ -56,17 +57,17 @@ fn add_equal(c: ColumnConstraints, v: Limit) -> ColumnConstraints
 
 // `column k v`, of conjunct j. Only `!=` gives the number j to the column.
 fn add_comparison(
-    kinds: &[u8],
-    values: &[u64],
+    told: &[u64],
     marks: &mut [u8],
     c: ColumnConstraints,
     j: u8,
     k: Comparison,
     v: Scalar,
 ) -> ColumnConstraints
-    requires { ⌜ Fine (length (now marks)) (now marks) (c .len) × (j < length (now marks)) × Told (conjuncts (now kinds) (now values) [] [] []) j
+    requires { ⌜ Fine (length (now marks)) (now marks) (c .len) × (j < length (now marks)) × Told (conjunctsOf (kindsIn
+        (now told)) (valuesIn (now told)) [] [] []) j
         (comparisonConstraints (comparisonIn k) (v .0)) ⌝ }
-    ensures { λ r. ⌜ ((t : Conjuncts) → t .kinds ≡ now (kinds .entry) → t .values ≡ now (values .entry) →
+    ensures { λ r. ⌜ ((t : Conjuncts) → t .kinds ≡ kindsIn (now (told .entry)) → t .values ≡ valuesIn (now (told .entry)) →
         columnOf t (numbered (now (marks .exit)) r) ≡ q.addAll lined (map (mapConstraint (onLine j)) (comparisonConstraints (comparisonIn k) (v .0))) (columnOf t (numbered (now (marks .entry)) c))) ⌝ }
     ensures { λ r. ⌜ Fine (length (now (marks .entry))) (now (marks .exit)) (r .len) ⌝ }
 {
@@ -77,7 +78,7 @@ fn add_comparison(
     };
     match k {
         Comparison::Eq => add_equal(c, l),
-        Comparison::NotEq => add_excluded(kinds, values, marks, c, j),
+        Comparison::NotEq => add_excluded(told, marks, c, j),
         Comparison::Lt => with_upper(c, l, false),
         Comparison::LtEq => with_upper(c, l, true),
         Comparison::Gt => with_lower(c, l, false),
@@ -118,26 +119,22 @@ fn add_between(c: ColumnConstraints, ends: ClosedInterval, v: Limit, w: Limit) -
 
 /// What conjunct j says of its column, whose numbers are in `marks`.
 pub fn add_says(
-    kinds: &[u8],
-    values: &[u64],
-    starts: &[u32],
-    counts: &[u32],
+    told: &[u64],
     pool: &[u8],
     marks: &mut [u8],
     c: ColumnConstraints,
     j: u8,
     s: Says,
 ) -> ColumnConstraints
-    requires { ⌜ Fine (length (now marks)) (now marks) (c .len) × (j < length (now marks)) × Told (conjuncts (now kinds) (now values) (now starts)
-        (now counts) (now pool)) j (saysIn (now pool) s) ⌝ }
-    ensures { λ r. ⌜ (let t = conjuncts (now (kinds .entry)) (now (values .entry)) (now (starts .entry))
-        (now (counts .entry)) (now (pool .entry)) in
+    requires { ⌜ Fine (length (now marks)) (now marks) (c .len) × (j < length (now marks)) × Told (conjuncts (now told)
+        (now pool)) j (saysIn (now pool) s) ⌝ }
+    ensures { λ r. ⌜ (let t = conjuncts (now (told .entry)) (now (pool .entry)) in
         columnOf t (numbered (now (marks .exit)) r) ≡ q.addAll lined (map (mapConstraint (onLine j)) (saysIn (now (pool .entry)) s)) (columnOf t (numbered (now (marks .entry)) c))) ⌝ }
     ensures { λ r. ⌜ Fine (length (now (marks .entry))) (now (marks .exit)) (r .len) ⌝ }
 {
     match s {
         Says::Nothing => c,
-        Says::Compare(k, v) => add_comparison(kinds, values, marks, c, j, k, v),
+        Says::Compare(k, v) => add_comparison(told, marks, c, j, k, v),
         Says::Between(ends, v, w) => {
             let low = Limit {
                 value: v,
@@ -152,7 +149,7 @@ pub fn add_says(
             add_between(c, ends, low, upp)
         }
         Says::Allow(_, _) => add_allowed(marks, c, j),
-        Says::Disallow(strict, _, _) => add_disallowed(counts, marks, c, j, strict),
+        Says::Disallow(strict, _, _) => add_disallowed(told, marks, c, j, strict),
         Says::Require(n) => require_nullability(c, n),
     }
 }

@@ -7,6 +7,7 @@ ghost use Rattle.constraints.specs.Comparisons.{collectColumnComparisons};
 ghost use Rattle.constraints.specs.Lined.{Lined, lined};
 ghost use Rattle.constraints.specs.Resolve.{fixedAt};
 ghost use Rattle.column_constraints.specs.Abstraction.{Conjuncts, numbered, columnOf, comparedOf, Fine};
+ghost use Rattle.column_constraints.specs.Abstraction.{kindsIn, valuesIn};
 ghost use Rattle.merge.specs.Emit.{ofColumn, isFixed};
 ghost use Rattle.merge.specs.Lines.{mapComparisons};
 ghost use Rattle.merge.specs.Write.{writeComparisons};
@@ -68,17 +69,16 @@ pub fn write_column(
     rs: &mut [u8],
     u: u32,
     a: Column,
-    kinds: &[u8],
-    values: &[u64],
+    told: &[u64],
     marks: &[u8],
     c: ColumnConstraints,
 ) -> u32
-    requires { ⌜ Fine 128 (now marks) (c .len) × (u ≤ 4096) × ((s : Conjuncts) → s .kinds ≡ now kinds →
-        s .values ≡ now values →
+    requires { ⌜ Fine 128 (now marks) (c .len) × (u ≤ 4096) × ((s : Conjuncts) → s .kinds ≡ kindsIn (now told) →
+        s .values ≡ valuesIn (now told) →
         16 * (u + 3 * length (collectColumnComparisons lined (columnOf s (numbered (now marks) c)))) ≤ length (now rs)) ⌝ }
-    ensures { λ r. ⌜ ((s : Conjuncts) → s .kinds ≡ now (kinds .entry) → s .values ≡ now (values .entry) →
+    ensures { λ r. ⌜ ((s : Conjuncts) → s .kinds ≡ kindsIn (now (told .entry)) → s .values ≡ valuesIn (now (told .entry)) →
         r ≡ u + 3 * length (collectColumnComparisons lined (columnOf s (numbered (now (marks .entry)) c)))) ⌝ }
-    ensures { λ _. ⌜ ((s : Conjuncts) → s .kinds ≡ now (kinds .entry) → s .values ≡ now (values .entry) →
+    ensures { λ _. ⌜ ((s : Conjuncts) → s .kinds ≡ kindsIn (now (told .entry)) → s .values ≡ valuesIn (now (told .entry)) →
         now (rs .exit) ≡ writeComparisons (now (t .entry)) u
         (mapComparisons (λ (v : Lined). v .bits) (ofColumn (a .0)
         (collectColumnComparisons lined (columnOf s (numbered (now (marks .entry)) c))))) (now (rs .entry))) ⌝ }
@@ -87,7 +87,7 @@ pub fn write_column(
     let mut at = u;
     let mut p: usize = 0;
     while p < places {
-        let k = comparison_at(kinds, values, marks, c, p);
+        let k = comparison_at(told, marks, c, p);
         at = write_place(t, rs, at, a, k);
         p += 1;
     }

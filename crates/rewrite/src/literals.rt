@@ -1,14 +1,14 @@
-// The literals and lists of the conjuncts, each decoded once: a column's sets hold numbers of conjuncts, and these
-// tables say which values the numbers stand for.
+// The literals and lists of the conjuncts, each decoded once: a column's sets hold numbers of conjuncts, and this
+// table says which values the numbers stand for.
 ghost use mathlib.Core.Path.{_≡_};
 ghost use mathlib.Core.Bool.{true};
 ghost use mathlib.Core.List.{List};
-ghost use Prim.Native.Nat.{ℕ, _≤_, _<_};
+ghost use Prim.Native.Nat.{ℕ, _*_, _/_, _%_, _≤_, _<_};
 ghost use lib.ListN.{length, getD};
 ghost use Rattle.truth.specs.FromBytes.{aexprOf};
 ghost use Rattle.column_constraints.specs.Abstraction.{Conjuncts, conjuncts};
 ghost use Rattle.merge.specs.Classify as c;
-ghost use Rattle.rewrite.specs.Told.{saidBy, comparisonKind, kindOf, literalOf, startOf, countOf};
+ghost use Rattle.rewrite.specs.Told.{saidBy, comparisonKind, kindOf, Worded};
 ghost use Rattle.rewrite.specs.Told.{ToldConjunct};
 use read_operands::operands::Comparison;
 use read_operands::operands::Conjunct;
@@ -29,7 +29,7 @@ fn said_by(k: Conjunct) -> Says
     }
 }
 
-fn comparison_kind(k: Comparison) -> u8
+fn comparison_kind(k: Comparison) -> u64
     ensures { λ r. ⌜ r ≡ comparisonKind k ⌝ }
 {
     match k {
@@ -42,7 +42,7 @@ fn comparison_kind(k: Comparison) -> u8
     }
 }
 
-fn kind_of(s: Says) -> u8
+fn kind_of(s: Says) -> u64
     ensures { λ r. ⌜ r ≡ kindOf s ⌝ }
 {
     match s {
@@ -55,46 +55,27 @@ fn kind_of(s: Says) -> u8
     }
 }
 
-fn literal_of(s: Says) -> u64
-    ensures { λ r. ⌜ r ≡ literalOf s ⌝ }
+// A list's start and count in one word.
+fn list_word(start: u32, count: u32) -> u64
+    ensures { λ r. ⌜ (r % 4294967296 ≡ start) × (r / 4294967296 ≡ count) ⌝ }
+{
+    start as u64 + 4294967296 * (count as u64)
+}
+
+fn word_of(s: Says) -> u64
+    ensures { λ r. ⌜ Worded s r ⌝ }
 {
     match s {
         Says::Nothing => 0,
         Says::Compare(_, v) => v.0,
         Says::Between(_, _, _) => 0,
-        Says::Allow(_, _) => 0,
-        Says::Disallow(_, _, _) => 0,
+        Says::Allow(start, count) => list_word(start, count),
+        Says::Disallow(_, start, count) => list_word(start, count),
         Says::Require(_) => 0,
     }
 }
 
-fn start_of(s: Says) -> u32
-    ensures { λ r. ⌜ r ≡ startOf s ⌝ }
-{
-    match s {
-        Says::Nothing => 0,
-        Says::Compare(_, _) => 0,
-        Says::Between(_, _, _) => 0,
-        Says::Allow(start, _) => start,
-        Says::Disallow(_, start, _) => start,
-        Says::Require(_) => 0,
-    }
-}
-
-fn count_of(s: Says) -> u32
-    ensures { λ r. ⌜ r ≡ countOf s ⌝ }
-{
-    match s {
-        Says::Nothing => 0,
-        Says::Compare(_, _) => 0,
-        Says::Between(_, _, _) => 0,
-        Says::Allow(_, count) => count,
-        Says::Disallow(_, _, count) => count,
-        Says::Require(_) => 0,
-    }
-}
-
-// A comparison other than `!=` excludes no value and has no list, so the tables need not say anything of it. Most
+// A comparison other than `!=` excludes no value and has no list, so the table need not say anything of it. Most
 // conjuncts are such, and two bytes tell.
 fn tells_nothing(rs: &[u8], n: Node) -> bool
     ensures { λ r. ⌜ (r ≡ true → (t : Conjuncts) (p : List ℕ) (j : ℕ) →
@@ -110,23 +91,13 @@ fn tells_nothing(rs: &[u8], n: Node) -> bool
     false
 }
 
-/// The tables of the first n nodes, by conjunct: its kind (0 an excluded literal, 1 an is_in list, 2 a negated one, 3 none
-/// of these), its literal, its list's start and count in the pool. The caller lends them: returned, they would be copied.
-pub fn read_literals(
-    rs: &[u8],
-    nodes: &[u32],
-    n: usize,
-    kinds: &mut [u8],
-    values: &mut [u64],
-    starts: &mut [u32],
-    counts: &mut [u32],
-)
-    requires { ⌜ n ≤ length (now nodes) ⌝ }
-    requires { ⌜ (n ≤ length (now kinds)) × (n ≤ length (now values)) × (n ≤ length (now starts))
-        × (n ≤ length (now counts)) ⌝ }
-    ensures { λ _. ⌜ ((p : List ℕ) (i : ℕ) → i < n → ToldConjunct (conjuncts (now (kinds .exit)) (now (values .exit))
-        (now (starts .exit)) (now (counts .exit)) p) i (c.classify (aexprOf (now (rs .entry)) p) (getD (now
-        (nodes .entry)) i 0))) ⌝ }
+/// What the first n nodes say, two words a conjunct as `column_sets::told` reads them; a conjunct that tells nothing leaves its
+/// words as they were, and so are those behind. The caller lends the table: returned, it would be copied.
+pub fn read_literals(rs: &[u8], nodes: &[u32], n: usize, told: &mut [u64])
+    requires { ⌜ (n ≤ length (now nodes)) × (2 * n ≤ length (now told)) ⌝ }
+    ensures { λ _. ⌜ ((p : List ℕ) (i : ℕ) → i < n → ToldConjunct (conjuncts (now (told .exit)) p) i
+        (c.classify (aexprOf (now (rs .entry)) p) (getD (now (nodes .entry)) i 0))) ⌝ }
+    ensures { λ _. ⌜ ((i : ℕ) → 2 * n ≤ i → getD (now (told .exit)) i 0 ≡ getD (now (told .entry)) i 0) ⌝ }
 {
     let mut i: usize = 0;
     while i < n {
@@ -137,10 +108,8 @@ pub fn read_literals(
         }
         let k = classify_by_record(rs, node);
         let s = said_by(k);
-        kinds[i] = kind_of(s);
-        values[i] = literal_of(s);
-        starts[i] = start_of(s);
-        counts[i] = count_of(s);
+        told[2 * i] = word_of(s);
+        told[2 * i + 1] = kind_of(s);
         i += 1;
     }
 }

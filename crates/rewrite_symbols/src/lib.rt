@@ -42,7 +42,8 @@ fn merge_ranked(
     requires there { ⌜ (n ≤ 128) × (n ≤ length (now nodes)) ⌝ }
     requires room { ⌜ (placeCount (now p) used ≤ length (now values)) × (placeCount (now p) used ≤ length (now places))
         × (placeCount (now p) used ≤ length (now ranks)) ⌝ }
-    requires copied { ⌜ (16 * used ≤ length (now src)) × (2 * length (now p) ≤ length (now pool)) ⌝ }
+    requires copied { ⌜ (16 * used ≤ length (now src)) × (2 * length (now p) ≤ length (now pool))
+        × (length (now values) ≤ 12288) × (length (now values) ≤ length (now places)) ⌝ }
     ensures explains { λ r. ⌜ (AreBytes (now (text .entry)) → Explains (now (text .entry)) (now (t .entry)) (now (rs .entry))
         (now (p .entry)) used (root .0) (now (reasons .entry)) r (now (rs .exit)) (now (reasons .exit))) ⌝ }
 {
@@ -60,6 +61,8 @@ fn merge_ranked(
         src,
         pool,
         reasons,
+        values,
+        places,
     )
 }
 

@@ -1,6 +1,2 @@
-pub mod Order
-pub mod Search
-pub mod Entering
-pub mod Gathering
 pub mod Numbering
 pub mod Rows

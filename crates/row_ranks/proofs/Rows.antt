@@ -8,8 +8,7 @@ use lib.ListN.{length, getD, take, drop, length-append, length-take, length-drop
 use lib.Seq.{length-take-le, take-at, drop-at, getD-take, getD-drop, ext-getD}
 use Rattle.sorted.proofs.Parts.{last}
 use Rattle.masks.specs.Block.{chainRow}
-use Rattle.row_ranks.specs.RowRanks.{RowRanks, BlockRanks}
-use Rattle.row_ranks.specs.Between.{RowsBefore}
+use Rattle.row_ranks.specs.RowRanks.{RowRanks, BlockRanks, RowsBefore}
 
 -- The elements from a on, k of them, replaced by ys.
 abbrev pub back : List ℕ → ℕ → ℕ → List ℕ → List ℕ
@@ -96,17 +95,17 @@ module _ (columns : ℕ) (l : List ℕ) (i : ℕ) (ys : List ℕ) (room : 8 * co
   }
 
 -- ---- The rows so far.
-module _ {text t S : List ℕ} {m : ℕ} {values nulls : List ℕ} {base : ℕ} where
-  pub block-none : {block : List ℕ} → BlockRanks text t S m values nulls base 0 block
+module _ {t C values nulls : List ℕ} {base : ℕ} where
+  pub block-none : {block : List ℕ} → BlockRanks t C values nulls base 0 block
   block-none = record { rows = λ i h. absurd (omega arith) }
 
-  pub block-more : {i : ℕ} {block out : List ℕ} → BlockRanks text t S m values nulls base i block → RowsBefore (length t) i block out
-      → RowRanks text t S m (chainRow (length t) values (base + i)) (getD nulls (base + i) 0) (chainRow (length t) out i)
-      → BlockRanks text t S m values nulls base (i + 1) out
+  pub block-more : {i : ℕ} {block out : List ℕ} → BlockRanks t C values nulls base i block → RowsBefore (length t) i block out
+      → RowRanks t C (chainRow (length t) values (base + i)) (getD nulls (base + i) 0) (length t) (chainRow (length t) out i)
+      → BlockRanks t C values nulls base (i + 1) out
   block-more {i} {block} {out} b k r = record {
     rows = λ j h. last j i h
-        (λ (u : j < i). subst (λ l. RowRanks text t S m (chainRow (length t) values (base + j)) (getD nulls (base + j) 0) l)
+        (λ (u : j < i). subst (λ l. RowRanks t C (chainRow (length t) values (base + j)) (getD nulls (base + j) 0) (length t) l)
         (sym (k .same j u)) (b .rows j u))
-        (λ (u : j ≡ i). subst (λ z. RowRanks text t S m (chainRow (length t) values (base + z)) (getD nulls (base + z) 0)
+        (λ (u : j ≡ i). subst (λ z. RowRanks t C (chainRow (length t) values (base + z)) (getD nulls (base + z) 0) (length t)
         (chainRow (length t) out z)) (sym u) r);
   }

@@ -1,2 +1,1 @@
 pub mod RowRanks
-pub mod Between

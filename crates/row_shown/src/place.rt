@@ -8,6 +8,7 @@ ghost use Rattle.constraints.specs.Lined.{lined};
 ghost use Rattle.constraints.specs.Payload.{payload};
 ghost use Rattle.constraints.specs.Resolve.{isFeasible};
 ghost use Rattle.column_constraints.specs.Abstraction.{Conjuncts, conjuncts, numbered, columnOf, boundOf, listOf};
+ghost use Rattle.column_constraints.specs.Abstraction.{startsIn, countsIn};
 ghost use Rattle.row_shown.specs.Shown as shown;
 ghost use Rattle.row_shown.specs.Bits.{bitsColumn, bitsBound, smallestOf};
 use column_constraints::bound::Bound;
@@ -18,7 +19,9 @@ use column_constraints::column::FixedValue;
 use column_sets::marks::allows;
 use column_sets::marks::disallows;
 use column_sets::marks::excludes;
-use column_sets::marks::number_at;
+use column_sets::told::count_at;
+use column_sets::told::kind_at;
+use column_sets::told::start_at;
 use records::bytes::byte;
 use records::bytes::value_at;
 use resolve_deferred::resolve::fixed_value;
@@ -133,18 +136,8 @@ fn smaller(possible: bool, v: Scalar, s: Smallest) -> Smallest
 }
 
 /// Does v survive the bounds and the three sets.
-fn is_possible(
-    kinds: &[u8],
-    values: &[u64],
-    starts: &[u32],
-    counts: &[u32],
-    pool: &[u8],
-    marks: &[u8],
-    c: ColumnConstraints,
-    v: Scalar,
-) -> bool
-    ensures { λ r. ⌜ r ≡ isFeasible lined (columnOf (conjuncts (now (kinds .entry)) (now (values .entry))
-        (now (starts .entry)) (now (counts .entry)) (now (pool .entry))) (numbered (now (marks .entry)) c))
+fn is_possible(told: &[u64], pool: &[u8], marks: &[u8], c: ColumnConstraints, v: Scalar) -> bool
+    ensures { λ r. ⌜ r ≡ isFeasible lined (columnOf (conjuncts (now (told .entry)) (now (pool .entry))) (numbered (now (marks .entry)) c))
         (payload .key (v .0)) ⌝ }
 {
     let low = c.lower;
@@ -155,32 +148,22 @@ fn is_possible(
     if !clears_upper(upp, v) {
         return false;
     }
-    if excludes(kinds, values, marks, c.len, v) {
+    if excludes(told, marks, c.len, v) {
         return false;
     }
-    if !allows(kinds, starts, counts, pool, marks, c.len, v) {
+    if !allows(told, pool, marks, c.len, v) {
         return false;
     }
-    !disallows(kinds, starts, counts, pool, marks, c.len, v)
+    !disallows(told, pool, marks, c.len, v)
 }
 
 /// The smallest possible value of the list of conjunct f, from its end on.
-fn smallest_listed(
-    kinds: &[u8],
-    values: &[u64],
-    starts: &[u32],
-    counts: &[u32],
-    pool: &[u8],
-    marks: &[u8],
-    c: ColumnConstraints,
-    f: u8,
-) -> Smallest
-    ensures { λ r. ⌜ smallestOf r ≡ shown.smallest (isFeasible lined (columnOf (conjuncts (now (kinds .entry))
-        (now (values .entry)) (now (starts .entry)) (now (counts .entry)) (now (pool .entry)))
-        (numbered (now (marks .entry)) c))) (listOf (now (starts .entry)) (now (counts .entry)) (now (pool .entry)) f) ⌝ }
+fn smallest_listed(told: &[u64], pool: &[u8], marks: &[u8], c: ColumnConstraints, f: u8) -> Smallest
+    ensures { λ r. ⌜ smallestOf r ≡ shown.smallest (isFeasible lined (columnOf (conjuncts (now (told .entry)) (now (pool .entry)))
+        (numbered (now (marks .entry)) c))) (listOf (startsIn (now (told .entry))) (countsIn (now (told .entry))) (now (pool .entry)) f) ⌝ }
 {
-    let s = number_at(starts, f as usize) as usize;
-    let m = number_at(counts, f as usize) as usize;
+    let s = start_at(told, f as usize) as usize;
+    let m = count_at(told, f as usize) as usize;
     let mut best = Smallest {
         found: false,
         value: 0,
@@ -189,7 +172,7 @@ fn smallest_listed(
     while 0 < i {
         i -= 1;
         let v = Scalar(value_at(pool, s + i));
-        let possible = is_possible(kinds, values, starts, counts, pool, marks, c, v);
+        let possible = is_possible(told, pool, marks, c, v);
         best = smaller(possible, v, best);
     }
     best
@@ -206,24 +189,16 @@ fn list_place(s: Smallest) -> Place
 
 /// The place of a resolved column that is not null. Of several allowed lists the first is walked: a possible value is
 /// in all.
-pub fn value_place(
-    kinds: &[u8],
-    values: &[u64],
-    starts: &[u32],
-    counts: &[u32],
-    pool: &[u8],
-    marks: &[u8],
-    c: ColumnConstraints,
-) -> Place
-    ensures { λ r. ⌜ r ≡ shown.valuePlace (bitsColumn (columnOf (conjuncts (now (kinds .entry)) (now (values .entry))
-        (now (starts .entry)) (now (counts .entry)) (now (pool .entry))) (numbered (now (marks .entry)) c))) ⌝ }
+pub fn value_place(told: &[u64], pool: &[u8], marks: &[u8], c: ColumnConstraints) -> Place
+    ensures { λ r. ⌜ r ≡ shown.valuePlace (bitsColumn (columnOf (conjuncts (now (told .entry)) (now (pool .entry)))
+        (numbered (now (marks .entry)) c))) ⌝ }
 {
     let n = c.len;
     let mut i: usize = 0;
     while i < n {
         let f = byte(marks, i);
-        if byte(kinds, f as usize) == 1 {
-            let s = smallest_listed(kinds, values, starts, counts, pool, marks, c, f);
+        if kind_at(told, f as usize) == 1 {
+            let s = smallest_listed(told, pool, marks, c, f);
             return list_place(s);
         }
         i += 1;

@@ -8,15 +8,18 @@ use native.Mathlib.Omega.{arith}
 use lib.Dec.{ltb, eqb}
 use lib.ListN.{length}
 use borrow.Author.Tests.{lt-ltb, le-ltb, eq-eqb, ne-eqb, eqb-true}
+use Rattle.checking.specs.Check.{checkAnswer}
+use Rattle.checking.specs.Fault.{answerOf}
 use Rattle.checking.specs.Tree.{treeCount}
 use Rattle.checking.specs.Checked.{Checked}
 use Rattle.checking.proofs.Accepted.{checked-used}
+use Rattle.checking.proofs.Standing.{refused-of, accepted-of}
 use Rattle.three_valued.specs.declared.logic.Truth.{Truth}
 use Rattle.row_test.specs.declared.test.RowAnswer.{RowAnswer}
 use Rattle.row_test.specs.declared.test.RowAnswer.the-variants.{Refused, Tested}
 use Rattle.truth.specs.Halves.{ordZ, key}
 use Rattle.truth.specs.FromBytes.{aexprOf, aexprAt, rowKeys, truthKeys, truthIn}
-use Rattle.row_test.specs.RowTest.{marksOk, columnsOk, rowFault, checkedAnswer}
+use Rattle.row_test.specs.RowTest.{marksOk, columnsOk, rowFault, checkedAnswer, testRowAnswer}
 use Rattle.truth.proofs.Agree.{cells-agree, used-same}
 
 -- A record that is used has the truth that its bytes have.
@@ -66,3 +69,14 @@ module _ (t rs p row : List ℕ) (nulls used root : ℕ) (ok : Checked t rs p us
       row-tested e r er =
           rw (le-ltb 4096 (treeCount rs root) (within (treeCount rs root) c counted small), ← fault, e)
           (ap Tested (er ∙ used-truth rs p row nulls used root (ok .root-used)))
+
+-- ---- What checking refuses or accepts.
+module _ (t rs p row : List ℕ) (nulls used root f : ℕ) (e : answerOf f ≡ checkAnswer t rs p used root) where
+  pub checking-refused : (f ≡ 0 → ⊥) → f ≤ 7 → Refused f ≡ testRowAnswer t rs p used root row nulls
+  unfolding testRowAnswer
+  checking-refused d l = rw (sym e ∙ refused-of f f (omega (arith, l)) d)
+
+  pub checking-accepted : f ≡ 0 → (a : RowAnswer) → a ≡ checkedAnswer t rs p used root row nulls
+      → a ≡ testRowAnswer t rs p used root row nulls
+  unfolding testRowAnswer
+  checking-accepted z a h = h ∙ rw (sym e ∙ accepted-of f z)

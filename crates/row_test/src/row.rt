@@ -5,8 +5,8 @@ ghost use lib.Dec.{ltb};
 ghost use lib.ListN.{length};
 ghost use Rattle.row_test.specs.RowTest.{columnOk, columnsOk, marksOk, rowFault};
 use records::bytes::value_in;
-use records::shape::in_type;
 use truth::read::null_marked;
+use value_types::in_type;
 
 fn column_ok(ty: u8, null: bool, v: u64) -> bool
     ensures { λ r. ⌜ r ≡ columnOk ty null v ⌝ }

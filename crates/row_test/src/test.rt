@@ -1,17 +1,20 @@
 // Testing a row: the checks in 01's order, then the root's truth. A row passes on true only.
 ghost use mathlib.Core.Path.{_≡_};
-ghost use Prim.Native.Nat.{_≤_, min};
+ghost use Prim.Native.Nat.{_≤_, _<_, min};
 ghost use lib.ListN.{length};
 ghost use Rattle.checking.specs.Check.{checkAnswer};
 ghost use Rattle.checking.specs.Checked.{Checked};
 ghost use Rattle.checking.specs.Tree.{Counted, treeCount};
+ghost use Rattle.checking.specs.Fault.{answerOf, Stands};
 ghost use Rattle.checking.specs.declared.check.CheckAnswer.the-variants.{Accepted};
 ghost use Rattle.row_test.specs.RowTest.{checkedAnswer, testRowAnswer};
+ghost use Rattle.row_test.specs.declared.test.RowAnswer.the-variants.{Refused};
 use crate::evaluate::truth_at;
 use crate::row::row_fault;
-use checking::check::CheckAnswer;
-use checking::check::check_counted;
 use checking::check::check_few_counted;
+use checking::check::check_with_text;
+use limits::FEW_RECORDS;
+use limits::RECORDS;
 use records::record::Node;
 use three_valued::logic::Truth;
 
@@ -47,7 +50,7 @@ pub fn test_checked(
     RowAnswer::Tested(truth_at(records, pool, row, nulls, root))
 }
 
-// Checking: a screen of few records has its slices passed on once and not twice.
+// Checking as a screen without symbols: one of few records has its slices passed on once and not twice.
 fn check_sized(
     table: &[u8],
     records: &[u8],
@@ -56,18 +59,21 @@ fn check_sized(
     root: u64,
     types: &mut [u8],
     trees: &mut [u16],
-) -> CheckAnswer
+) -> u32
     requires { ⌜ (used ≤ 4096 → used ≤ length (now types)) ⌝ }
     requires { ⌜ (used ≤ 4096 → used ≤ length (now trees)) ⌝ }
-    ensures { λ a. ⌜ a ≡ checkAnswer (now (table .entry)) (now (records .entry)) (now (pool .entry)) used root ⌝ }
-    ensures { λ a. ⌜ (a ≡ Accepted → Counted (now (records .entry)) (now (trees .exit)) used) ⌝ }
+    ensures { λ f. ⌜ answerOf f ≡ checkAnswer (now (table .entry)) (now (records .entry)) (now (pool .entry)) used root ⌝ }
+    ensures { λ f. ⌜ (answerOf f ≡ Accepted → Counted (now (records .entry)) (now (trees .exit)) used) ⌝ }
+    ensures { λ f. ⌜ (f < 8 → Stands (now (table .entry)) (now (records .entry)) (now (pool .entry)) used root) ⌝ }
 {
     if used <= 64 {
         return check_few_counted(table, records, pool, used, root, types, trees);
     }
-    check_counted(table, records, pool, used, root, types, trees)
+    check_with_text(table, records, pool, 0, used, root, types, trees)
 }
 
+// Refused 0, which no call answers, is a screen that was refused at a Text: a text pool may say otherwise. Any other answer is
+// that beside every text pool within its limit.
 fn test_within(
     table: &[u8],
     records: &[u8],
@@ -81,26 +87,29 @@ fn test_within(
 ) -> RowAnswer
     requires { ⌜ (used ≤ 4096 → used ≤ length (now types)) ⌝ }
     requires { ⌜ (used ≤ 4096 → used ≤ length (now trees)) ⌝ }
-    ensures { λ r. ⌜ r ≡ testRowAnswer (now (table .entry)) (now (records .entry)) (now (pool .entry)) used root
-        (now (row .entry)) nulls ⌝ }
+    ensures { λ r. ⌜ ((r ≡ Refused 0 → ⊥) → Stands (now (table .entry)) (now (records .entry)) (now (pool .entry)) used root
+        × (r ≡ testRowAnswer (now (table .entry)) (now (records .entry)) (now (pool .entry)) used root (now (row .entry)) nulls)) ⌝ }
 {
-    let answer = check_sized(table, records, pool, used, root, types, trees);
-    match answer {
-        CheckAnswer::Refused(number) => RowAnswer::Refused(number),
-        CheckAnswer::Accepted => test_checked(
-            table,
-            records,
-            pool,
-            used,
-            Node(root as u32),
-            row,
-            nulls,
-            trees[root as usize],
-        ),
+    let fault = check_sized(table, records, pool, used, root, types, trees);
+    if 7 < fault {
+        return RowAnswer::Refused(0);
     }
+    if fault != 0 {
+        return RowAnswer::Refused(fault);
+    }
+    test_checked(
+        table,
+        records,
+        pool,
+        used,
+        Node(root as u32),
+        row,
+        nulls,
+        trees[root as usize],
+    )
 }
 
-// Most screens have few records, and small tables cost less to clear.
+// The same. Most screens have few records, and small tables cost less to clear.
 pub fn test_row(
     table: &[u8],
     records: &[u8],
@@ -110,12 +119,12 @@ pub fn test_row(
     row: &[u8],
     nulls: u64,
 ) -> RowAnswer
-    ensures { λ r. ⌜ r ≡ testRowAnswer (now (table .entry)) (now (records .entry)) (now (pool .entry)) used root
-        (now (row .entry)) nulls ⌝ }
+    ensures { λ r. ⌜ ((r ≡ Refused 0 → ⊥) → Stands (now (table .entry)) (now (records .entry)) (now (pool .entry)) used root
+        × (r ≡ testRowAnswer (now (table .entry)) (now (records .entry)) (now (pool .entry)) used root (now (row .entry)) nulls)) ⌝ }
 {
     if used <= 64 {
-        let mut few = [0u8; 64];
-        let mut small = [0u16; 64];
+        let mut few = [0u8; FEW_RECORDS];
+        let mut small = [0u16; FEW_RECORDS];
         return test_within(
             table,
             records,
@@ -128,8 +137,8 @@ pub fn test_row(
             &mut small,
         );
     }
-    let mut types = [0u8; 4096];
-    let mut trees = [0u16; 4096];
+    let mut types = [0u8; RECORDS];
+    let mut trees = [0u16; RECORDS];
     test_within(
         table,
         records,

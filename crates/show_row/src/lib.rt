@@ -25,6 +25,10 @@ use crate::merged::show_lines;
 use checking::check::CheckAnswer;
 use checking::check::check_counted;
 use far_lists::far::travels_far;
+use limits::COLUMNS;
+use limits::CONJUNCTS;
+use limits::FEW_RECORDS;
+use limits::RECORDS;
 use minterm_iter::minterms;
 use plain::is_plain;
 use records::record::Node;
@@ -53,50 +57,14 @@ fn show_plain(
         (root .0)) (now (row .entry)) ⌝ }
     ensures { λ r. ⌜ LowShown r (now (t .entry)) (now (rs .entry)) (now (p .entry)) used (root .0) ⌝ }
 {
-    let mut kinds = [0u8; 128];
-    let mut values = [0u64; 128];
-    let mut starts = [0u32; 128];
-    let mut counts = [0u32; 128];
-    let mut marks = [0u8; 8192];
+    let mut told = [0u64; 2 * CONJUNCTS];
+    let mut marks = [0u8; COLUMNS * CONJUNCTS];
     let none = [0u64; 1];
-    read_literals(
-        rs,
-        nodes,
-        n,
-        &mut kinds,
-        &mut values,
-        &mut starts,
-        &mut counts,
-    );
-    if travels_far(rs, nodes, n, &starts, &counts) {
-        return show_indexed(
-            rs,
-            p,
-            nodes,
-            n,
-            &kinds,
-            &values,
-            &starts,
-            &counts,
-            &mut marks,
-            t.len(),
-            row,
-        );
+    read_literals(rs, nodes, n, &mut told);
+    if travels_far(rs, nodes, n, &told) {
+        return show_indexed(rs, p, nodes, n, &told, &mut marks, t.len(), row);
     }
-    show_lines(
-        rs,
-        p,
-        nodes,
-        n,
-        &kinds,
-        &values,
-        &starts,
-        &counts,
-        &none,
-        &mut marks,
-        t.len(),
-        row,
-    )
+    show_lines(rs, p, nodes, n, &told, &none, &mut marks, t.len(), row)
 }
 
 // An accepted screen with a tree of at most 4,096 records: 9, 17, 14, then its row.
@@ -109,7 +77,7 @@ fn show_counted(t: &[u8], rs: &[u8], p: &[u8], used: u32, root: Node, row: &mut 
         (root .0)) (now (row .entry)) ⌝ }
     ensures { λ r. ⌜ LowShown r (now (t .entry)) (now (rs .entry)) (now (p .entry)) used (root .0) ⌝ }
 {
-    let mut nodes = [0u32; 128];
+    let mut nodes = [0u32; CONJUNCTS];
     let n = minterms(rs, root, &mut nodes);
     if 128 < n {
         return ShowAnswer::Refused(9);
@@ -184,12 +152,12 @@ fn show_row(t: &[u8], rs: &[u8], p: &[u8], used: u64, root: u64, row: &mut [u8])
     ensures { λ r. ⌜ LowShown r (now (t .entry)) (now (rs .entry)) (now (p .entry)) used root ⌝ }
 {
     if used <= 64 {
-        let mut few = [0u8; 64];
-        let mut small = [0u16; 64];
+        let mut few = [0u8; FEW_RECORDS];
+        let mut small = [0u16; FEW_RECORDS];
         return show_within(t, rs, p, used, root, &mut few, &mut small, row);
     }
-    let mut types = [0u8; 4096];
-    let mut trees = [0u16; 4096];
+    let mut types = [0u8; RECORDS];
+    let mut trees = [0u16; RECORDS];
     show_within(t, rs, p, used, root, &mut types, &mut trees, row)
 }
 

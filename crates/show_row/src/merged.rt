@@ -22,6 +22,8 @@ ghost use Rattle.show_row.specs.Calls.{rowOut};
 ghost use Rattle.show_row.specs.Low.{LowWholes};
 use crate::answer::ShowAnswer;
 use collect_constraints::collect::collect;
+use column_table::words::CELLS;
+use limits::CONJUNCTS;
 use propagate_equalities::propagate::propagate_equalities;
 use resolve_columns::conclude::ResolvedColumns;
 use resolve_columns::conclude::resolve_all;
@@ -30,10 +32,7 @@ use write_places::write_places;
 // Stages 2 and 3 of the merging: the equalities are followed, then what was deferred is resolved.
 fn propagate_and_resolve(
     index: &[u64],
-    kinds: &[u8],
-    values: &[u64],
-    starts: &[u32],
-    counts: &[u32],
+    told: &[u64],
     p: &[u8],
     cells: &mut [u64],
     marks: &mut [u8],
@@ -44,65 +43,37 @@ fn propagate_and_resolve(
     columns: usize,
 ) -> ResolvedColumns
     requires { ⌜ Fits (now cells) (now marks) × (edges ≤ length (now lefts)) × (edges ≤ length (now rights))
-        × (columns ≤ length (now order)) × (columns ≤ 256) × Indexed (now starts) (now counts) (now p) (now index) ⌝ }
+        × (columns ≤ length (now order)) × (columns ≤ 256) × Indexed (now told) (now p) (now index) ⌝ }
     requires { ⌜ EdgesBelow (now lefts) (now rights) edges ⌝ }
     requires { ⌜ ((o : ℕ) → o < columns → (getD (now order) o 0 < 64) ×
         (isIn (getD (now order) o 0) (firstOf (now order) o) ≡ false)) ⌝ }
-    ensures { λ r. ⌜ (let t = conjuncts (now (kinds .entry)) (now (values .entry)) (now (starts .entry))
-        (now (counts .entry)) (now (p .entry)) in (T : ColumnTable) (equals : List ℕ) →
+    ensures { λ r. ⌜ (let t = conjuncts (now (told .entry)) (now (p .entry)) in (T : ColumnTable) (equals : List ℕ) →
         Shows t (columnsOf (now (cells .entry))) (now (marks .entry)) T →
         Resolved t (columnsOf (now (cells .exit))) (now (marks .exit)) (firstOf (now (order .entry)) columns) false
         (r .unsat) (r .total)
         (propagate lined columns (edgesOf (now (lefts .entry)) (now (rights .entry)) equals edges) T)) ⌝ }
     ensures { λ _. ⌜ length (now (cells .exit)) ≡ 448 ⌝ }
 {
-    propagate_equalities(
-        index,
-        kinds,
-        values,
-        starts,
-        counts,
-        p,
-        cells,
-        marks,
-        lefts,
-        rights,
-        edges,
-        columns,
-    );
-    resolve_all(
-        index,
-        kinds,
-        values,
-        starts,
-        counts,
-        p,
-        cells,
-        marks,
-        order,
-        columns,
-    )
+    propagate_equalities(index, told, p, cells, marks, lefts, rights, edges, columns);
+    resolve_all(index, told, p, cells, marks, order, columns)
 }
 
-/// The first n of `nodes` are the lines of a plain screen; kinds, values, starts and counts are their tables, `index` is the
+/// The first n of `nodes` are the lines of a plain screen; `told` is what they say, `index` is the
 /// index of the lists or has none, `marks` has room for the columns' numbers, `row` has room for the columns' places.
 pub fn show_lines(
     rs: &[u8],
     p: &[u8],
     nodes: &[u32],
     n: usize,
-    kinds: &[u8],
-    values: &[u64],
-    starts: &[u32],
-    counts: &[u32],
+    told: &[u64],
     index: &[u64],
     marks: &mut [u8],
     columns: usize,
     row: &mut [u8],
 ) -> ShowAnswer
     requires { ⌜ (n ≤ stride (now marks)) × (stride (now marks) ≤ 128) × (n ≤ length (now nodes))
-        × Indexed (now starts) (now counts) (now p) (now index) × (columns ≤ 64) × (16 * columns ≤ length (now row)) ⌝ }
-    requires { ⌜ ((i : ℕ) → i < n → ToldConjunct (conjuncts (now kinds) (now values) (now starts) (now counts) (now p)) i
+        × Indexed (now told) (now p) (now index) × (columns ≤ 64) × (16 * columns ≤ length (now row)) ⌝ }
+    requires { ⌜ ((i : ℕ) → i < n → ToldConjunct (conjuncts (now told) (now p)) i
         (classify (aexprOf (now rs) (now p)) (getD (now nodes) i 0))) ⌝ }
     requires { ⌜ ((i : ℕ) → i < n → ColumnsBelow 64 (classify (aexprOf (now rs) (now p)) (getD (now nodes) i 0))) ⌝ }
     ensures { λ r. ⌜ r ≡ rowAnswer (aexprOf (now (rs .entry)) (now (p .entry))) (firstOf (now (nodes .entry)) n) columns ⌝ }
@@ -110,21 +81,18 @@ pub fn show_lines(
         (firstOf (now (nodes .entry)) n) columns) (now (row .entry)) ⌝ }
     ensures { λ r. ⌜ LowWholes r (aexprOf (now (rs .entry)) (now (p .entry))) (firstOf (now (nodes .entry)) n) columns ⌝ }
 {
-    let mut cells = [0u64; 448];
-    let mut order = [0u32; 256];
-    let mut kept = [0u32; 128];
-    let mut lefts = [0u32; 128];
-    let mut rights = [0u32; 128];
-    let mut equals = [0u32; 128];
+    let mut cells = [0u64; CELLS];
+    let mut order = [0u32; 2 * CONJUNCTS];
+    let mut kept = [0u32; CONJUNCTS];
+    let mut lefts = [0u32; CONJUNCTS];
+    let mut rights = [0u32; CONJUNCTS];
+    let mut equals = [0u32; CONJUNCTS];
     let s = collect(
         rs,
         p,
         nodes,
         n,
-        kinds,
-        values,
-        starts,
-        counts,
+        told,
         &mut cells,
         marks,
         &mut order,
@@ -138,10 +106,7 @@ pub fn show_lines(
     }
     let r = propagate_and_resolve(
         index,
-        kinds,
-        values,
-        starts,
-        counts,
+        told,
         p,
         &mut cells,
         marks,
@@ -154,18 +119,6 @@ pub fn show_lines(
     if r.unsat {
         return ShowAnswer::NoRow;
     }
-    let nulls = write_places(
-        kinds,
-        values,
-        starts,
-        counts,
-        p,
-        &cells,
-        marks,
-        &order,
-        s.columns,
-        columns,
-        row,
-    );
+    let nulls = write_places(told, p, &cells, marks, &order, s.columns, columns, row);
     ShowAnswer::Row(nulls)
 }

@@ -7,6 +7,9 @@ ghost use lib.ListN.{length};
 ghost use Rattle.show_row.specs.Calls.{showNumber, showListed, rowOut, nullsOut, screenBytes};
 ghost use Rattle.show_symbols.specs.Answer.{showAnswerWith};
 ghost use Rattle.show_symbols.specs.Promise.{ShowPromiseWith};
+use limits::COLUMNS;
+use limits::RECORD;
+use limits::RECORDS;
 use plain_symbols::plain_numbers;
 use show_row::show_of_screen;
 use symbol_free::has_symbols;
@@ -74,8 +77,8 @@ fn show_beside_text(
     ensures promise { λ r. ⌜ ShowPromiseWith (now (text .entry)) (now (table .entry)) (now (records .entry))
         (now (pool .entry)) used root r (now (row .entry)) (now (row .exit)) (now (nulls .exit)) ⌝ }
 {
-    let mut columns = [0u8; 64];
-    let mut numbers = [0u8; 65536];
+    let mut columns = [0u8; COLUMNS];
+    let mut numbers = [0u8; RECORD * RECORDS];
     show_of_numbers(
         table,
         records,

@@ -28,7 +28,7 @@ use Rattle.symbol_rows.specs.RowTestWith.{rowFaultWith, checkedAnswerWith, test
 use Rattle.symbol_row_test.proofs.AnswersWith.{columns-small}
 use Rattle.ranked_screen.specs.Screen.{Accepted}
 use Rattle.ranked_screen.proofs.Reading.{accepted-sizes}
-use Rattle.row_ranks.specs.RowRanks.{FitRows}
+use Rattle.text_order.specs.Codes.{Codes}
 use Rattle.ranked_chain.specs.RankedChain.{ChainRanks}
 use Rattle.ranked_chain.specs.Chunks.{EveryRow, RowTruths, ClassesOf}
 use Rattle.ranked_chain.proofs.RankedRow.{ranked-row}
@@ -49,15 +49,6 @@ module _ (text t values nulls : List ℕ) (fit : all (rowFitsWith text t values 
   pub no-fault : (r : ℕ) → r < length nulls → rowFaultWith text t (rowAt t values r) (getD nulls r 0) ≡ 0
   unfolding rowFitsWith
   no-fault r h = eqb-true _ 0 (all-holds (rowFitsWith text t values nulls) r (length nulls) h fit)
-
-  pub rows-fit : FitRows text t values nulls 0 (length nulls)
-  unfolding chainRow rowAt
-  rows-fit =
-      record {
-        fits = λ i h.
-            let e : i ≡ 0 + i = omega arith in
-            subst (λ k. rowFaultWith text t (chainRow (length t) values k) (getD nulls k 0) ≡ 0) e (no-fault i h);
-      }
 
 module _ (text t rs p : List ℕ) (used root : ℕ) (values nulls : List ℕ) (ok : CheckedIn (lent text) t rs p used root)
     (small : treeCount rs root ≤ 4096) where
@@ -95,18 +86,18 @@ module _ (text t rs p : List ℕ) (used root : ℕ) (values nulls : List ℕ) (o
     unfolding Judged ClassesOf
     judged-by classes s r h = s r h ∙ ap classOf (sym (tested-is r h))
 
-    module _ (bytes : (q : ℕ) → getD text q 0 < 256) (S : List ℕ) (m : ℕ) (out pool : List ℕ)
-        (ranks : ChainRanks text rs p used S m out pool) where
+    module _ (bytes : (q : ℕ) → getD text q 0 < 256) (C out pool : List ℕ) (codes : Codes text C)
+        (ranks : ChainRanks text rs p used C out pool) where
       narrow : length t ≤ 64
       narrow = columns-small text t rs p used root ok
 
-      pub row-truths : RowTruths text t S m values nulls out pool root truthOf
+      pub row-truths : RowTruths t C values nulls out pool root truthOf
       unfolding chainRow rowAt
       row-truths =
           record {
             truths = λ r h block long told.
-                sym (ranked-row text t rs p used root ok (places-few text rs p used (accepted text t rs p used root ok)) narrow bytes S m
-                out pool ranks (chainRow (length t) values r) (getD nulls r 0) (no-fault text t values nulls fit r h) block long told);
+                sym (ranked-row text t rs p used root ok (places-few text rs p used (accepted text t rs p used root ok)) narrow bytes C
+                out pool codes ranks (chainRow (length t) values r) (getD nulls r 0) (no-fault text t values nulls fit r h) block long told);
           }
 
       -- the pool has whole values

@@ -1,5 +1,5 @@
-//! The class of each row of a chain, of a screen with symbols (02, 2.10 and 2.14). The screen was checked once. A few rows, and rows of
-//! many columns under a short screen, are tested one by one (each) where lists ask for few values, others by their numbers (ranked).
+//! The class of each row of a chain, of a screen with symbols (02, 2.10 and 2.14). The screen was checked once. Rows
+//! under a short screen are tested one by one (each) where lists ask for few values, others by the numbers of their symbols (ranked).
 ghost use mathlib.Core.Path.{_≡_};
 ghost use mathlib.Core.Bool.{true, false};
 ghost use mathlib.Core.List.{[]};
@@ -28,35 +28,28 @@ fn asks_little(rows: usize, asked: u64) -> bool
     asked <= 524288 / (rows as u64 + 1)
 }
 
-// Whether ranking the symbols of the screen, and of all columns, takes longer than to test the rows. Of few columns few are
-// symbols, as a rule.
-fn is_narrow(rows: usize, columns: usize, places: usize, asked: u64) -> bool
-    requires { ⌜ rows ≤ 1024 ⌝ }
+// Whether to test the rows takes less time than to number the symbols of a text of so many bytes, and of all columns.
+fn is_cheap(rows: usize, columns: usize, used: usize, size: usize, asked: u64) -> bool
+    requires { ⌜ (rows ≤ 1024) × (size ≤ 8192) ⌝ }
 {
-    if columns <= 16 {
-        return false;
-    }
-    if places / 12 < columns {
+    if used <= columns {
         return asks_little(rows, asked);
     }
-    false
+    if 16 * size / (rows + 1) < used - columns {
+        return false;
+    }
+    asks_little(rows, asked)
 }
 
 // In a short chain.
-fn is_short(rows: usize, columns: usize, places: usize, asked: u64) -> bool
-    requires { ⌜ rows ≤ 1024 ⌝ }
+fn is_short(rows: usize, columns: usize, used: usize, size: usize, asked: u64) -> bool
+    requires { ⌜ (rows ≤ 1024) × (size ≤ 8192) ⌝ }
     ensures { λ r. ⌜ (r ≡ false → 0 < rows) ⌝ }
 {
     if rows == 0 {
         return true;
     }
-    if rows < 32 {
-        return asks_little(rows, asked);
-    }
-    if places < 64 {
-        return true;
-    }
-    is_narrow(rows, columns, places, asked)
+    is_cheap(rows, columns, used, size, asked)
 }
 
 // How many values all records ask their lists for.
@@ -94,8 +87,13 @@ fn judge_short(
         (now (pool .entry)) used (root .0) (now (values .entry)) (now (nulls .entry))) (now (classes .exit))
         (length (now (nulls .entry)))) ⌝ }
 {
-    let places = used as usize + pool.len() / 8;
-    if is_short(nulls.len(), table.len(), places, asked(records, used)) {
+    if is_short(
+        nulls.len(),
+        table.len(),
+        used as usize,
+        text.len(),
+        asked(records, used),
+    ) {
         return judge_each(
             table,
             records,
@@ -150,8 +148,13 @@ fn judge_long(
         (now (pool .entry)) used (root .0) (now (values .entry)) (now (nulls .entry))) (now (classes .exit))
         (length (now (nulls .entry)))) ⌝ }
 {
-    let places = used as usize + pool.len() / 8;
-    if is_narrow(nulls.len(), table.len(), places, asked(records, used)) {
+    if is_cheap(
+        nulls.len(),
+        table.len(),
+        used as usize,
+        text.len(),
+        asked(records, used),
+    ) {
         return judge_each(
             table,
             records,

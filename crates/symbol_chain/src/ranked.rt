@@ -12,11 +12,14 @@ ghost use Rattle.chain_rows.specs.Classes.{Judged};
 ghost use Rattle.symbol_screens.specs.Rewriting.{lent};
 ghost use Rattle.symbol_rows.specs.RowTestWith.{rowFaultWith};
 ghost use Rattle.symbol_reduction.specs.Reduction.{Reduced};
+ghost use Rattle.text_order.specs.Codes.{Codes};
 ghost use Rattle.symbol_chain.specs.ChainWith.{answerAtWith, rowFitsWith};
-use ranked_chain::chunks::judge_chunks;
+use crate::each::judge_each;
 use ranked_chain::screen::rank_chain;
 use records::record::Node;
+use row_chunks::judge_chunks;
 use symbol_row_fault::row_fault_with;
+use text_order::making::number_text;
 
 // Of row r of the chain.
 fn chain_fault(table: &[u8], text: &[u8], values: &[u8], r: usize, nulls: u64) -> u32
@@ -58,7 +61,7 @@ fn judge_numbers(
     root: Node,
     values: &[u8],
     nulls: &[u64],
-    symbols: &mut [u64],
+    codes: &[u64],
     ranked: &mut [u8],
     classes: &mut [u8],
     out: &mut [u8],
@@ -72,24 +75,14 @@ fn judge_numbers(
     requires { ⌜ length (now nulls) ≤ length (now classes) ⌝ }
     requires { ⌜ 0 < length (now nulls) ⌝ }
     requires { ⌜ all (rowFitsWith (now text) (now table) (now values) (now nulls)) (length (now nulls)) ≡ true ⌝ }
-    requires { ⌜ (12288 ≤ length (now symbols)) × (length (now ranked) ≡ 2 * length (now pool)) ⌝ }
+    requires { ⌜ Codes (now text) (now codes) ⌝ }
+    requires { ⌜ (8192 ≤ length (now codes)) × (length (now ranked) ≡ 2 * length (now pool)) ⌝ }
     ensures { λ _. ⌜ Judged (answerAtWith (now (text .entry)) (now (table .entry)) (now (records .entry))
         (now (pool .entry)) used (root .0) (now (values .entry)) (now (nulls .entry))) (now (classes .exit))
         (length (now (nulls .entry))) ⌝ }
 {
-    let m = rank_chain(text, records, pool, used, symbols, ranked, out);
-    judge_chunks(
-        table,
-        text,
-        symbols,
-        m,
-        out,
-        ranked,
-        root,
-        values,
-        nulls,
-        classes,
-    );
+    rank_chain(text, codes, records, pool, used, ranked, out);
+    judge_chunks(table, codes, out, ranked, root, values, nulls, classes);
 }
 
 /// Every row's class, 0 false, 1 unknown, 2 passes; false if a row is refused (13). `out` is overwritten.
@@ -122,7 +115,22 @@ pub fn judge_ranked(
     if !rows_fit_with(table, text, values, nulls) {
         return false;
     }
-    let mut symbols = [0u64; 12288];
+    let mut codes = [0u64; 8192];
+    // Never so; it would have to be proved.
+    if !number_text(text, &mut codes) {
+        return judge_each(
+            table,
+            records,
+            pool,
+            text,
+            used,
+            root,
+            values,
+            nulls,
+            classes,
+            out,
+        );
+    }
     let mut ranked = [0u8; 131072];
     let size = 2 * pool.len();
     judge_numbers(
@@ -134,7 +142,7 @@ pub fn judge_ranked(
         root,
         values,
         nulls,
-        &mut symbols,
+        &codes,
         &mut ranked[..size],
         classes,
         out,

@@ -14,6 +14,9 @@ use checking::check::CheckAnswer;
 use hedge::list::HedgeAnswer;
 use hedge::list::hedge_list;
 use hedge::list::list_rows;
+use limits::RECORD;
+use limits::RECORDS;
+use limits::ROWS;
 use records::record::Node;
 use symbol_chain::judge_symbols;
 use symbol_free::has_symbols;
@@ -139,10 +142,10 @@ fn hedge_symbols(
     ensures { λ _. ⌜ now (list .exit) ≡ hedgeBytesWith (now (text .entry)) (now (table .entry)) (now (records .entry))
         (now (pool .entry)) used root (now (values .entry)) (now (nulls .entry)) (now (list .entry)) tally ⌝ }
 {
-    let mut types = [0u8; 4096];
-    let mut trees = [0u16; 4096];
-    let mut classes = [0u8; 1024];
-    let mut out = [0u8; 65536];
+    let mut types = [0u8; RECORDS];
+    let mut trees = [0u16; RECORDS];
+    let mut classes = [0u8; ROWS];
+    let mut out = [0u8; RECORD * RECORDS];
     list_within_with(
         table,
         records,

@@ -24,7 +24,7 @@ use Rattle.constraints.specs.Comparisons.{ColumnComparison}
 use Rattle.constraints.specs.Lined.{Lined, lined}
 use Rattle.constraints.specs.LineKept.{OneOf}
 use Rattle.constraints.specs.Values.{isEmpty}
-use Rattle.column_constraints.specs.Abstraction.{Conjuncts, conjuncts}
+use Rattle.column_constraints.specs.Abstraction.{Conjuncts}
 use Rattle.column_reasons.specs.ColumnText.{tableText}
 use Rattle.column_table.specs.State.{ColumnTable, Shows, Fits, shown}
 use Rattle.column_table.specs.State as state
@@ -81,6 +81,7 @@ use Rattle.symbol_merge.proofs.Outcomes.{both-stop, both-stay, rebuilt-
 use Rattle.symbol_merge.specs.Fronts.{fronted}
 use Rattle.symbol_merge.proofs.Fronts.{written-fronted}
 use Rattle.symbol_merge.proofs.Slices.{excluded-as, order-low, compared-low, table-few}
+use Rattle.column_constraints.specs.Abstraction.{conjunctsOf}
 
 -- the bits of values, spelled out
 abbrev payload : Scalars ℤ ℕ
@@ -238,12 +239,12 @@ module _ (text t rs p : List ℕ) (used root : ℕ) (accepted : checkAnswerIn (l
   -- ---- a rebuilt chain
   module _ (kinds first starts counts said second starts₂ counts₂ cells cells′ marks order kept : List ℕ) (unsat unchanged : Bool)
       (columns keeps total : ℕ)
-      (C : Concluded (linedTo R nodes n) (shown (conjuncts kinds first starts counts pool) (columnsOf cells) marks) order kept unsat
+      (C : Concluded (linedTo R nodes n) (shown (conjunctsOf kinds first starts counts pool) (columnsOf cells) marks) order kept unsat
       unchanged columns keeps total)
       (live : unsat ≡ false) (changed : unchanged ≡ false) (lows : (i : ℕ) → i < columns → getD order i 0 < 64)
-      (tells : (i : ℕ) → i < n → ToldConjunct (conjuncts said second starts₂ counts₂ p) i (classify (aexprOf own p) (getD nodes i 0)))
-      (shows : Shows (conjuncts kinds second starts₂ counts₂ p) (columnsOf cells′) marks
-      (literalTable t (aexprOf own p) nodes (shown (conjuncts kinds second starts₂ counts₂ p) (columnsOf cells) marks))) where
+      (tells : (i : ℕ) → i < n → ToldConjunct (conjunctsOf said second starts₂ counts₂ p) i (classify (aexprOf own p) (getD nodes i 0)))
+      (shows : Shows (conjunctsOf kinds second starts₂ counts₂ p) (columnsOf cells′) marks
+      (literalTable t (aexprOf own p) nodes (shown (conjunctsOf kinds second starts₂ counts₂ p) (columnsOf cells) marks))) where
     abbrev cs : List (ℕ × ColumnComparison LinedPlace)
     cs = comparisonsOf O
 
@@ -254,10 +255,10 @@ module _ (text t rs p : List ℕ) (used root : ℕ) (accepted : checkAnswerIn (l
     ns = firstOf kept keeps
 
     abbrev T : ColumnTable
-    T = shown (conjuncts kinds first starts counts pool) (columnsOf cells) marks
+    T = shown (conjunctsOf kinds first starts counts pool) (columnsOf cells) marks
 
     abbrev T′ : ColumnTable
-    T′ = shown (conjuncts kinds second starts₂ counts₂ p) (columnsOf cells′) marks
+    T′ = shown (conjunctsOf kinds second starts₂ counts₂ p) (columnsOf cells′) marks
 
     back : (O ≡ Rebuilt ns cs) × (comparisons lined ord T ≡ mapComparisons (rankOn ranks count) cs)
     back = rebuilt-of (rankOn ranks count) O ns (comparisons lined ord T) (sym lined-of ∙ C .rebuilds live changed)
@@ -265,9 +266,9 @@ module _ (text t rs p : List ℕ) (used root : ℕ) (accepted : checkAnswerIn (l
     written : comparisons lined ord T′ ≡ mapComparisons (bitsOn vs count) cs
     written =
         literals-written text t rs p used root ok vs ranks (of .standing) count enough (of .pooled) (of .ranked) nodes n
-        (aexprOf own p) own-are (conjuncts said second starts₂ counts₂ p) tells cs
+        (aexprOf own p) own-are (conjunctsOf said second starts₂ counts₂ p) tells cs
         (sources text t rs p used root ok vs ranks (of .standing) count enough) ord T (back .1)
-        (shown (conjuncts kinds second starts₂ counts₂ p) (columnsOf cells) marks) T′
+        (shown (conjunctsOf kinds second starts₂ counts₂ p) (columnsOf cells) marks) T′
         (λ a i. (refl, refl, excluded-as kinds first second _ _)) (λ a i. shows .column a (order-low order columns lows a i))
 
     counted-after : total ≡ length (comparisons lined ord T′)
@@ -278,7 +279,7 @@ module _ (text t rs p : List ℕ) (used root : ℕ) (accepted : checkAnswerIn (l
     pub total-after : (s : Conjuncts) → s .kinds ≡ kinds → s .values ≡ second →
         total ≡ length (comparisons lined ord (shown s (columnsOf cells′) marks))
     total-after s ek ev =
-        total-same (conjuncts kinds second starts₂ counts₂ p) s (columnsOf cells′) marks order columns total counted-after ek ev
+        total-same (conjunctsOf kinds second starts₂ counts₂ p) s (columnsOf cells′) marks order columns total counted-after ek ev
 
     pub total-some : 0 < total
     total-some = compared-some R nodes n ns (comparisons lined ord T) total (C .rebuilds live changed) (C .counted live)
@@ -334,13 +335,13 @@ module _ (text t rs p : List ℕ) (used root : ℕ) (accepted : checkAnswerIn (l
   -- ---- What the merging is asked and what it gives. `kinds`, `first`, `starts` and `counts` are the tables of the ranks,
   -- `second` are the literals sent.
   module _ (kinds first starts counts said second starts₂ counts₂ : List ℕ)
-      (tells : (i : ℕ) → i < n → ToldConjunct (conjuncts said second starts₂ counts₂ p) i (classify (aexprOf own p) (getD nodes i 0)))
+      (tells : (i : ℕ) → i < n → ToldConjunct (conjunctsOf said second starts₂ counts₂ p) i (classify (aexprOf own p) (getD nodes i 0)))
       (long : 16 * used ≤ length own) where
     abbrev s₁ : Conjuncts
-    s₁ = conjuncts kinds first starts counts pool
+    s₁ = conjunctsOf kinds first starts counts pool
 
     abbrev s₂ : Conjuncts
-    s₂ = conjuncts kinds second starts₂ counts₂ p
+    s₂ = conjunctsOf kinds second starts₂ counts₂ p
 
     some : 0 < length own
     some = let h : root < used = ok .root-used in omega (arith, h, long)

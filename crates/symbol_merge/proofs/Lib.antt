@@ -4,3 +4,4 @@ pub mod Fronts
 pub mod Exchanged
 pub mod Ending
 pub mod Symbols
+pub mod Taken

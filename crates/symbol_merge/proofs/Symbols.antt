@@ -10,7 +10,6 @@ use Rattle.checking.specs.declared.check.CheckAnswer.the-variants as check
 use Rattle.checking.proofs.Accepted.{checked-in}
 use Rattle.truth.specs.FromBytes.{aexprOf}
 use Rattle.constraints.specs.Payload.{payload}
-use Rattle.column_constraints.specs.Abstraction.{conjuncts}
 use Rattle.filter_constraint.specs.Concluded.{linedTo}
 use Rattle.filter_constraint.specs.Merges.{Counts, Merges}
 use Rattle.merge.specs.Classify.{classify}
@@ -28,6 +27,7 @@ use Rattle.symbol_merge.specs.Explains.{Explains}
 use Rattle.symbol_merge.specs.Fronts.{fronted}
 use Rattle.symbol_merge.proofs.Exchanged.{ranks-in, sent-in, whole, mixed-long, own-long, put-back}
 use Rattle.symbol_merge.proofs.Ending.{symbols-count, symbols-explain}
+use Rattle.column_constraints.specs.Abstraction.{conjunctsOf}
 
 module _ (text t rs p : List ℕ) (used root : ℕ) (accepted : checkAnswerIn (lent text) t rs p used root ≡ check.Accepted)
     (trees : List ℕ) (counted : (a : ℕ) → a ≤ root → getD trees a 0 ≡ min (treeCount rs a) 4097) (low : treeCount rs root ≤ 4096)
@@ -50,15 +50,16 @@ module _ (text t rs p : List ℕ) (used root : ℕ) (accepted : checkAnswerIn (l
   columns-asked = node-columns text t rs p used root ok vs ranks mixed pool in-ranks nodes n are
 
   module _ (kinds first starts counts said second starts₂ counts₂ : List ℕ)
-      (tells : (i : ℕ) → i < n → ToldConjunct (conjuncts said second starts₂ counts₂ p) i (classify (aexprOf own p) (getD nodes i 0))) where
-    pub counts-asked : Counts (linedTo (aexprOf mixed pool) nodes n) (conjuncts kinds first starts counts pool) t own nodes second
+      (tells : (i : ℕ) → i < n → ToldConjunct (conjunctsOf said second starts₂ counts₂ p) i (classify (aexprOf own p)
+      (getD nodes i 0))) where
+    pub counts-asked : Counts (linedTo (aexprOf mixed pool) nodes n) (conjunctsOf kinds first starts counts pool) t own nodes second
     counts-asked =
         symbols-count text t rs p used root accepted trees counted low nodes n are few vs ranks mixed pool in-ranks own
         (sent-in text t rs p used root ok vs ranks src pool of long mixed own e f) kinds first starts counts said second starts₂
         counts₂ tells long-asked
 
     pub promised : AreBytes text → (buffer : List ℕ) (r : Rewriting) (out after last : List ℕ) →
-        Merges (linedTo (aexprOf mixed pool) nodes n) (conjuncts kinds first starts counts pool) t mixed trees nodes second own text
+        Merges (linedTo (aexprOf mixed pool) nodes n) (conjunctsOf kinds first starts counts pool) t mixed trees nodes second own text
         buffer used r out after →
         r .passes ≡ mergePasses payload (map (classify (aexprOf mixed pool)) (firstOf nodes n)) →
         last ≡ fronted (16 * used) own out → Explains text t rs p used root buffer r last after

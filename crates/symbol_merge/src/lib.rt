@@ -9,7 +9,7 @@ ghost use Rattle.checking.specs.Tree.{treeCount};
 ghost use Rattle.checking.specs.declared.check.CheckAnswer.the-variants as check;
 ghost use Rattle.truth.specs.FromBytes.{aexprOf};
 ghost use Rattle.constraints.specs.Payload.{payload};
-ghost use Rattle.column_constraints.specs.Abstraction.{conjuncts};
+ghost use Rattle.column_constraints.specs.Abstraction.{conjuncts, kindsIn, valuesIn};
 ghost use Rattle.filter_constraint.specs.Concluded.{linedTo};
 ghost use Rattle.filter_constraint.specs.Merges.{Counts, Merges};
 ghost use Rattle.merge.specs.Classify.{classify};
@@ -24,9 +24,14 @@ ghost use Rattle.symbol_screens.specs.Rewriting.{lent};
 ghost use Rattle.symbol_merge.specs.Explains.{Explains};
 use crate::front::exchange_front;
 use crate::front::put_front;
+use crate::front::take_kinds;
 use far_lists::far::travels_far;
+use far_lists::far::travels_wide;
 use filter_constraint::indexed::merge_indexed;
+use filter_constraint::indexed::merge_wide;
 use filter_constraint::merging::merge_filter_constraints;
+use limits::COLUMNS;
+use limits::CONJUNCTS;
 use merge::answer::Rewriting;
 use records::record::Node;
 use rewrite::literals::read_literals;
@@ -42,35 +47,36 @@ fn merge_ranks(
     trees: &[u16],
     nodes: &[u32],
     n: usize,
-    kinds: &[u8],
-    values: &[u64],
-    starts: &[u32],
-    counts: &[u32],
+    told: &[u64],
     bits: &[u64],
     own: &[u8],
     text: &[u8],
     reasons: &mut [u8],
+    sorted: &mut [u64],
+    scratch: &mut [u64],
 ) -> Rewriting
-    requires { ⌜ (n ≤ 128) × (used ≤ 4096) × (n ≤ length (now nodes)) ⌝ }
-    requires { ⌜ ((i : ℕ) → i < n → ToldConjunct (conjuncts (now kinds) (now values) (now starts) (now counts) (now p)) i
+    requires { ⌜ (n ≤ 128) × (used ≤ 4096) × (n ≤ length (now nodes)) × (length (now sorted) ≤ 12288)
+        × (length (now sorted) ≤ length (now scratch)) ⌝ }
+    requires { ⌜ ((i : ℕ) → i < n → ToldConjunct (conjuncts (now told) (now p)) i
         (classify (aexprOf (now rs) (now p)) (getD (now nodes) i 0))) ⌝ }
     requires { ⌜ ((i : ℕ) → i < n → ColumnsBelow 64 (classify (aexprOf (now rs) (now p)) (getD (now nodes) i 0))) ⌝ }
     requires { ⌜ Counts (linedTo (aexprOf (now rs) (now p)) (now nodes) n)
-        (conjuncts (now kinds) (now values) (now starts) (now counts) (now p)) (now t) (now own) (now nodes) (now bits) ⌝ }
+        (conjuncts (now told) (now p)) (now t) (now own) (now nodes) (valuesIn (now bits)) ⌝ }
+    requires { ⌜ kindsIn (now bits) ≡ kindsIn (now told) ⌝ }
     ensures { λ r. ⌜ Merges (linedTo (aexprOf (now (rs .entry)) (now (p .entry))) (now (nodes .entry)) n)
-        (conjuncts (now (kinds .entry)) (now (values .entry)) (now (starts .entry)) (now (counts .entry)) (now (p .entry)))
-        (now (t .entry)) (now (rs .entry)) (now (trees .entry)) (now (nodes .entry)) (now (bits .entry)) (now (own .entry))
+        (conjuncts (now (told .entry)) (now (p .entry)))
+        (now (t .entry)) (now (rs .entry)) (now (trees .entry)) (now (nodes .entry)) (valuesIn (now (bits .entry))) (now (own .entry))
         (now (text .entry)) (now (reasons .entry)) used r (now (rs .exit)) (now (reasons .exit)) ⌝ }
     ensures { λ r. ⌜ r .passes ≡ mergePasses payload (map (classify (aexprOf (now (rs .entry)) (now (p .entry))))
         (firstOf (now (nodes .entry)) n)) ⌝ }
 {
-    let mut marks = [0u8; 8192];
-    let mut order = [0u32; 256];
-    let mut kept = [0u32; 128];
-    let mut lefts = [0u32; 128];
-    let mut rights = [0u32; 128];
-    let mut equals = [0u32; 128];
-    if travels_far(rs, nodes, n, starts, counts) {
+    let mut marks = [0u8; COLUMNS * CONJUNCTS];
+    let mut order = [0u32; 2 * CONJUNCTS];
+    let mut kept = [0u32; CONJUNCTS];
+    let mut lefts = [0u32; CONJUNCTS];
+    let mut rights = [0u32; CONJUNCTS];
+    let mut equals = [0u32; CONJUNCTS];
+    if travels_far(rs, nodes, n, told) {
         return merge_indexed(
             t,
             rs,
@@ -79,10 +85,7 @@ fn merge_ranks(
             trees,
             nodes,
             n,
-            kinds,
-            values,
-            starts,
-            counts,
+            told,
             &mut marks,
             &mut order,
             &mut kept,
@@ -95,6 +98,55 @@ fn merge_ranks(
             reasons,
         );
     }
+    if travels_wide(rs, nodes, n, told) {
+        if n <= 64 {
+            let mut few = [0u8; 4096];
+            return merge_wide(
+                t,
+                rs,
+                p,
+                used,
+                trees,
+                nodes,
+                n,
+                told,
+                &mut few,
+                &mut order,
+                &mut kept,
+                &mut lefts,
+                &mut rights,
+                &mut equals,
+                bits,
+                own,
+                text,
+                reasons,
+                sorted,
+                scratch,
+            );
+        }
+        return merge_wide(
+            t,
+            rs,
+            p,
+            used,
+            trees,
+            nodes,
+            n,
+            told,
+            &mut marks,
+            &mut order,
+            &mut kept,
+            &mut lefts,
+            &mut rights,
+            &mut equals,
+            bits,
+            own,
+            text,
+            reasons,
+            sorted,
+            scratch,
+        );
+    }
     let none = [0u64; 1];
     merge_filter_constraints(
         t,
@@ -104,10 +156,7 @@ fn merge_ranks(
         trees,
         nodes,
         n,
-        kinds,
-        values,
-        starts,
-        counts,
+        told,
         &none,
         &mut marks,
         &mut order,
@@ -123,7 +172,7 @@ fn merge_ranks(
 }
 
 /// The merging of the first n nodes, the conjuncts of an accepted screen with symbols. `src` and `pool` are its screen of ranks,
-/// `text` is the text pool. `src` is overwritten.
+/// `text` is the text pool. `src`, `sorted` and `scratch` are overwritten.
 pub fn merge_symbols(
     t: &[u8],
     rs: &mut [u8],
@@ -137,44 +186,28 @@ pub fn merge_symbols(
     src: &mut [u8],
     pool: &[u8],
     reasons: &mut [u8],
+    sorted: &mut [u64],
+    scratch: &mut [u64],
 ) -> Rewriting
     requires accepted { ⌜ checkAnswerIn (lent (now text)) (now t) (now rs) (now p) used (root .0) ≡ check.Accepted ⌝ }
     requires counted { ⌜ ((a : ℕ) → a ≤ root .0 → getD (now trees) a 0 ≡ min (treeCount (now rs) a) 4097) ⌝ }
     requires small { ⌜ treeCount (now rs) (root .0) ≤ 4096 ⌝ }
     requires walked { ⌜ firstOf (now nodes) n ≡ minterms (walked (now rs)) (root .0) ⌝ }
-    requires there { ⌜ (n ≤ 128) × (n ≤ length (now nodes)) ⌝ }
+    requires there { ⌜ (n ≤ 128) × (n ≤ length (now nodes)) × (length (now sorted) ≤ 12288)
+        × (length (now sorted) ≤ length (now scratch)) ⌝ }
     requires copied { ⌜ 16 * used ≤ length (now src) ⌝ }
     requires ranked { ⌜ ((values : List ℕ) × (ranks : List ℕ) × RanksOf (now text) (now rs) (now p) used values ranks (now src)
         (now pool)) ⌝ }
     ensures explains { λ r. ⌜ (AreBytes (now (text .entry)) → Explains (now (text .entry)) (now (t .entry)) (now (rs .entry))
         (now (p .entry)) used (root .0) (now (reasons .entry)) r (now (rs .exit)) (now (reasons .exit))) ⌝ }
 {
-    let mut kinds = [0u8; 128];
-    let mut values = [0u64; 128];
-    let mut starts = [0u32; 128];
-    let mut counts = [0u32; 128];
-    let mut said = [0u8; 128];
-    let mut bits = [0u64; 128];
+    let mut told = [0u64; 2 * CONJUNCTS];
+    let mut bits = [0u64; 2 * CONJUNCTS];
     let size = 16 * (used as usize);
     exchange_front(rs, src, size);
-    read_literals(
-        src,
-        nodes,
-        n,
-        &mut said,
-        &mut bits,
-        &mut starts,
-        &mut counts,
-    );
-    read_literals(
-        rs,
-        nodes,
-        n,
-        &mut kinds,
-        &mut values,
-        &mut starts,
-        &mut counts,
-    );
+    read_literals(src, nodes, n, &mut bits);
+    read_literals(rs, nodes, n, &mut told);
+    take_kinds(&told, n, &mut bits);
     let r = merge_ranks(
         t,
         rs,
@@ -183,14 +216,13 @@ pub fn merge_symbols(
         trees,
         nodes,
         n,
-        &kinds,
-        &values,
-        &starts,
-        &counts,
+        &told,
         &bits,
         src,
         text,
         reasons,
+        sorted,
+        scratch,
     );
     put_front(rs, src, size);
     r

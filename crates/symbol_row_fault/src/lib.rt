@@ -6,8 +6,8 @@ ghost use lib.ListN.{length};
 ghost use Rattle.row_test.specs.RowTest.{marksOk};
 ghost use Rattle.symbol_rows.specs.RowTestWith.{columnOkWith, columnsOkWith, rowFaultWith};
 use records::bytes::value_in;
-use records::shape::in_type;
 use truth::read::null_marked;
+use value_types::in_type;
 
 fn column_ok(lent: u32, ty: u8, null: bool, v: u64) -> bool
     ensures { λ r. ⌜ r ≡ columnOkWith lent ty null v ⌝ }

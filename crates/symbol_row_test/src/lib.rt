@@ -2,21 +2,21 @@
 //! with symbols by the row's reduction (crate `symbol_reduction`).
 ghost use mathlib.Core.Path.{_≡_};
 ghost use mathlib.Core.Bool.{true};
-ghost use mathlib.Core.Logic.{_⊎_};
 ghost use Prim.Native.Nat.{_*_, _≤_, min};
 ghost use lib.ListN.{length};
 ghost use Rattle.checking.specs.Checked.{CheckedIn};
 ghost use Rattle.checking.specs.Tree.{treeCount};
+ghost use Rattle.row_test.specs.declared.test.RowAnswer.the-variants.{Refused};
 ghost use Rattle.symbol_screens.specs.Rewriting.{lent};
-ghost use Rattle.symbol_screens.proofs.NumbersChecked.{NoText};
 ghost use Rattle.symbol_rows.specs.RowTestWith.{checkedAnswerWith, testRowAnswerWith};
-ghost use Rattle.symbol_row_test.specs.Stands.{Accepts};
 use check_lent::check_lent_counted;
 use checking::check::CheckAnswer;
+use limits::FEW_RECORDS;
+use limits::RECORD;
+use limits::RECORDS;
 use records::record::Node;
 use row_test::test::RowAnswer;
 use row_test::test::test_row;
-use symbol_free::has_symbols;
 use symbol_reduction::reduce::copy_front;
 use symbol_reduction::reduce::reduced_truth;
 use symbol_row_fault::row_fault_with;
@@ -70,7 +70,7 @@ fn test_accepted(
         (now (pool .entry)) used (root .0) (now (row .entry)) nulls ⌝ }
 {
     if used <= 64 {
-        let mut short = [0u8; 1024];
+        let mut short = [0u8; RECORD * FEW_RECORDS];
         return test_checked_with(
             table,
             records,
@@ -84,7 +84,7 @@ fn test_accepted(
             &mut short,
         );
     }
-    let mut out = [0u8; 65536];
+    let mut out = [0u8; RECORD * RECORDS];
     test_checked_with(
         table,
         records,
@@ -148,8 +148,8 @@ fn test_symbols(
         (now (pool .entry)) used root (now (row .entry)) nulls ⌝ }
 {
     if used <= 64 {
-        let mut few = [0u8; 64];
-        let mut small = [0u16; 64];
+        let mut few = [0u8; FEW_RECORDS];
+        let mut small = [0u16; FEW_RECORDS];
         return test_within(
             table,
             records,
@@ -163,8 +163,8 @@ fn test_symbols(
             &mut small,
         );
     }
-    let mut types = [0u8; 4096];
-    let mut trees = [0u16; 4096];
+    let mut types = [0u8; RECORDS];
+    let mut trees = [0u16; RECORDS];
     test_within(
         table,
         records,
@@ -179,22 +179,17 @@ fn test_symbols(
     )
 }
 
-// Whether the answer of a screen taken as one without symbols is that beside a text pool of so many bytes: it has none if it
-// was accepted, and was not refused by checking, 1 to 7.
-fn stands(a: RowAnswer, text: usize, table: &[u8], records: &[u8], used: u64) -> bool
-    ensures { λ r. ⌜ (r ≡ true → (text ≤ 8192) × (Accepts a ⊎ NoText (now (table .entry)) (now (records .entry)) used)) ⌝ }
+// Whether the answer of a screen taken as one without symbols is that beside a text pool of so many bytes: all but Refused 0,
+// within the limit.
+fn stands(a: RowAnswer, text: usize) -> bool
+    ensures { λ r. ⌜ (r ≡ true → (text ≤ 8192) × (a ≡ Refused 0 → ⊥)) ⌝ }
 {
     if 8192 < text {
         return false;
     }
     match a {
         RowAnswer::Tested(_) => true,
-        RowAnswer::Refused(k) => {
-            if 7 < k {
-                return true;
-            }
-            !has_symbols(table, records, used)
-        }
+        RowAnswer::Refused(k) => k != 0,
     }
 }
 
@@ -213,7 +208,7 @@ pub fn test_row_with(
         (now (pool .entry)) used root (now (row .entry)) nulls ⌝ }
 {
     let a = test_row(table, records, pool, used, root, row, nulls);
-    if stands(a, text.len(), table, records, used) {
+    if stands(a, text.len()) {
         return a;
     }
     test_symbols(table, records, pool, text, used, root, row, nulls)

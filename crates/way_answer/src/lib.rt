@@ -21,6 +21,10 @@ use checking::check::CheckAnswer;
 use checking::check::check_counted;
 use judge_lines::answer::WayAnswer;
 use judge_lines::lines::judge_lines;
+use limits::COLUMNS;
+use limits::CONJUNCTS;
+use limits::FEW_RECORDS;
+use limits::RECORDS;
 use minterm_iter::minterms;
 use plain::is_plain;
 use records::record::Node;
@@ -43,46 +47,14 @@ fn judge_plain(
     requires plain { ⌜ plainScreen (now t) (aexprAt (now rs) (now p) used) (root .0) ≡ true ⌝ }
     ensures { λ r. ⌜ r ≡ wayAnswer (now (t .entry)) (now (rs .entry)) (now (p .entry)) used (root .0) ⌝ }
 {
-    let mut kinds = [0u8; 128];
-    let mut values = [0u64; 128];
-    let mut starts = [0u32; 128];
-    let mut counts = [0u32; 128];
-    let mut marks = [0u8; 8192];
+    let mut told = [0u64; 2 * CONJUNCTS];
+    let mut marks = [0u8; COLUMNS * CONJUNCTS];
     let none = [0u64; 1];
-    read_literals(
-        rs,
-        nodes,
-        n,
-        &mut kinds,
-        &mut values,
-        &mut starts,
-        &mut counts,
-    );
-    if looks_often(&starts, &counts, n) {
-        return judge_indexed(
-            rs,
-            p,
-            nodes,
-            n,
-            &kinds,
-            &values,
-            &starts,
-            &counts,
-            &mut marks,
-        );
+    read_literals(rs, nodes, n, &mut told);
+    if looks_often(&told, n) {
+        return judge_indexed(rs, p, nodes, n, &told, &mut marks);
     }
-    judge_lines(
-        rs,
-        p,
-        nodes,
-        n,
-        &kinds,
-        &values,
-        &starts,
-        &counts,
-        &none,
-        &mut marks,
-    )
+    judge_lines(rs, p, nodes, n, &told, &none, &mut marks)
 }
 
 // An accepted screen with a tree of at most 4,096 records: 9, then 17, then its lines.
@@ -91,7 +63,7 @@ fn judge_counted(t: &[u8], rs: &[u8], p: &[u8], used: u32, root: Node) -> WayAns
     requires small { ⌜ treeCount (now rs) (root .0) ≤ 4096 ⌝ }
     ensures { λ r. ⌜ r ≡ wayAnswer (now (t .entry)) (now (rs .entry)) (now (p .entry)) used (root .0) ⌝ }
 {
-    let mut nodes = [0u32; 128];
+    let mut nodes = [0u32; CONJUNCTS];
     let n = minterms(rs, root, &mut nodes);
     if 128 < n {
         return WayAnswer::Refused(9);
@@ -142,11 +114,11 @@ pub fn line_in_the_way(t: &[u8], rs: &[u8], p: &[u8], used: u64, root: u64) -> W
     ensures { λ r. ⌜ r ≡ wayAnswer (now (t .entry)) (now (rs .entry)) (now (p .entry)) used root ⌝ }
 {
     if used <= 64 {
-        let mut few = [0u8; 64];
-        let mut small = [0u16; 64];
+        let mut few = [0u8; FEW_RECORDS];
+        let mut small = [0u16; FEW_RECORDS];
         return judge_within(t, rs, p, used, root, &mut few, &mut small);
     }
-    let mut types = [0u8; 4096];
-    let mut trees = [0u16; 4096];
+    let mut types = [0u8; RECORDS];
+    let mut trees = [0u16; RECORDS];
     judge_within(t, rs, p, used, root, &mut types, &mut trees)
 }

@@ -9,6 +9,9 @@ ghost use Rattle.in_the_way.specs.Calls.{wayNumber, lineOut, wayListed};
 ghost use Rattle.way_symbols.specs.Answer.{wayAnswerWith};
 ghost use Rattle.way_symbols.specs.Promise.{WayPromiseWith};
 use in_the_way::line_of_screen;
+use limits::COLUMNS;
+use limits::RECORD;
+use limits::RECORDS;
 use plain_symbols::plain_numbers;
 use symbol_free::has_symbols;
 
@@ -59,8 +62,8 @@ fn line_beside_text(
     ensures promise { λ r. ⌜ WayPromiseWith (now (text .entry)) (now (table .entry)) (now (records .entry))
         (now (pool .entry)) used root r (now (line .exit)) ⌝ }
 {
-    let mut columns = [0u8; 64];
-    let mut numbers = [0u8; 65536];
+    let mut columns = [0u8; COLUMNS];
+    let mut numbers = [0u8; RECORD * RECORDS];
     line_of_numbers(
         table,
         records,

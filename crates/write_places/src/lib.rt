@@ -86,10 +86,7 @@ fn is_shown_null(order: &[u32], n: usize, c: u32, k: ColumnConstraints) -> bool
 
 /// The place of column x, whose numbers are in its row of `marks`.
 fn shown_place(
-    kinds: &[u8],
-    values: &[u64],
-    starts: &[u32],
-    counts: &[u32],
+    told: &[u64],
     pool: &[u8],
     marks: &[u8],
     x: usize,
@@ -97,8 +94,7 @@ fn shown_place(
     null: bool,
 ) -> Place
     requires { ⌜ x < 64 ⌝ }
-    ensures { λ r. ⌜ r ≡ cond null (exactly 0) (valuePlace (bitsColumn (columnOf (conjuncts (now (kinds .entry))
-        (now (values .entry)) (now (starts .entry)) (now (counts .entry)) (now (pool .entry)))
+    ensures { λ r. ⌜ r ≡ cond null (exactly 0) (valuePlace (bitsColumn (columnOf (conjuncts (now (told .entry)) (now (pool .entry)))
         (numbered (rowOf (now (marks .entry)) x) k)))) ⌝ }
 {
     if null {
@@ -107,16 +103,13 @@ fn shown_place(
     let size = marks.len() / 64;
     let at = x * size;
     let end = at + size;
-    value_place(kinds, values, starts, counts, pool, &marks[at..end], k)
+    value_place(told, pool, &marks[at..end], k)
 }
 
 /// The places of the first `columns` columns into the row; their null marks. The first n of `order` are the columns that
 /// entered.
 pub fn write_places(
-    kinds: &[u8],
-    values: &[u64],
-    starts: &[u32],
-    counts: &[u32],
+    told: &[u64],
     pool: &[u8],
     cells: &[u64],
     marks: &[u8],
@@ -127,8 +120,7 @@ pub fn write_places(
 ) -> u64
     requires { ⌜ (length (now cells) ≡ 448) × (n ≤ length (now order)) × (columns ≤ 64)
         × (16 * columns ≤ length (now row)) ⌝ }
-    ensures { λ r. ⌜ (let t = conjuncts (now (kinds .entry)) (now (values .entry)) (now (starts .entry))
-        (now (counts .entry)) (now (pool .entry)) in (T : ColumnTable) →
+    ensures { λ r. ⌜ (let t = conjuncts (now (told .entry)) (now (pool .entry)) in (T : ColumnTable) →
         Shows t (columnsOf (now (cells .entry))) (now (marks .entry)) T →
         RowWritten (firstOf (now (order .entry)) n) (λ c. bitsColumn (T c)) columns (now (row .entry)) (now (row .exit)) r) ⌝ }
 {
@@ -137,7 +129,7 @@ pub fn write_places(
     while c < columns {
         let k = load(cells, c);
         let null = is_shown_null(order, n, c as u32, k);
-        let place = shown_place(kinds, values, starts, counts, pool, marks, c, k, null);
+        let place = shown_place(told, pool, marks, c, k, null);
         put_place(row, c, place);
         nulls = with_bit(nulls, c as u32, null);
         c += 1;

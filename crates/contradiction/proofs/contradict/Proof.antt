@@ -50,8 +50,8 @@ slice-aggregate-tell-lines-2 c = search needs
 -- src/lib.rt:55:9
 tell-lines-requires : tie.Need-tell-lines-requires
 tell-lines-requires c κs =
-    let st = c .before .before .before .before .before .before .before .before .before .before .before .before
-    .before .before .before .before .before .before .before .before .before in
+    let st = c .before .before .before .before .before .before .before .before .before .before .before .before .before
+    .before .before .before .before .before in
     let label-lines = c .before .before .before .before .label-lines in
     let L = label-lines .ensures .0 (st .args .p .now) (st .pre .1 .1) in (
       (
@@ -74,9 +74,8 @@ same-length c = search needs
 -- src/lib.rt:69:9
 returns : tie.Need-returns
 returns c =
-    let st = c .before .before .before .before .before .before .before .before .before .before .before .before
-    .before .before .before .before .before .before .before .before .before .before .before .before .before
-    .before in
+    let st = c .before .before .before .before .before .before .before .before .before .before .before .before .before
+    .before .before .before .before .before .before .before .before .before .before in
     let label-lines = c .before .before .before .before .before .before .before .before .before .label-lines in
     let tell-lines = c .before .before .before .before .tell-lines in
     let if1 = c .if1 in
@@ -95,9 +94,8 @@ slice-aggregate-resolve-all-2 c = search needs
 -- src/lib.rt:71:9
 resolve-all-requires : tie.Need-resolve-all-requires
 resolve-all-requires c κs =
-    let st = c .before .before .before .before .before .before .before .before .before .before .before .before
-    .before .before .before .before .before .before .before .before .before .before .before .before .before
-    .before .before .before .before in
+    let st = c .before .before .before .before .before .before .before .before .before .before .before .before .before
+    .before .before .before .before .before .before .before .before .before .before .before .before .before in
     let number-columns2 = c .before .before .before .before .before .before .before .before .before .before
     .before .before .before .before .before .number-columns2 in
     let tell-lines = c .before .before .before .before .before .before .before .tell-lines in
@@ -130,9 +128,9 @@ same-length-2 c = search needs
 -- src/lib.rt:30:1
 returns-2 : tie.Need-returns-2
 returns-2 c =
-    let st = c .before .before .before .before .before .before .before .before .before .before .before .before
-    .before .before .before .before .before .before .before .before .before .before .before .before .before
-    .before .before .before .before .before .before .before .before in
+    let st = c .before .before .before .before .before .before .before .before .before .before .before .before .before
+    .before .before .before .before .before .before .before .before .before .before .before .before .before .before
+    .before .before .before in
     let number-columns2 = c .before .before .before .before .before .before .before .before .before .before
     .before .before .before .before .before .before .before .before .before .number-columns2 in
     let label-lines = c .before .before .before .before .before .before .before .before .before .before .before

@@ -9,27 +9,27 @@ use Rattle.ranked_screen.proofs.Reading.{Sizes, accepted-sizes}
 use Rattle.checking.proofs.Accepted.{checked-in}
 use Rattle.symbol_screens.specs.Rewriting.{lent}
 
--- src/lib.rt:137:9
+-- src/lib.rt:150:9
 slice-aggregate-merge-ranked : tie.Need-slice-aggregate-merge-ranked
 slice-aggregate-merge-ranked c = search needs
 
--- src/lib.rt:138:9
+-- src/lib.rt:151:9
 slice-aggregate-merge-ranked-2 : tie.Need-slice-aggregate-merge-ranked-2
 slice-aggregate-merge-ranked-2 c = search needs
 
--- src/lib.rt:139:9
+-- src/lib.rt:152:9
 slice-aggregate-merge-ranked-3 : tie.Need-slice-aggregate-merge-ranked-3
 slice-aggregate-merge-ranked-3 c = search needs
 
--- src/lib.rt:140:9
+-- src/lib.rt:153:9
 slice-aggregate-merge-ranked-4 : tie.Need-slice-aggregate-merge-ranked-4
 slice-aggregate-merge-ranked-4 c = search needs
 
--- src/lib.rt:141:9
+-- src/lib.rt:154:9
 slice-aggregate-merge-ranked-5 : tie.Need-slice-aggregate-merge-ranked-5
 slice-aggregate-merge-ranked-5 c = search needs
 
--- src/lib.rt:127:5
+-- src/lib.rt:140:5
 merge-ranked-requires : tie.Need-merge-ranked-requires
 merge-ranked-requires c κs =
     let st = c .before .before .before .before .before .before .before .before .before .before .before .before
@@ -66,7 +66,7 @@ merge-ranked-requires c κs =
                         .pool-low,
                   ),
                 ),
-                (omega (arith, s .used-low), omega (arith, s .pool-low)),
+                (omega (arith, s .used-low), omega (arith, s .pool-low), search needs, search needs),
               ),
             ),
           ),
@@ -74,15 +74,15 @@ merge-ranked-requires c κs =
       ),
     )
 
--- src/lib.rt:102:1
+-- src/lib.rt:115:1
 same-length : tie.Need-same-length
 same-length c = search needs
 
--- src/lib.rt:102:1
+-- src/lib.rt:115:1
 same-length-2 : tie.Need-same-length-2
 same-length-2 c = search needs
 
--- src/lib.rt:102:1
+-- src/lib.rt:115:1
 returns : tie.Need-returns
 returns c = search needs
 

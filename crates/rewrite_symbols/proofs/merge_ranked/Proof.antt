@@ -9,7 +9,7 @@ use native.Mathlib.Omega.{arith}
 use Rattle.checking.proofs.Accepted.{checked-in}
 use Rattle.symbol_screens.specs.Rewriting.{lent}
 
--- src/lib.rt:49:5
+-- src/lib.rt:50:5
 rank-screen-requires : tie.Need-rank-screen-requires
 rank-screen-requires c κs =
     let st = c .before .before .before .before .before .before .before .before .before .before .before .before
@@ -21,17 +21,17 @@ rank-screen-requires c κs =
             .now)) (st .args .t .now) (st .args .rs .now) (st .args .p .now) (st .args .used) (st .args .root .0) (st
             .pre .0);
       },
-      (st .pre .1 .1 .1 .1 .1 .0, st .pre .1 .1 .1 .1 .1 .1),
+      (st .pre .1 .1 .1 .1 .1 .0, (st .pre .1 .1 .1 .1 .1 .1 .0, st .pre .1 .1 .1 .1 .1 .1 .1)),
     )
 
--- src/lib.rt:50:5
+-- src/lib.rt:51:5
 merge-symbols-requires : tie.Need-merge-symbols-requires
 merge-symbols-requires c κs =
     let st = c .before .before .before .before .before .before .before .before .before .before .before .before
     .before .before .before .before .before .before .before .before .before .before .before .before .before
-    .before .before .before .before .before .before .before .before in
+    .before .before .before .before .before .before .before .before .before .before in
     let rank-screen = c .before .before .before .before .before .before .before .before .before .before .before
-    .before .before .before .rank-screen in (
+    .before .before .before .before .before .rank-screen in (
       st .pre .0,
       (
         st .pre .1 .0,
@@ -40,15 +40,25 @@ merge-symbols-requires c κs =
           (
             st .pre .1 .1 .1 .0,
             (
-              st .pre .1 .1 .1 .1 .0,
               (
-                omega
-                    (arith, rank-screen .kept .1 .1 .1 .1 .1 .1 .1 .0, st .pre .1 .1 .1 .1 .1 .1 .0),
+                st .pre .1 .1 .1 .1 .0 .0,
+                st
+                    .pre .1 .1 .1 .1 .0 .1,
+                omega (arith, rank-screen .kept .1 .1 .1 .1 .0, st .pre .1 .1 .1 .1 .1 .1 .2),
+                omega (
+                  arith,
+                  rank-screen .kept .1 .1 .1 .1 .0,
+                  rank-screen .kept .1 .1 .1 .1 .1 .0,
+                  st .pre .1 .1 .1 .1 .1 .1
+                      .3,
+                ),
+              ),
+              (
+                omega (arith, rank-screen .kept .1 .1 .1 .1 .1 .1 .1 .0, st .pre .1 .1 .1 .1 .1 .1 .0),
                 (
                   _,
                   _,
-                  rank-screen
-                      .ensures,
+                  rank-screen .ensures,
                 ),
               ),
             ),

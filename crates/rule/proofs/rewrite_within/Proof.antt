@@ -3,87 +3,90 @@ use Rattle.rule.proofs.rewrite_within.Statement.{statement}
 use Rattle.rule.proofs.rewrite_within.Tie as tie
 use Rattle.rule.proofs.rewrite_within.Reads as reads
 use Rattle.rule.proofs.rewrite_within.Lts as lts
-use Rattle.checking.proofs.check.check_with_text.Reads as check-with-text-reads
-use Rattle.rule.proofs.lent_if.Reads as lent-if-reads
+use Rattle.check_lent.proofs.check_beside.Reads as check-beside-reads
 use Rattle.rule.proofs.refused.Reads as refused-reads
 use Rattle.rule.proofs.rewrite_checked.Reads as rewrite-checked-reads
-use mathlib.Core.Path.{sym, _∙_}
-use Prim.Native.Nat.{_≤_, _<_}
+use mathlib.Core.Path.{refl, sym, _∙_}
+use Prim.Native.Nat.{_≤_, _<_, _%_}
 use native.Mathlib.Omega.{arith}
-use Rattle.checking.proofs.Accepted.{checked-in, checked-used-in, accepted-root-in}
+use borrow.Author.Tests.{not-false, eqb-true}
+use Rattle.checking.proofs.Accepted.{checked-in, checked-used-in}
+use Rattle.checking.proofs.Standing.{refused-of}
+use Rattle.check_lent.proofs.Lent.{unfaulted}
 use Rattle.symbol_screens.specs.Rewriting.{lent}
-use Rattle.rule.proofs.Told.{told-alike, accepted-lent, accepted-free-as, refused-rewrites, accepted-rewrites}
+use Rattle.rewrite_symbols.proofs.Refusals.{refused-explains, with-refused}
 
--- src/lib.rt:137:9
-lent-if-requires : tie.Need-lent-if-requires
-lent-if-requires c κs = search needs
+-- src/lib.rt:116:9
+check-beside-requires : tie.Need-check-beside-requires
+check-beside-requires c κs = search needs
 
--- src/lib.rt:138:9
-check-with-text-requires : tie.Need-check-with-text-requires
-check-with-text-requires c κs = search needs
-
--- src/lib.rt:140:30
-enum-known-answer : tie.Need-enum-known-answer
-enum-known-answer c = search needs
-
--- src/lib.rt:140:41
+-- src/lib.rt:118:9
 refused-requires : tie.Need-refused-requires
 refused-requires c κs = search needs
 
--- src/lib.rt:143:13
-enum-told : tie.Need-enum-told
-enum-told c = search needs
+-- src/lib.rt:118:9
+same-length : tie.Need-same-length
+same-length c = search needs
 
--- src/lib.rt:147:13
+-- src/lib.rt:118:9
+same-length-2 : tie.Need-same-length-2
+same-length-2 c = search needs
+
+-- src/lib.rt:118:9
+same-length-3 : tie.Need-same-length-3
+same-length-3 c = search needs
+
+-- src/lib.rt:118:9
+returns : tie.Need-returns
+returns c =
+    let st = c .before .before .before .before .before .before .before .before .before .before .before .before
+    .before .before .before .before .before in
+    let check-beside = c .before .before .before .before .before .before .check-beside in
+    let if1 = c .before .if1 in
+    let refused = c .refused in
+    λ _. refused-explains (st .args .text .now) (st .args .t .now) (st .args .rs .now) (st .args .p .now) (st
+    .args .used) (st .args .root) (check-beside .result % 8) (refused .result) (st .args .reasons .now) (refused
+    .ensures .0) (refused .ensures .1) (with-refused (st .args .text .now) (st .args .t .now) (st .args .rs
+    .now) (st .args .p .now) (st .args .used) (st .args .root) (check-beside .result % 8) (sym (check-beside
+    .ensures .0) ∙ refused-of (check-beside .result) (check-beside .result % 8) refl (if1 .taken)))
+
+-- src/lib.rt:126:9
 cast-rewrite-checked : tie.Need-cast-rewrite-checked
 cast-rewrite-checked c =
     let st = c .before .before .before .before .before .before .before .before .before .before .before .before
-    .before .before .before .before .before .before .before in
-    let lent-if = c .before .before .before .before .before .before .before .before .before .before .before
-    .lent-if in
-    let check-with-text = c .before .before .before .before .before .before .before .check-with-text in
-    let enum-told = c .before .enum-told in
-    let ok = accepted-lent (st .args .text .now) (st .args .t .now) (st .args .rs .now) (st .args .p .now) (st
-    .args .used) (st .args .root) (st .args .symbols) (st .pre .1 .1) (sym (rw (lent-if .ensures) at
-    (check-with-text .ensures .0) ∙ told-alike (st .args .symbols) (st .args .text .now) (st .args .t .now)
-    (st .args .rs .now) (st .args .p .now) (st .args .used) (st .args .root)) ∙ enum-told .given .1) in
+    .before .before .before .before .before in
+    let check-beside = c .before .before .before .before .before .before .check-beside in
+    let if1 = c .before .if1 in
+    let accepted = sym (check-beside .ensures .0) ∙ unfaulted _ (if1 .left) in
+    let ok = checked-in (lent (st .args .text .now)) (st .args .t .now) (st .args .rs .now) (st .args .p .now)
+    (st .args .used) (st .args .root) accepted in
     let h : st .args .used ≤ 4096 = checked-used-in (lent (st .args .text .now)) (st .args .t .now) (st .args
-    .rs .now) (st .args .p .now) (st .args .used) (st .args .root) (checked-in (lent (st .args .text .now))
-    (st .args .t .now) (st .args .rs .now) (st .args .p .now) (st .args .used) (st .args .root) ok) in
-    omega (arith, h)
-
--- src/lib.rt:148:18
-cast-t25 : tie.Need-cast-t25
-cast-t25 c =
-    let st = c .before .before .before .before .before .before .before .before .before .before .before .before
-    .before .before .before .before .before .before .before in
-    let lent-if = c .before .before .before .before .before .before .before .before .before .before .before
-    .lent-if in
-    let check-with-text = c .before .before .before .before .before .before .before .check-with-text in
-    let enum-told = c .before .enum-told in
-    let ok = accepted-lent (st .args .text .now) (st .args .t .now) (st .args .rs .now) (st .args .p .now) (st
-    .args .used) (st .args .root) (st .args .symbols) (st .pre .1 .1) (sym (rw (lent-if .ensures) at
-    (check-with-text .ensures .0) ∙ told-alike (st .args .symbols) (st .args .text .now) (st .args .t .now)
-    (st .args .rs .now) (st .args .p .now) (st .args .used) (st .args .root)) ∙ enum-told .given .1) in
-    let h : st .args .root < 4096 = accepted-root-in (lent (st .args .text .now)) (st .args .t .now) (st .args
     .rs .now) (st .args .p .now) (st .args .used) (st .args .root) ok in
     omega (arith, h)
 
--- src/lib.rt:141:34
+-- src/lib.rt:127:14
+cast-t23 : tie.Need-cast-t23
+cast-t23 c =
+    let st = c .before .before .before .before .before .before .before .before .before .before .before .before
+    .before .before .before .before .before in
+    let check-beside = c .before .before .before .before .before .before .check-beside in
+    let if1 = c .before .if1 in
+    let accepted = sym (check-beside .ensures .0) ∙ unfaulted _ (if1 .left) in
+    let ok = checked-in (lent (st .args .text .now)) (st .args .t .now) (st .args .rs .now) (st .args .p .now)
+    (st .args .used) (st .args .root) accepted in
+    let small : st .args .used ≤ 4096 = checked-used-in (lent (st .args .text .now)) (st .args .t .now) (st .args .rs .now) (st
+    .args .p .now) (st .args .used) (st .args .root) ok in
+    let h : st .args .root < st .args .used = ok .root-used in
+    omega (arith, h, small)
+
+-- src/lib.rt:120:5
 rewrite-checked-requires : tie.Need-rewrite-checked-requires
 rewrite-checked-requires c κs =
     let st = c .before .before .before .before .before .before .before .before .before .before .before .before
-    .before .before .before .before .before .before .before .before .before in
-    let lent-if = c .before .before .before .before .before .before .before .before .before .before .before
-    .before .before .lent-if in
-    let check-with-text = c .before .before .before .before .before .before .before .before .before
-    .check-with-text in
-    let enum-told = c .before .before .before .enum-told in
-    let told = sym (rw (lent-if .ensures) at (check-with-text .ensures .0) ∙ told-alike (st .args .symbols) (st
-    .args .text .now) (st .args .t .now) (st .args .rs .now) (st .args .p .now) (st .args .used) (st .args
-    .root)) ∙ enum-told .given .1 in
-    let accepted = accepted-lent (st .args .text .now) (st .args .t .now) (st .args .rs .now) (st .args .p .now)
-    (st .args .used) (st .args .root) (st .args .symbols) (st .pre .1 .1) told in
+    .before .before .before .before .before .before .before in
+    let check-beside = c .before .before .before .before .before .before .before .before .check-beside in
+    let if1 = c .before .before .before .if1 in
+    let accepted = sym (check-beside .ensures .0) ∙ unfaulted _ (if1 .left) in
     let ok = checked-in (lent (st .args .text .now)) (st .args .t .now) (st .args .rs .now) (st .args .p .now)
     (st .args .used) (st .args .root) accepted in
     let h : st .args .root < st .args .used = ok .root-used in
@@ -91,94 +94,48 @@ rewrite-checked-requires c κs =
     .args .rs .now) (st .args .p .now) (st .args .used) (st .args .root) ok in (
       accepted,
       (
-        accepted-free-as (st .args .text .now) (st .args .t .now) (st .args .rs .now) (st .args .p
-            .now) (st .args .used) (st .args .root) (st .args .symbols) (st .pre .1 .1) told,
+        (λ q. check-beside .ensures .1 .1 (eqb-true _ _ (not-false _ q))),
         (
-          λ a k. check-with-text
-              .ensures .1 (enum-told .given .1) a (omega (arith, k, h)),
-          omega (arith, h, st .pre .1 .0 small),
+          (λ a k. check-beside
+              .ensures .1 .0 (unfaulted _ (if1 .left)) a (omega (arith, k, h))),
+          omega (arith, h, st .pre .1 small),
         ),
       ),
     )
 
--- src/lib.rt:119:1
-same-length : tie.Need-same-length
-same-length c = search needs
-
--- src/lib.rt:119:1
-same-length-2 : tie.Need-same-length-2
-same-length-2 c = search needs
-
--- src/lib.rt:119:1
-same-length-3 : tie.Need-same-length-3
-same-length-3 c = search needs
-
--- src/lib.rt:119:1
-returns : tie.Need-returns
-returns c =
-    let st = c .before .before .before .before .before .before .before .before .before .before .before .before
-    .before .before .before .before .before .before .before .before in
-    let lent-if = c .before .before .before .before .before .before .before .before .before .before .before
-    .before .lent-if in
-    let check-with-text = c .before .before .before .before .before .before .before .before .check-with-text in
-    let answer = c .before .before .answer in
-    let refused = c .refused in
-    refused-rewrites (st .args .text .now) (st .args .t .now) (st .args .rs .now) (st .args .p .now) (st .args
-    .used) (st .args .root) (st .args .reasons .now) (refused .result) (st .args .symbols) _ (sym (rw (lent-if
-    .ensures) at (check-with-text .ensures .0) ∙ told-alike (st .args .symbols) (st .args .text .now) (st .args
-    .t .now) (st .args .rs .now) (st .args .p .now) (st .args .used) (st .args .root)) ∙ answer .given .1)
-    (refused .ensures .0) (refused .ensures .1)
-
--- src/lib.rt:119:1
+-- src/lib.rt:100:1
 same-length-4 : tie.Need-same-length-4
 same-length-4 c = search needs
 
--- src/lib.rt:119:1
+-- src/lib.rt:100:1
 same-length-5 : tie.Need-same-length-5
 same-length-5 c = search needs
 
--- src/lib.rt:119:1
+-- src/lib.rt:100:1
 same-length-6 : tie.Need-same-length-6
 same-length-6 c = search needs
 
--- src/lib.rt:119:1
+-- src/lib.rt:100:1
 same-length-7 : tie.Need-same-length-7
 same-length-7 c = search needs
 
--- src/lib.rt:119:1
+-- src/lib.rt:100:1
 returns-2 : tie.Need-returns-2
-returns-2 c =
-    let st = c .before .before .before .before .before .before .before .before .before .before .before .before
-    .before .before .before .before .before .before .before .before .before .before .before .before .before
-    .before in
-    let lent-if = c .before .before .before .before .before .before .before .before .before .before .before
-    .before .before .before .before .before .before .before .lent-if in
-    let check-with-text = c .before .before .before .before .before .before .before .before .before .before
-    .before .before .before .before .check-with-text in
-    let enum-told = c .before .before .before .before .before .before .before .before .enum-told in
-    let rewrite-checked = c .before .before .before .before .rewrite-checked in
-    accepted-rewrites (st .args .text .now) (st .args .t .now) (st .args .rs .now) (st .args .p .now) (st .args
-    .used) (st .args .root) (st .args .reasons .now) (rewrite-checked .result) _ _ (st .args .symbols) (sym (rw
-    (lent-if .ensures) at (check-with-text .ensures .0) ∙ told-alike (st .args .symbols) (st .args .text .now)
-    (st .args .t .now) (st .args .rs .now) (st .args .p .now) (st .args .used) (st .args .root)) ∙ enum-told
-    .given .1) (rewrite-checked .ensures)
+returns-2 c = search needs
 
 pub rewrite-within-spec : {M : Type 1} → statement M
 rewrite-within-spec =
     tie.close
     (tie.spec
-    lent-if-requires
-    check-with-text-requires
-    enum-known-answer
+    check-beside-requires
     refused-requires
-    enum-told
-    cast-rewrite-checked
-    cast-t25
-    rewrite-checked-requires
     same-length
     same-length-2
     same-length-3
     returns
+    cast-rewrite-checked
+    cast-t23
+    rewrite-checked-requires
     same-length-4
     same-length-5
     same-length-6

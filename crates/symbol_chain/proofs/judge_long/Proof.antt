@@ -5,25 +5,27 @@ use Rattle.symbol_chain.proofs.judge_long.Reads as reads
 use Rattle.symbol_chain.proofs.judge_long.Lts as lts
 use Rattle.symbol_chain.proofs.asked.Reads as asked-reads
 use Rattle.symbol_chain.proofs.each.judge_each.Reads as judge-each-reads
-use Rattle.symbol_chain.proofs.is_narrow.Reads as is-narrow-reads
+use Rattle.symbol_chain.proofs.is_cheap.Reads as is-cheap-reads
 use Rattle.symbol_chain.proofs.ranked.judge_ranked.Reads as judge-ranked-reads
 use native.Mathlib.Omega.{arith}
 use Rattle.checking.proofs.Accepted.{checked-lent-in, checked-used-in}
+use Rattle.symbol_row_test.proofs.AnswersWith.{text-small}
 
--- src/lib.rt:153:18
-add-places : tie.Need-add-places
-add-places c = search needs
-
--- src/lib.rt:154:52
+-- src/lib.rt:153:9
 asked-requires : tie.Need-asked-requires
 asked-requires c κs =
     let st = c .before .before .before .before .before .before .before .before in
     let r = st .pre .0 .root-used in
     (omega (arith, r), checked-used-in _ _ _ _ _ _ (st .pre .0), checked-lent-in _ _ _ _ _ _ (st .pre .0))
 
--- src/lib.rt:154:8
-is-narrow-requires : tie.Need-is-narrow-requires
-is-narrow-requires c κs = search needs
+-- src/lib.rt:148:8
+is-cheap-requires : tie.Need-is-cheap-requires
+is-cheap-requires c κs =
+    let st = c .before .before .before .before .before .before .before .before .before in (
+      st .pre .1 .1 .1 .1 .1 .0,
+      text-small (st
+          .args .text .now) _ _ _ _ _ (st .pre .0),
+    )
 
 -- src/lib.rt:155:9
 judge-each-requires : tie.Need-judge-each-requires
@@ -87,15 +89,15 @@ judge-ranked-requires c κs =
       ),
     )
 
--- src/lib.rt:127:1
+-- src/lib.rt:122:1
 same-length-3 : tie.Need-same-length-3
 same-length-3 c = search needs
 
--- src/lib.rt:127:1
+-- src/lib.rt:122:1
 same-length-4 : tie.Need-same-length-4
 same-length-4 c = search needs
 
--- src/lib.rt:127:1
+-- src/lib.rt:122:1
 returns-2 : tie.Need-returns-2
 returns-2 c = search needs
 
@@ -103,9 +105,8 @@ pub judge-long-spec : {M : Type 1} → statement M
 judge-long-spec =
     tie.close
     (tie.spec
-    add-places
     asked-requires
-    is-narrow-requires
+    is-cheap-requires
     judge-each-requires
     same-length
     same-length-2

@@ -9,39 +9,41 @@ use Rattle.symbol_chain.proofs.is_short.Reads as is-short-reads
 use Rattle.symbol_chain.proofs.ranked.judge_ranked.Reads as judge-ranked-reads
 use native.Mathlib.Omega.{arith}
 use Rattle.checking.proofs.Accepted.{checked-lent-in, checked-used-in}
+use Rattle.symbol_row_test.proofs.AnswersWith.{text-small}
 
--- src/lib.rt:97:18
-add-places : tie.Need-add-places
-add-places c = search needs
-
--- src/lib.rt:98:51
+-- src/lib.rt:92:9
 asked-requires : tie.Need-asked-requires
 asked-requires c κs =
     let st = c .before .before .before .before .before .before .before .before in
     let r = st .pre .0 .root-used in
     (omega (arith, r), checked-used-in _ _ _ _ _ _ (st .pre .0), checked-lent-in _ _ _ _ _ _ (st .pre .0))
 
--- src/lib.rt:98:8
+-- src/lib.rt:87:8
 is-short-requires : tie.Need-is-short-requires
-is-short-requires c κs = search needs
+is-short-requires c κs =
+    let st = c .before .before .before .before .before .before .before .before .before in (
+      st .pre .1 .1 .1 .1 .1 .0,
+      text-small (st
+          .args .text .now) _ _ _ _ _ (st .pre .0),
+    )
 
--- src/lib.rt:99:9
+-- src/lib.rt:94:9
 judge-each-requires : tie.Need-judge-each-requires
 judge-each-requires c κs = search needs
 
--- src/lib.rt:99:9
+-- src/lib.rt:94:9
 same-length : tie.Need-same-length
 same-length c = search needs
 
--- src/lib.rt:99:9
+-- src/lib.rt:94:9
 same-length-2 : tie.Need-same-length-2
 same-length-2 c = search needs
 
--- src/lib.rt:99:9
+-- src/lib.rt:94:9
 returns : tie.Need-returns
 returns c = search needs
 
--- src/lib.rt:112:5
+-- src/lib.rt:107:5
 judge-ranked-requires : tie.Need-judge-ranked-requires
 judge-ranked-requires c κs =
     let st = c .before .before .before .before .before .before .before .before .before .before .before .before
@@ -68,15 +70,15 @@ judge-ranked-requires c κs =
       ),
     )
 
--- src/lib.rt:72:1
+-- src/lib.rt:62:1
 same-length-3 : tie.Need-same-length-3
 same-length-3 c = search needs
 
--- src/lib.rt:72:1
+-- src/lib.rt:62:1
 same-length-4 : tie.Need-same-length-4
 same-length-4 c = search needs
 
--- src/lib.rt:72:1
+-- src/lib.rt:62:1
 returns-2 : tie.Need-returns-2
 returns-2 c = search needs
 
@@ -84,7 +86,6 @@ pub judge-short-spec : {M : Type 1} → statement M
 judge-short-spec =
     tie.close
     (tie.spec
-    add-places
     asked-requires
     is-short-requires
     judge-each-requires

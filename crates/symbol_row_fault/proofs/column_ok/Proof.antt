@@ -3,7 +3,7 @@ use Rattle.symbol_row_fault.proofs.column_ok.Statement.{statement}
 use Rattle.symbol_row_fault.proofs.column_ok.Tie as tie
 use Rattle.symbol_row_fault.proofs.column_ok.Reads as reads
 use Rattle.symbol_row_fault.proofs.column_ok.Lts as lts
-use Rattle.records.proofs.shape.in_type.Reads as in-type-reads
+use Rattle.value_types.proofs.in_type.Reads as in-type-reads
 use Rattle.records.proofs.Laws.{flags}
 use Rattle.symbol_rows.specs.RowTestWith.{columnOkWith}
 

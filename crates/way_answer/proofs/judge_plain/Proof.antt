@@ -3,10 +3,10 @@ use Rattle.way_answer.proofs.judge_plain.Statement.{statement}
 use Rattle.way_answer.proofs.judge_plain.Tie as tie
 use Rattle.way_answer.proofs.judge_plain.Reads as reads
 use Rattle.way_answer.proofs.judge_plain.Lts as lts
-use Rattle.way_answer.proofs.indexed.judge_indexed.Reads as judge-indexed-reads
-use Rattle.way_answer.proofs.indexed.looks_often.Reads as looks-often-reads
 use Rattle.judge_lines.proofs.lines.judge_lines.Reads as judge-lines-reads
 use Rattle.rewrite.proofs.literals.read_literals.Reads as read-literals-reads
+use Rattle.way_answer.proofs.indexed.judge_indexed.Reads as judge-indexed-reads
+use Rattle.way_answer.proofs.indexed.looks_often.Reads as looks-often-reads
 use Prim.Native.Nat.{ℕ}
 use native.Mathlib.Omega.{arith}
 use lib.ListN.{length-replicate}
@@ -16,67 +16,38 @@ use Rattle.reading.proofs.Screens.{node-columns}
 use Rattle.far_lists.proofs.Sizes.{no-index}
 use Rattle.way_answer.proofs.Answers.{zero-says, way-lines}
 
--- src/lib.rt:61:9
+-- src/lib.rt:49:33
 slice-aggregate-read-literals : tie.Need-slice-aggregate-read-literals
 slice-aggregate-read-literals c = search needs
 
--- src/lib.rt:62:9
-slice-aggregate-read-literals-2 : tie.Need-slice-aggregate-read-literals-2
-slice-aggregate-read-literals-2 c = search needs
-
--- src/lib.rt:63:9
-slice-aggregate-read-literals-3 : tie.Need-slice-aggregate-read-literals-3
-slice-aggregate-read-literals-3 c = search needs
-
--- src/lib.rt:64:9
-slice-aggregate-read-literals-4 : tie.Need-slice-aggregate-read-literals-4
-slice-aggregate-read-literals-4 c = search needs
-
--- src/lib.rt:57:5
+-- src/lib.rt:49:5
 read-literals-requires : tie.Need-read-literals-requires
 read-literals-requires c κs = search needs
 
--- src/lib.rt:66:20
+-- src/lib.rt:50:20
 slice-aggregate-looks-often : tie.Need-slice-aggregate-looks-often
 slice-aggregate-looks-often c = search needs
 
--- src/lib.rt:66:29
-slice-aggregate-looks-often-2 : tie.Need-slice-aggregate-looks-often-2
-slice-aggregate-looks-often-2 c = search needs
-
--- src/lib.rt:66:8
+-- src/lib.rt:50:8
 looks-often-requires : tie.Need-looks-often-requires
 looks-often-requires c κs = search needs
 
--- src/lib.rt:72:13
+-- src/lib.rt:51:47
 slice-aggregate-judge-indexed : tie.Need-slice-aggregate-judge-indexed
 slice-aggregate-judge-indexed c = search needs
 
--- src/lib.rt:73:13
+-- src/lib.rt:51:54
 slice-aggregate-judge-indexed-2 : tie.Need-slice-aggregate-judge-indexed-2
 slice-aggregate-judge-indexed-2 c = search needs
 
--- src/lib.rt:74:13
-slice-aggregate-judge-indexed-3 : tie.Need-slice-aggregate-judge-indexed-3
-slice-aggregate-judge-indexed-3 c = search needs
-
--- src/lib.rt:75:13
-slice-aggregate-judge-indexed-4 : tie.Need-slice-aggregate-judge-indexed-4
-slice-aggregate-judge-indexed-4 c = search needs
-
--- src/lib.rt:76:13
-slice-aggregate-judge-indexed-5 : tie.Need-slice-aggregate-judge-indexed-5
-slice-aggregate-judge-indexed-5 c = search needs
-
--- src/lib.rt:67:9
+-- src/lib.rt:51:9
 judge-indexed-requires : tie.Need-judge-indexed-requires
 judge-indexed-requires c κs =
     let st = c .before .before .before .before .before .before .before .before .before .before .before .before
-    .before .before .before .before .before .before .before .before .before .before .before .before in
-    let read-literals = c .before .before .before .before .before .before .before .before .before .before
-    .before .before .before .before .read-literals in
-    let looks-often = c .before .before .before .before .before .before .before .looks-often in
-    let if1 = c .before .before .before .before .before .before .if1 in
+    .before .before in
+    let read-literals = c .before .before .before .before .before .before .before .read-literals in
+    let looks-often = c .before .before .before .before .looks-often in
+    let if1 = c .before .before .before .if1 in
     let ok = checked (st .args .t .now) (st .args .rs .now) (st .args .p .now) (st .args .used) (st .args .root
     .0) (st .pre .0) in
     let z = length-replicate {A = ℕ} 8192 0 in (
@@ -88,64 +59,49 @@ judge-indexed-requires c κs =
             (if1 .taken),
       ),
       (
-        (λ i h. read-literals .ensures (st .args .p .now) i h),
+        (λ i h. read-literals .ensures .0 (st .args .p .now) i h),
         (
-          node-columns (st .args .t .now)
-              (st .args .rs .now) (st .args .p .now) (st .args .used) (st .args .root .0) ok (st .args .nodes .now) (st
-              .args .n) (st .pre .1 .1 .0),
-          zero-says (st .args .t .now) (st .args .rs .now) (st .args .p .now) (st .args
-              .used) (st .args .root .0) (st .pre .0),
+          node-columns (st .args .t
+              .now) (st .args .rs .now) (st .args .p .now) (st .args .used) (st .args .root .0) ok (st .args .nodes .now)
+              (st .args .n) (st .pre .1 .1 .0),
+          zero-says (st .args .t .now) (st .args .rs .now) (st .args .p .now) (st
+              .args .used) (st .args .root .0) (st .pre .0),
         ),
       ),
     )
 
--- src/lib.rt:67:9
+-- src/lib.rt:51:9
 same-length : tie.Need-same-length
 same-length c = search needs
 
--- src/lib.rt:67:9
+-- src/lib.rt:51:9
 returns : tie.Need-returns
 returns c =
     let st = c .before .before .before .before .before .before .before .before .before .before .before .before
-    .before .before .before .before .before .before .before .before .before .before .before .before .before
-    .before .before .before in
+    .before .before .before .before .before .before in
     let judge-indexed = c .before .before .before .judge-indexed in
     judge-indexed .ensures ∙ way-lines (st .args .t .now) (st .args .rs .now) (st .args .p .now) (st .args
     .used) (st .args .root .0) (st .pre .0) (st .pre .1 .0) (st .args .nodes .now) (st .args .n) (st .pre .1 .1
     .0) (st .pre .1 .1 .1 .0 .0) (st .pre .1 .1 .1 .1)
 
--- src/lib.rt:84:9
+-- src/lib.rt:53:34
 slice-aggregate-judge-lines : tie.Need-slice-aggregate-judge-lines
 slice-aggregate-judge-lines c = search needs
 
--- src/lib.rt:85:9
+-- src/lib.rt:53:41
 slice-aggregate-judge-lines-2 : tie.Need-slice-aggregate-judge-lines-2
 slice-aggregate-judge-lines-2 c = search needs
 
--- src/lib.rt:86:9
+-- src/lib.rt:53:48
 slice-aggregate-judge-lines-3 : tie.Need-slice-aggregate-judge-lines-3
 slice-aggregate-judge-lines-3 c = search needs
 
--- src/lib.rt:87:9
-slice-aggregate-judge-lines-4 : tie.Need-slice-aggregate-judge-lines-4
-slice-aggregate-judge-lines-4 c = search needs
-
--- src/lib.rt:88:9
-slice-aggregate-judge-lines-5 : tie.Need-slice-aggregate-judge-lines-5
-slice-aggregate-judge-lines-5 c = search needs
-
--- src/lib.rt:89:9
-slice-aggregate-judge-lines-6 : tie.Need-slice-aggregate-judge-lines-6
-slice-aggregate-judge-lines-6 c = search needs
-
--- src/lib.rt:79:5
+-- src/lib.rt:53:5
 judge-lines-requires : tie.Need-judge-lines-requires
 judge-lines-requires c κs =
     let st = c .before .before .before .before .before .before .before .before .before .before .before .before
-    .before .before .before .before .before .before .before .before .before .before .before .before .before
-    in
-    let read-literals = c .before .before .before .before .before .before .before .before .before .before
-    .before .before .before .before .before .read-literals in
+    .before .before .before in
+    let read-literals = c .before .before .before .before .before .before .before .before .read-literals in
     let ok = checked (st .args .t .now) (st .args .rs .now) (st .args .p .now) (st .args .used) (st .args .root
     .0) (st .pre .0) in
     let z = length-replicate {A = ℕ} 8192 0 in (
@@ -153,30 +109,30 @@ judge-lines-requires c κs =
         omega (arith, z, st .pre .1 .1 .1 .0 .0),
         omega (arith, z),
         st .pre .1 .1 .1 .0 .1,
-        no-index _ _ _ _
+        no-index _ _ _
             (omega (arith, length-replicate {A = ℕ} 1 0)),
       ),
       (
-        (λ i h. read-literals .ensures (st .args .p .now) i h),
+        (λ i h. read-literals .ensures .0 (st .args .p .now) i
+            h),
         (
-          node-columns (st .args .t .now) (st .args .rs .now) (st .args .p .now) (st .args .used) (st .args .root
-              .0) ok (st .args .nodes .now) (st .args .n) (st .pre .1 .1 .0),
-          zero-says (st .args .t .now) (st .args .rs
-              .now) (st .args .p .now) (st .args .used) (st .args .root .0) (st .pre .0),
+          node-columns (st .args .t .now) (st .args .rs .now) (st .args .p .now) (st .args .used) (st .args
+              .root .0) ok (st .args .nodes .now) (st .args .n) (st .pre .1 .1 .0),
+          zero-says (st .args .t .now) (st .args
+              .rs .now) (st .args .p .now) (st .args .used) (st .args .root .0) (st .pre .0),
         ),
       ),
     )
 
--- src/lib.rt:35:1
+-- src/lib.rt:30:1
 same-length-2 : tie.Need-same-length-2
 same-length-2 c = search needs
 
--- src/lib.rt:35:1
+-- src/lib.rt:30:1
 returns-2 : tie.Need-returns-2
 returns-2 c =
     let st = c .before .before .before .before .before .before .before .before .before .before .before .before
-    .before .before .before .before .before .before .before .before .before .before .before .before .before
-    .before .before .before .before in
+    .before .before .before .before .before .before .before in
     let judge-lines = c .before .before .before .judge-lines in
     judge-lines .ensures ∙ way-lines (st .args .t .now) (st .args .rs .now) (st .args .p .now) (st .args .used)
     (st .args .root .0) (st .pre .0) (st .pre .1 .0) (st .args .nodes .now) (st .args .n) (st .pre .1 .1 .0) (st
@@ -187,27 +143,17 @@ judge-plain-spec =
     tie.close
     (tie.spec
     slice-aggregate-read-literals
-    slice-aggregate-read-literals-2
-    slice-aggregate-read-literals-3
-    slice-aggregate-read-literals-4
     read-literals-requires
     slice-aggregate-looks-often
-    slice-aggregate-looks-often-2
     looks-often-requires
     slice-aggregate-judge-indexed
     slice-aggregate-judge-indexed-2
-    slice-aggregate-judge-indexed-3
-    slice-aggregate-judge-indexed-4
-    slice-aggregate-judge-indexed-5
     judge-indexed-requires
     same-length
     returns
     slice-aggregate-judge-lines
     slice-aggregate-judge-lines-2
     slice-aggregate-judge-lines-3
-    slice-aggregate-judge-lines-4
-    slice-aggregate-judge-lines-5
-    slice-aggregate-judge-lines-6
     judge-lines-requires
     same-length-2
     returns-2)

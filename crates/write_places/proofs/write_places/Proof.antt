@@ -21,13 +21,13 @@ use Rattle.write_places.proofs.Writing.{row-none, row-more}
 use borrow.Author.Needs.{needs}
 
 abbrev Inv-loop : tie.InvT-loop
-Inv-loop kinds values starts counts pool cells marks order n columns row₀ nulls₀ c₀ row nulls c =
-    (c ≤ columns) × (length row ≡ length row₀) × ((T : ColumnTable) → Shows (conjuncts kinds values starts
-    counts pool) (columnsOf cells) marks T → RowWritten (firstOf order n) (λ x. bitsColumn (T x)) c row₀ row
+Inv-loop told pool cells marks order n columns row₀ nulls₀ c₀ row nulls c =
+    (c ≤ columns) × (length row ≡ length row₀) × ((T : ColumnTable) → Shows (conjuncts told pool) (columnsOf cells)
+    marks T → RowWritten (firstOf order n) (λ x. bitsColumn (T x)) c row₀ row
     nulls)
 
 abbrev μ-loop : tie.MeasureT-loop
-μ-loop kinds values starts counts pool cells marks order n columns row₀ nulls₀ c₀ row nulls c =
+μ-loop told pool cells marks order n columns row₀ nulls₀ c₀ row nulls c =
     columns - c
 
 -- src/lib.rt:136:5
@@ -38,7 +38,7 @@ loop-holds c =
 -- src/lib.rt:137:13
 load-requires : tie.Need-load-requires Inv-loop μ-loop
 load-requires c κs =
-    let st = c .before .before .before .before .before .before .before .before .before .before .before in
+    let st = c .before .before .before .before .before .before .before .before in
     let loop-test = c .loop-test in
     (omega (arith, loop-test .taken, st .pre .2), st .pre .0)
 
@@ -49,23 +49,21 @@ cast-is-shown-null c = search needs
 -- src/lib.rt:138:13
 is-shown-null-requires : tie.Need-is-shown-null-requires Inv-loop μ-loop
 is-shown-null-requires c κs =
-    let st = c .before .before .before .before .before .before .before .before .before .before .before .before
+    let st = c .before .before .before .before .before .before .before .before .before
     in
     st .pre .1
 
 -- src/lib.rt:139:13
 shown-place-requires : tie.Need-shown-place-requires Inv-loop μ-loop
 shown-place-requires c κs =
-    let st = c .before .before .before .before .before .before .before .before .before .before .before .before
-    .before in
+    let st = c .before .before .before .before .before .before .before .before .before .before in
     let loop-test = c .before .before .loop-test in
     omega (arith, loop-test .taken, st .pre .2)
 
 -- src/lib.rt:140:9
 put-place-requires : tie.Need-put-place-requires Inv-loop μ-loop
 put-place-requires c κs =
-    let st = c .before .before .before .before .before .before .before .before .before .before .before .before
-    .before .before .before in
+    let st = c .before .before .before .before .before .before .before .before .before .before .before .before in
     let loop = c .before .before .before .before .before .loop in
     let loop-test = c .before .before .before .before .loop-test in
     omega (arith, loop-test .taken, st .pre .3, loop .inv .1)
@@ -77,16 +75,15 @@ cast-with-bit c = search needs
 -- src/lib.rt:141:9
 with-bit-requires : tie.Need-with-bit-requires Inv-loop μ-loop
 with-bit-requires c κs =
-    let st = c .before .before .before .before .before .before .before .before .before .before .before .before
-    .before .before .before .before .before .before in
+    let st = c .before .before .before .before .before .before .before .before .before .before .before .before .before .before .before in
     let loop-test = c .before .before .before .before .before .before .before .loop-test in
     omega (arith, loop-test .taken, st .pre .2)
 
 -- src/lib.rt:142:9
 add-c : tie.Need-add-c Inv-loop μ-loop
 add-c c =
-    let st = c .before .before .before .before .before .before .before .before .before .before .before .before
-    .before .before .before .before .before .before .before in
+    let st = c .before .before .before .before .before .before .before .before .before .before .before .before .before
+    .before .before .before in
     let loop-test = c .before .before .before .before .before .before .before .before .loop-test in
     omega (arith, loop-test .taken, st .pre .2)
 
@@ -97,8 +94,8 @@ loop-less c = search needs
 -- src/lib.rt:136:5
 loop-again : tie.Need-loop-again Inv-loop μ-loop
 loop-again c =
-    let st = c .before .before .before .before .before .before .before .before .before .before .before .before
-    .before .before .before .before .before .before .before in
+    let st = c .before .before .before .before .before .before .before .before .before .before .before .before .before
+    .before .before .before in
     let loop = c .before .before .before .before .before .before .before .before .before .loop in
     let loop-test = c .before .before .before .before .before .before .before .before .loop-test in
     let is-shown-null = c .before .before .before .before .before .before .is-shown-null in
@@ -121,7 +118,7 @@ same-length c = search needs
 -- src/lib.rt:114:1
 returns : tie.Need-returns Inv-loop μ-loop
 returns c =
-    let st = c .before .before .before .before .before .before .before .before .before .before .before in
+    let st = c .before .before .before .before .before .before .before .before in
     let loop = c .before .loop in
     let loop-test = c .loop-test in
     let e : loop .c ≡ st .args .columns = omega (arith, loop .inv .0, loop-test .left) in

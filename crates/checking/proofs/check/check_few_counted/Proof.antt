@@ -4,9 +4,10 @@ use Rattle.checking.proofs.check.check_few_counted.Tie as tie
 use Rattle.checking.proofs.check.check_few_counted.Reads as reads
 use Rattle.checking.proofs.check.check_few_counted.Lts as lts
 use Rattle.checking.proofs.check.limits_fault.Reads as limits-fault-reads
-use Rattle.checking.proofs.check.records_answer.Reads as records-answer-reads
+use Rattle.checking.proofs.check.records_fault.Reads as records-fault-reads
 use Rattle.checking.proofs.Sizes.{used-small-in, used-lent-in, table-known-in}
-use Rattle.checking.proofs.Accepted.{not-accepted, within-limits}
+use Rattle.checking.proofs.Accepted.{within-limits}
+use Rattle.checking.proofs.Standing.{within-stand}
 use mathlib.Core.Path.{refl, sym, _∙_}
 use native.Mathlib.Omega.{arith}
 use Rattle.record_check.specs.Outside.{Counts}
@@ -20,7 +21,8 @@ returns : tie.Need-returns
 returns c =
     let limits-fault = c .before .limits-fault in
     let if1 = c .if1 in
-    (sym (limits-fault .ensures .1 (if1 .taken)), λ h. absurd (not-accepted _ h))
+    let r = limits-fault .ensures .1 .0 (if1 .taken) in
+    (r .1, ((λ h. absurd (r .0 h)), limits-fault .ensures .1 .1 (if1 .taken) refl))
 
 -- src/check.rt:338:13
 cast-u : tie.Need-cast-u
@@ -35,21 +37,21 @@ cast-r c =
     omega (arith, used-small-in _ _ _ _ (k .1), k .2)
 
 -- src/check.rt:341:33
-slice-aggregate-records-answer : tie.Need-slice-aggregate-records-answer
-slice-aggregate-records-answer c = search needs
+slice-aggregate-records-fault : tie.Need-slice-aggregate-records-fault
+slice-aggregate-records-fault c = search needs
 
 -- src/check.rt:341:40
-slice-aggregate-records-answer-2 : tie.Need-slice-aggregate-records-answer-2
-slice-aggregate-records-answer-2 c = search needs
+slice-aggregate-records-fault-2 : tie.Need-slice-aggregate-records-fault-2
+slice-aggregate-records-fault-2 c = search needs
 
 -- src/check.rt:341:47
-slice-aggregate-records-answer-3 : tie.Need-slice-aggregate-records-answer-3
-slice-aggregate-records-answer-3 c = search needs
+slice-aggregate-records-fault-3 : tie.Need-slice-aggregate-records-fault-3
+slice-aggregate-records-fault-3 c = search needs
 
 -- src/check.rt:341:5
-records-answer-requires : tie.Need-records-answer-requires
+records-fault-requires : tie.Need-records-fault-requires
 unfolding Counts
-records-answer-requires c κs =
+records-fault-requires c κs =
     let st = c .before .before .before .before .before .before .before .before .before .before .before .before
     in
     let limits-fault = c .before .before .before .before .before .before .limits-fault in
@@ -76,14 +78,16 @@ same-length-2 c = search needs
 -- src/check.rt:327:1
 returns-2 : tie.Need-returns-2
 returns-2 c =
-    let limits-fault = c .before .before .before .before .before .before .before .before .before .before .before
-    .limits-fault in
+    let limits-fault = c .before .before .before .before .before .before .before .before .before .before .before .limits-fault in
     let if1 = c .before .before .before .before .before .before .before .before .before .before .if1 in
-    let records-answer = c .before .before .before .before .records-answer in
+    let records-fault = c .before .before .before .before .records-fault in
     let k = limits-fault .ensures .0 (if1 .left) in (
-      records-answer .ensures .0 ∙ sym (within-limits _ _ _ _ _ _ (k .0) (k .1) (k .2)),
-      records-answer .ensures
-          .1,
+      records-fault .ensures .0 ∙ sym (within-limits _ _ _ _ _ _ (k .0) (k .1) (k .2)),
+      (
+        records-fault .ensures
+            .1 .0,
+        λ l. within-stand 0 _ _ _ _ _ refl (k .0) (k .1) (k .2) (records-fault .ensures .1 .1 refl l),
+      ),
     )
 
 pub check-few-counted-spec : {M : Type 1} → statement M
@@ -94,10 +98,10 @@ check-few-counted-spec =
     returns
     cast-u
     cast-r
-    slice-aggregate-records-answer
-    slice-aggregate-records-answer-2
-    slice-aggregate-records-answer-3
-    records-answer-requires
+    slice-aggregate-records-fault
+    slice-aggregate-records-fault-2
+    slice-aggregate-records-fault-3
+    records-fault-requires
     same-length
     same-length-2
     returns-2)

@@ -3,7 +3,7 @@ use Rattle.checking.proofs.check.records_counted.Statement.{statement}
 use Rattle.checking.proofs.check.records_counted.Tie as tie
 use Rattle.checking.proofs.check.records_counted.Reads as reads
 use Rattle.checking.proofs.check.records_counted.Lts as lts
-use Rattle.checking.proofs.check.records_answer.Reads as records-answer-reads
+use Rattle.checking.proofs.check.records_fault.Reads as records-fault-reads
 use Rattle.checking.proofs.check.records_pooled.Reads as records-pooled-reads
 use Rattle.record_check.proofs.outside.fill_outside.Reads as fill-outside-reads
 use Rattle.record_check.specs.Outside.{Counts}
@@ -26,21 +26,21 @@ fill-outside-requires-2 : tie.Need-fill-outside-requires-2
 fill-outside-requires-2 c κs = search needs
 
 -- src/check.rt:195:47
-slice-aggregate-records-answer : tie.Need-slice-aggregate-records-answer
-slice-aggregate-records-answer c = search needs
+slice-aggregate-records-fault : tie.Need-slice-aggregate-records-fault
+slice-aggregate-records-fault c = search needs
 
 -- src/check.rt:195:54
-slice-aggregate-records-answer-2 : tie.Need-slice-aggregate-records-answer-2
-slice-aggregate-records-answer-2 c = search needs
+slice-aggregate-records-fault-2 : tie.Need-slice-aggregate-records-fault-2
+slice-aggregate-records-fault-2 c = search needs
 
 -- src/check.rt:195:63
-slice-aggregate-records-answer-3 : tie.Need-slice-aggregate-records-answer-3
-slice-aggregate-records-answer-3 c = search needs
+slice-aggregate-records-fault-3 : tie.Need-slice-aggregate-records-fault-3
+slice-aggregate-records-fault-3 c = search needs
 
 -- src/check.rt:195:9
-records-answer-requires : tie.Need-records-answer-requires
+records-fault-requires : tie.Need-records-fault-requires
 unfolding Counts
-records-answer-requires c κs =
+records-fault-requires c κs =
     let st = c .before .before .before .before .before .before .before .before .before .before .before .before
     .before .before .before .before .before in
     let fill-outside = c .before .before .before .before .before .before .before .before .before .before
@@ -112,10 +112,10 @@ records-counted-spec =
     fill-outside-requires
     slice-aggregate-fill-outside-2
     fill-outside-requires-2
-    slice-aggregate-records-answer
-    slice-aggregate-records-answer-2
-    slice-aggregate-records-answer-3
-    records-answer-requires
+    slice-aggregate-records-fault
+    slice-aggregate-records-fault-2
+    slice-aggregate-records-fault-3
+    records-fault-requires
     same-length
     same-length-2
     returns

@@ -3,7 +3,7 @@ use Rattle.checking.proofs.check.records_pooled.Statement.{statement}
 use Rattle.checking.proofs.check.records_pooled.Tie as tie
 use Rattle.checking.proofs.check.records_pooled.Reads as reads
 use Rattle.checking.proofs.check.records_pooled.Lts as lts
-use Rattle.checking.proofs.check.records_answer.Reads as records-answer-reads
+use Rattle.checking.proofs.check.records_fault.Reads as records-fault-reads
 use Rattle.record_check.proofs.outside.fill_outside.Reads as fill-outside-reads
 use Rattle.record_check.specs.Outside.{Counts}
 
@@ -16,13 +16,13 @@ fill-outside-requires : tie.Need-fill-outside-requires
 fill-outside-requires c κs = search needs
 
 -- src/check.rt:165:50
-slice-aggregate-records-answer : tie.Need-slice-aggregate-records-answer
-slice-aggregate-records-answer c = search needs
+slice-aggregate-records-fault : tie.Need-slice-aggregate-records-fault
+slice-aggregate-records-fault c = search needs
 
 -- src/check.rt:165:5
-records-answer-requires : tie.Need-records-answer-requires
+records-fault-requires : tie.Need-records-fault-requires
 unfolding Counts
-records-answer-requires c κs =
+records-fault-requires c κs =
     let st = c .before .before .before .before .before .before .before .before .before .before .before .before
     .before in
     let fill-outside = c .before .before .before .before .fill-outside in
@@ -46,8 +46,8 @@ records-pooled-spec =
     (tie.spec
     slice-aggregate-fill-outside
     fill-outside-requires
-    slice-aggregate-records-answer
-    records-answer-requires
+    slice-aggregate-records-fault
+    records-fault-requires
     same-length
     same-length-2
     returns)

@@ -29,7 +29,7 @@ load-requires c κs = search needs
 -- src/collect.rt:91:9
 add-in-row-requires : tie.Need-add-in-row-requires
 add-in-row-requires c κs =
-    let st = c .before .before .before .before .before .before .before .before .before .before .before in
+    let st = c .before .before .before .before .before .before .before .before in
     let slot = c .before .before .before .slot in
     let load = c .before .load in (
       (
@@ -45,7 +45,7 @@ with-null-line-requires c κs = search needs
 
 store-requires : tie.Need-store-requires
 store-requires c κs =
-    let st = c .before .before .before .before .before .before .before .before .before .before .before .before .before .before .before .before in
+    let st = c .before .before .before .before .before .before .before .before .before .before .before .before .before in
     let slot = c .before .before .before .before .before .before .before .before .slot in
     (omega (arith, slot .ensures), st .pre .0 .0 .size)
 
@@ -59,7 +59,7 @@ same-length-2 c = search needs
 -- src/collect.rt:68:1
 returns : tie.Need-returns
 returns c =
-    let st = c .before .before .before .before .before .before .before .before .before .before .before .before .before .before .before .before .before .before .before in
+    let st = c .before .before .before .before .before .before .before .before .before .before .before .before .before .before .before .before in
     let slot = c .before .before .before .before .before .before .before .before .before .before .before .slot in
     let load = c .before .before .before .before .before .before .before .before .before .load in
     let add-in-row = c .before .before .before .before .before .before .before .add-in-row in

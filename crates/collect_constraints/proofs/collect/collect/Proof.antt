@@ -21,23 +21,22 @@ use Rattle.collect_constraints.proofs.NullLines.{with-nulls, nulls-none
 use borrow.Author.Needs.{needs}
 
 abbrev Inv-loop : tie.InvT-loop
-Inv-loop rs pool nodes n kinds values starts counts cells₀ marks₀ order₀ kept₀ lefts₀ rights₀ equals₀ seen₀ held₀ i₀ cells marks order kept lefts rights equals seen held i =
+Inv-loop rs pool nodes n told cells₀ marks₀ order₀ kept₀ lefts₀ rights₀ equals₀ seen₀ held₀ i₀ cells marks order kept lefts rights equals seen held i =
     (i ≤ n) × (held .columns ≤ i + i) × (held .keeps + held .edges ≤ i) × (held .bounds ≤ i) × (Collects
-    (conjuncts kinds values starts counts pool) (columnsOf cells) marks seen order (held .columns) kept (held
+    (conjuncts told pool) (columnsOf cells) marks seen order (held .columns) kept (held
     .keeps) lefts rights equals (held .edges) (held .bounds) (held .normalized) (held .unsat) (collectTo
     (aexprOf rs pool) nodes i) × NullLines (aexprOf rs pool) nodes i (columnsOf cells)) × (length marks ≡ length
     marks₀) × (length cells ≡ length cells₀) × (length order ≡ length order₀) × (length kept ≡ length kept₀) ×
     (length lefts ≡ length lefts₀) × (length rights ≡ length rights₀) × (length equals ≡ length equals₀)
 
 abbrev μ-loop : tie.MeasureT-loop
-μ-loop rs pool nodes n kinds values starts counts cells₀ marks₀ order₀ kept₀ lefts₀ rights₀ equals₀ seen₀ held₀ i₀ cells marks order kept lefts rights equals seen held i =
+μ-loop rs pool nodes n told cells₀ marks₀ order₀ kept₀ lefts₀ rights₀ equals₀ seen₀ held₀ i₀ cells marks order kept lefts rights equals seen held i =
     n - i
 
 -- src/collect.rt:268:5
 loop-holds : tie.Need-loop-holds Inv-loop μ-loop
 loop-holds c =
-    let st = c .before .before .before .before .before .before .before .before .before .before .before .before
-    .before .before in (
+    let st = c .before .before .before .before .before .before .before .before .before .before .before in (
       omega arith,
       omega arith,
       omega arith,
@@ -62,8 +61,7 @@ mul-collect-conjunct c = search needs
 -- src/collect.rt:272:13
 shared-slice-read-collect-conjunct : tie.Need-shared-slice-read-collect-conjunct Inv-loop μ-loop
 shared-slice-read-collect-conjunct c =
-    let st = c .before .before .before .before .before .before .before .before .before .before .before .before
-    .before .before .before .before .before .before in
+    let st = c .before .before .before .before .before .before .before .before .before .before .before .before .before .before .before in
     let l1 = c .before .before .before .loop in
     let if1 = c .before .if1 in
     let h : l1 .i < st .args .n = ltb-true _ _ (and-left (ltb (l1 .i) (st .args .n)) (not (l1 .held .unsat))
@@ -81,9 +79,8 @@ cast-collect-conjunct c = search needs
 -- src/collect.rt:269:9
 collect-conjunct-requires : tie.Need-collect-conjunct-requires Inv-loop μ-loop
 collect-conjunct-requires c κs =
-    let st = c .before .before .before .before .before .before .before .before .before .before .before .before
-    .before .before .before .before .before .before .before .before .before .before .before .before .before
-    .before in
+    let st = c .before .before .before .before .before .before .before .before .before .before .before .before .before
+    .before .before .before .before .before .before .before .before .before .before in
     let l1 = c .before .before .before .before .before .before .before .before .before .before .before .loop in
     let if1 = c .before .before .before .before .before .before .before .before .before .if1 in
     let h : l1 .i < st .args .n = ltb-true _ _ (and-left (ltb (l1 .i) (st .args .n)) (not (l1 .held .unsat))
@@ -145,10 +142,9 @@ collect-conjunct-requires c κs =
 -- src/collect.rt:288:9
 add-i : tie.Need-add-i Inv-loop μ-loop
 add-i c =
-    let st = c .before .before .before .before .before .before .before .before .before .before .before .before
-    .before .before .before .before .before .before .before .before .before .before .before .before .before
-    .before .before .before .before .before .before .before .before .before .before .before .before .before
-    .before .before .before .before in
+    let st = c .before .before .before .before .before .before .before .before .before .before .before .before .before
+    .before .before .before .before .before .before .before .before .before .before .before .before .before .before
+    .before .before .before .before .before .before .before .before .before .before .before .before in
     let l1 = c .before .before .before .before .before .before .before .before .before .before .before .before
     .before .before .before .before .before .before .before .before .before .before .before .before .before
     .before .before .loop in
@@ -162,10 +158,9 @@ add-i c =
 -- src/collect.rt:268:5
 loop-less : tie.Need-loop-less Inv-loop μ-loop
 loop-less c =
-    let st = c .before .before .before .before .before .before .before .before .before .before .before .before
-    .before .before .before .before .before .before .before .before .before .before .before .before .before
-    .before .before .before .before .before .before .before .before .before .before .before .before .before
-    .before .before .before .before in
+    let st = c .before .before .before .before .before .before .before .before .before .before .before .before .before
+    .before .before .before .before .before .before .before .before .before .before .before .before .before .before
+    .before .before .before .before .before .before .before .before .before .before .before .before in
     let l1 = c .before .before .before .before .before .before .before .before .before .before .before .before
     .before .before .before .before .before .before .before .before .before .before .before .before .before
     .before .before .loop in
@@ -179,10 +174,9 @@ loop-less c =
 -- src/collect.rt:268:5
 loop-again : tie.Need-loop-again Inv-loop μ-loop
 loop-again c =
-    let st = c .before .before .before .before .before .before .before .before .before .before .before .before
-    .before .before .before .before .before .before .before .before .before .before .before .before .before
-    .before .before .before .before .before .before .before .before .before .before .before .before .before
-    .before .before .before .before in
+    let st = c .before .before .before .before .before .before .before .before .before .before .before .before .before
+    .before .before .before .before .before .before .before .before .before .before .before .before .before .before
+    .before .before .before .before .before .before .before .before .before .before .before .before in
     let l1 = c .before .before .before .before .before .before .before .before .before .before .before .before
     .before .before .before .before .before .before .before .before .before .before .before .before .before
     .before .before .loop in
@@ -254,8 +248,7 @@ same-length-7 c = search needs
 -- src/collect.rt:225:1
 returns : tie.Need-returns Inv-loop μ-loop
 returns c =
-    let st = c .before .before .before .before .before .before .before .before .before .before .before .before
-    .before .before .before .before .before in
+    let st = c .before .before .before .before .before .before .before .before .before .before .before .before .before .before in
     let l1 = c .before .before .loop in
     let if1 = c .if1 in (
       (l1 .seen, collected-all _ _ _ _ _ _ _ _ _ _ _ _ _ _ _ _ _ _ _ (l1 .inv .4 .0) (l1 .inv .0) (if1 .left)),

@@ -29,8 +29,8 @@ enum-known-k c = search needs
 -- src/collect.rt:176:13
 enter-requires : tie.Need-enter-requires
 enter-requires c κs =
-    let st = c .before .before .before .before .before .before .before .before .before .before .before .before
-    .before .before .before .before .before .before .before .before in
+    let st = c .before .before .before .before .before .before .before .before .before .before .before .before .before
+    .before .before .before .before in
     let classify = c .before .before .before .before .before .classify in
     let arm = c .before .before .before .k in
     let k = read-as _ _ _ _ _ (classify .ensures _) (arm .given .1) in
@@ -40,9 +40,8 @@ enter-requires c κs =
 -- src/collect.rt:177:13
 add-to-column-requires : tie.Need-add-to-column-requires
 add-to-column-requires c κs =
-    let st = c .before .before .before .before .before .before .before .before .before .before .before .before
-    .before .before .before .before .before .before .before .before .before .before .before .before .before
-    .before .before in
+    let st = c .before .before .before .before .before .before .before .before .before .before .before .before .before
+    .before .before .before .before .before .before .before .before .before .before .before in
     let classify = c .before .before .before .before .before .before .before .before .before .before .before
     .before .classify in
     let arm = c .before .before .before .before .before .before .before .before .before .before .k in
@@ -53,9 +52,9 @@ add-to-column-requires c κs =
 -- src/collect.rt:178:13
 add-held : tie.Need-add-held
 add-held c =
-    let st = c .before .before .before .before .before .before .before .before .before .before .before .before
-    .before .before .before .before .before .before .before .before .before .before .before .before .before
-    .before .before .before .before .before .before .before .before in
+    let st = c .before .before .before .before .before .before .before .before .before .before .before .before .before
+    .before .before .before .before .before .before .before .before .before .before .before .before .before .before
+    .before .before .before in
     omega (arith, st .pre .0 .11)
 
 -- src/collect.rt:181:30
@@ -65,8 +64,8 @@ enum-known-k-2 c = search needs
 -- src/collect.rt:182:13
 enter-requires-2 : tie.Need-enter-requires-2
 enter-requires-2 c κs =
-    let st = c .before .before .before .before .before .before .before .before .before .before .before .before
-    .before .before .before .before .before .before .before .before in
+    let st = c .before .before .before .before .before .before .before .before .before .before .before .before .before
+    .before .before .before .before in
     let classify = c .before .before .before .before .before .classify in
     let arm = c .before .before .before .k2 in
     let k = read-as _ _ _ _ _ (classify .ensures _) (arm .given .1) in
@@ -76,9 +75,8 @@ enter-requires-2 c κs =
 -- src/collect.rt:183:13
 add-to-column-requires-2 : tie.Need-add-to-column-requires-2
 add-to-column-requires-2 c κs =
-    let st = c .before .before .before .before .before .before .before .before .before .before .before .before
-    .before .before .before .before .before .before .before .before .before .before .before .before .before
-    .before .before in
+    let st = c .before .before .before .before .before .before .before .before .before .before .before .before .before
+    .before .before .before .before .before .before .before .before .before .before .before in
     let classify = c .before .before .before .before .before .before .before .before .before .before .before
     .before .classify in
     let arm = c .before .before .before .before .before .before .before .before .before .before .k2 in
@@ -89,9 +87,9 @@ add-to-column-requires-2 c κs =
 -- src/collect.rt:184:13
 add-held-2 : tie.Need-add-held-2
 add-held-2 c =
-    let st = c .before .before .before .before .before .before .before .before .before .before .before .before
-    .before .before .before .before .before .before .before .before .before .before .before .before .before
-    .before .before .before .before .before .before .before .before in
+    let st = c .before .before .before .before .before .before .before .before .before .before .before .before .before
+    .before .before .before .before .before .before .before .before .before .before .before .before .before .before
+    .before .before .before in
     omega (arith, st .pre .0 .11)
 
 -- src/collect.rt:188:28
@@ -101,8 +99,8 @@ enum-known-k-3 c = search needs
 -- src/collect.rt:189:13
 enter-requires-3 : tie.Need-enter-requires-3
 enter-requires-3 c κs =
-    let st = c .before .before .before .before .before .before .before .before .before .before .before .before
-    .before .before .before .before .before .before .before .before in
+    let st = c .before .before .before .before .before .before .before .before .before .before .before .before .before
+    .before .before .before .before in
     let classify = c .before .before .before .before .before .classify in
     let arm = c .before .before .before .k3 in
     let k = read-as _ _ _ _ _ (classify .ensures _) (arm .given .1) in
@@ -112,9 +110,8 @@ enter-requires-3 c κs =
 -- src/collect.rt:190:13
 require-non-null-requires : tie.Need-require-non-null-requires
 require-non-null-requires c κs =
-    let st = c .before .before .before .before .before .before .before .before .before .before .before .before
-    .before .before .before .before .before .before .before .before .before .before .before .before .before
-    .before in
+    let st = c .before .before .before .before .before .before .before .before .before .before .before .before .before
+    .before .before .before .before .before .before .before .before .before .before in
     let classify = c .before .before .before .before .before .before .before .before .before .before .before
     .classify in
     let arm = c .before .before .before .before .before .before .before .before .before .k3 in
@@ -125,9 +122,9 @@ require-non-null-requires c κs =
 -- src/collect.rt:191:13
 enter-requires-4 : tie.Need-enter-requires-4
 enter-requires-4 c κs =
-    let st = c .before .before .before .before .before .before .before .before .before .before .before .before
-    .before .before .before .before .before .before .before .before .before .before .before .before .before
-    .before .before .before .before .before .before in
+    let st = c .before .before .before .before .before .before .before .before .before .before .before .before .before
+    .before .before .before .before .before .before .before .before .before .before .before .before .before .before
+    .before in
     let classify = c .before .before .before .before .before .before .before .before .before .before .before
     .before .before .before .before .before .classify in
     let arm = c .before .before .before .before .before .before .before .before .before .before .before .before
@@ -146,9 +143,9 @@ enter-requires-4 c κs =
 -- src/collect.rt:192:13
 require-non-null-requires-2 : tie.Need-require-non-null-requires-2
 require-non-null-requires-2 c κs =
-    let st = c .before .before .before .before .before .before .before .before .before .before .before .before
-    .before .before .before .before .before .before .before .before .before .before .before .before .before
-    .before .before .before .before .before .before .before .before .before .before .before .before in
+    let st = c .before .before .before .before .before .before .before .before .before .before .before .before .before
+    .before .before .before .before .before .before .before .before .before .before .before .before .before .before
+    .before .before .before .before .before .before .before in
     let classify = c .before .before .before .before .before .before .before .before .before .before .before
     .before .before .before .before .before .before .before .before .before .before .before .classify in
     let arm = c .before .before .before .before .before .before .before .before .before .before .before .before
@@ -162,64 +159,57 @@ require-non-null-requires-2 c κs =
 -- src/collect.rt:193:13
 mul-lefts : tie.Need-mul-lefts
 mul-lefts c =
-    let st = c .before .before .before .before .before .before .before .before .before .before .before .before
-    .before .before .before .before .before .before .before .before .before .before .before .before .before
-    .before .before .before .before .before .before .before .before .before .before .before .before .before
-    .before .before in
+    let st = c .before .before .before .before .before .before .before .before .before .before .before .before .before
+    .before .before .before .before .before .before .before .before .before .before .before .before .before .before
+    .before .before .before .before .before .before .before .before .before .before in
     omega (arith, st .pre .0 .10)
 
 -- src/collect.rt:193:13
 slice-write-lefts : tie.Need-slice-write-lefts
 slice-write-lefts c =
-    let st = c .before .before .before .before .before .before .before .before .before .before .before .before
-    .before .before .before .before .before .before .before .before .before .before .before .before .before
-    .before .before .before .before .before .before .before .before .before .before .before .before .before
-    .before .before in
+    let st = c .before .before .before .before .before .before .before .before .before .before .before .before .before
+    .before .before .before .before .before .before .before .before .before .before .before .before .before .before
+    .before .before .before .before .before .before .before .before .before .before in
     omega (arith, st .pre .0 .6)
 
 -- src/collect.rt:194:13
 mul-rights : tie.Need-mul-rights
 mul-rights c =
-    let st = c .before .before .before .before .before .before .before .before .before .before .before .before
-    .before .before .before .before .before .before .before .before .before .before .before .before .before
-    .before .before .before .before .before .before .before .before .before .before .before .before .before
-    .before .before in
+    let st = c .before .before .before .before .before .before .before .before .before .before .before .before .before
+    .before .before .before .before .before .before .before .before .before .before .before .before .before .before
+    .before .before .before .before .before .before .before .before .before .before in
     omega (arith, st .pre .0 .10)
 
 -- src/collect.rt:194:13
 slice-write-rights : tie.Need-slice-write-rights
 slice-write-rights c =
-    let st = c .before .before .before .before .before .before .before .before .before .before .before .before
-    .before .before .before .before .before .before .before .before .before .before .before .before .before
-    .before .before .before .before .before .before .before .before .before .before .before .before .before
-    .before .before in
+    let st = c .before .before .before .before .before .before .before .before .before .before .before .before .before
+    .before .before .before .before .before .before .before .before .before .before .before .before .before .before
+    .before .before .before .before .before .before .before .before .before .before in
     omega (arith, st .pre .0 .7)
 
 -- src/collect.rt:195:13
 mul-equals : tie.Need-mul-equals
 mul-equals c =
-    let st = c .before .before .before .before .before .before .before .before .before .before .before .before
-    .before .before .before .before .before .before .before .before .before .before .before .before .before
-    .before .before .before .before .before .before .before .before .before .before .before .before .before
-    .before .before in
+    let st = c .before .before .before .before .before .before .before .before .before .before .before .before .before
+    .before .before .before .before .before .before .before .before .before .before .before .before .before .before
+    .before .before .before .before .before .before .before .before .before .before in
     omega (arith, st .pre .0 .10)
 
 -- src/collect.rt:195:13
 slice-write-equals : tie.Need-slice-write-equals
 slice-write-equals c =
-    let st = c .before .before .before .before .before .before .before .before .before .before .before .before
-    .before .before .before .before .before .before .before .before .before .before .before .before .before
-    .before .before .before .before .before .before .before .before .before .before .before .before .before
-    .before .before in
+    let st = c .before .before .before .before .before .before .before .before .before .before .before .before .before
+    .before .before .before .before .before .before .before .before .before .before .before .before .before .before
+    .before .before .before .before .before .before .before .before .before .before in
     omega (arith, st .pre .0 .8)
 
 -- src/collect.rt:196:26
 add-held-3 : tie.Need-add-held-3
 add-held-3 c =
-    let st = c .before .before .before .before .before .before .before .before .before .before .before .before
-    .before .before .before .before .before .before .before .before .before .before .before .before .before
-    .before .before .before .before .before .before .before .before .before .before .before .before .before
-    .before .before in
+    let st = c .before .before .before .before .before .before .before .before .before .before .before .before .before
+    .before .before .before .before .before .before .before .before .before .before .before .before .before .before
+    .before .before .before .before .before .before .before .before .before .before in
     omega (arith, st .pre .0 .10)
 
 -- src/collect.rt:199:28
@@ -229,8 +219,8 @@ enum-known-k-4 c = search needs
 -- src/collect.rt:200:13
 enter-requires-5 : tie.Need-enter-requires-5
 enter-requires-5 c κs =
-    let st = c .before .before .before .before .before .before .before .before .before .before .before .before
-    .before .before .before .before .before .before .before .before in
+    let st = c .before .before .before .before .before .before .before .before .before .before .before .before .before
+    .before .before .before .before in
     let classify = c .before .before .before .before .before .classify in
     let arm = c .before .before .before .k4 in
     let k = read-as _ _ _ _ _ (classify .ensures _) (arm .given .1) in
@@ -240,9 +230,8 @@ enter-requires-5 c κs =
 -- src/collect.rt:202:19
 add-to-column-requires-3 : tie.Need-add-to-column-requires-3
 add-to-column-requires-3 c κs =
-    let st = c .before .before .before .before .before .before .before .before .before .before .before .before
-    .before .before .before .before .before .before .before .before .before .before .before .before .before
-    .before .before in
+    let st = c .before .before .before .before .before .before .before .before .before .before .before .before .before
+    .before .before .before .before .before .before .before .before .before .before .before in
     let classify = c .before .before .before .before .before .before .before .before .before .before .before
     .before .classify in
     let arm = c .before .before .before .before .before .before .before .before .before .before .k4 in
@@ -253,25 +242,25 @@ add-to-column-requires-3 c κs =
 -- src/collect.rt:203:13
 mul-kept : tie.Need-mul-kept
 mul-kept c =
-    let st = c .before .before .before .before .before .before .before .before .before .before .before .before
-    .before .before .before .before .before .before .before .before .before .before .before .before .before
-    .before .before .before .before .before .before .before in
+    let st = c .before .before .before .before .before .before .before .before .before .before .before .before .before
+    .before .before .before .before .before .before .before .before .before .before .before .before .before .before
+    .before .before in
     omega (arith, st .pre .0 .9)
 
 -- src/collect.rt:203:13
 slice-write-kept : tie.Need-slice-write-kept
 slice-write-kept c =
-    let st = c .before .before .before .before .before .before .before .before .before .before .before .before
-    .before .before .before .before .before .before .before .before .before .before .before .before .before
-    .before .before .before .before .before .before .before in
+    let st = c .before .before .before .before .before .before .before .before .before .before .before .before .before
+    .before .before .before .before .before .before .before .before .before .before .before .before .before .before
+    .before .before in
     omega (arith, st .pre .0 .5)
 
 -- src/collect.rt:204:26
 add-held-4 : tie.Need-add-held-4
 add-held-4 c =
-    let st = c .before .before .before .before .before .before .before .before .before .before .before .before
-    .before .before .before .before .before .before .before .before .before .before .before .before .before
-    .before .before .before .before .before .before .before in
+    let st = c .before .before .before .before .before .before .before .before .before .before .before .before .before
+    .before .before .before .before .before .before .before .before .before .before .before .before .before .before
+    .before .before in
     omega (arith, st .pre .0 .9)
 
 -- src/collect.rt:207:31
@@ -281,8 +270,8 @@ enum-known-k-5 c = search needs
 -- src/collect.rt:208:13
 enter-requires-6 : tie.Need-enter-requires-6
 enter-requires-6 c κs =
-    let st = c .before .before .before .before .before .before .before .before .before .before .before .before
-    .before .before .before .before .before .before .before .before in
+    let st = c .before .before .before .before .before .before .before .before .before .before .before .before .before
+    .before .before .before .before in
     let classify = c .before .before .before .before .before .classify in
     let arm = c .before .before .before .k5 in
     let k = read-as _ _ _ _ _ (classify .ensures _) (arm .given .1) in
@@ -292,9 +281,8 @@ enter-requires-6 c κs =
 -- src/collect.rt:209:13
 require-non-null-requires-3 : tie.Need-require-non-null-requires-3
 require-non-null-requires-3 c κs =
-    let st = c .before .before .before .before .before .before .before .before .before .before .before .before
-    .before .before .before .before .before .before .before .before .before .before .before .before .before
-    .before in
+    let st = c .before .before .before .before .before .before .before .before .before .before .before .before .before
+    .before .before .before .before .before .before .before .before .before .before in
     let classify = c .before .before .before .before .before .before .before .before .before .before .before
     .classify in
     let arm = c .before .before .before .before .before .before .before .before .before .k5 in
@@ -305,9 +293,9 @@ require-non-null-requires-3 c κs =
 -- src/collect.rt:210:13
 enter-requires-7 : tie.Need-enter-requires-7
 enter-requires-7 c κs =
-    let st = c .before .before .before .before .before .before .before .before .before .before .before .before
-    .before .before .before .before .before .before .before .before .before .before .before .before .before
-    .before .before .before .before .before .before in
+    let st = c .before .before .before .before .before .before .before .before .before .before .before .before .before
+    .before .before .before .before .before .before .before .before .before .before .before .before .before .before
+    .before in
     let classify = c .before .before .before .before .before .before .before .before .before .before .before
     .before .before .before .before .before .classify in
     let arm = c .before .before .before .before .before .before .before .before .before .before .before .before
@@ -326,9 +314,9 @@ enter-requires-7 c κs =
 -- src/collect.rt:211:13
 require-non-null-requires-4 : tie.Need-require-non-null-requires-4
 require-non-null-requires-4 c κs =
-    let st = c .before .before .before .before .before .before .before .before .before .before .before .before
-    .before .before .before .before .before .before .before .before .before .before .before .before .before
-    .before .before .before .before .before .before .before .before .before .before .before .before in
+    let st = c .before .before .before .before .before .before .before .before .before .before .before .before .before
+    .before .before .before .before .before .before .before .before .before .before .before .before .before .before
+    .before .before .before .before .before .before .before in
     let classify = c .before .before .before .before .before .before .before .before .before .before .before
     .before .before .before .before .before .before .before .before .before .before .before .classify in
     let arm = c .before .before .before .before .before .before .before .before .before .before .before .before
@@ -342,28 +330,25 @@ require-non-null-requires-4 c κs =
 -- src/collect.rt:212:13
 mul-kept-2 : tie.Need-mul-kept-2
 mul-kept-2 c =
-    let st = c .before .before .before .before .before .before .before .before .before .before .before .before
-    .before .before .before .before .before .before .before .before .before .before .before .before .before
-    .before .before .before .before .before .before .before .before .before .before .before .before .before
-    .before .before in
+    let st = c .before .before .before .before .before .before .before .before .before .before .before .before .before
+    .before .before .before .before .before .before .before .before .before .before .before .before .before .before
+    .before .before .before .before .before .before .before .before .before .before in
     omega (arith, st .pre .0 .9)
 
 -- src/collect.rt:212:13
 slice-write-kept-2 : tie.Need-slice-write-kept-2
 slice-write-kept-2 c =
-    let st = c .before .before .before .before .before .before .before .before .before .before .before .before
-    .before .before .before .before .before .before .before .before .before .before .before .before .before
-    .before .before .before .before .before .before .before .before .before .before .before .before .before
-    .before .before in
+    let st = c .before .before .before .before .before .before .before .before .before .before .before .before .before
+    .before .before .before .before .before .before .before .before .before .before .before .before .before .before
+    .before .before .before .before .before .before .before .before .before .before in
     omega (arith, st .pre .0 .5)
 
 -- src/collect.rt:213:26
 add-held-5 : tie.Need-add-held-5
 add-held-5 c =
-    let st = c .before .before .before .before .before .before .before .before .before .before .before .before
-    .before .before .before .before .before .before .before .before .before .before .before .before .before
-    .before .before .before .before .before .before .before .before .before .before .before .before .before
-    .before .before in
+    let st = c .before .before .before .before .before .before .before .before .before .before .before .before .before
+    .before .before .before .before .before .before .before .before .before .before .before .before .before .before
+    .before .before .before .before .before .before .before .before .before .before in
     omega (arith, st .pre .0 .9)
 
 -- src/collect.rt:217:13
@@ -401,9 +386,9 @@ same-length-4 c = search needs
 -- src/collect.rt:132:1
 returns : tie.Need-returns
 returns c =
-    let st = c .before .before .before .before .before .before .before .before .before .before .before .before
-    .before .before .before .before .before .before .before .before .before .before .before .before .before
-    .before .before .before .before .before .before .before .before in
+    let st = c .before .before .before .before .before .before .before .before .before .before .before .before .before
+    .before .before .before .before .before .before .before .before .before .before .before .before .before .before
+    .before .before .before in
     let classify = c .before .before .before .before .before .before .before .before .before .before .before
     .before .before .before .before .before .before .before .classify in
     let arm = c .before .before .before .before .before .before .before .before .before .before .before .before
@@ -444,9 +429,9 @@ same-length-8 c = search needs
 -- src/collect.rt:132:1
 returns-2 : tie.Need-returns-2
 returns-2 c =
-    let st = c .before .before .before .before .before .before .before .before .before .before .before .before
-    .before .before .before .before .before .before .before .before .before .before .before .before .before
-    .before .before .before .before .before .before .before .before in
+    let st = c .before .before .before .before .before .before .before .before .before .before .before .before .before
+    .before .before .before .before .before .before .before .before .before .before .before .before .before .before
+    .before .before .before in
     let classify = c .before .before .before .before .before .before .before .before .before .before .before
     .before .before .before .before .before .before .before .classify in
     let arm = c .before .before .before .before .before .before .before .before .before .before .before .before
@@ -496,10 +481,9 @@ same-length-14 c = search needs
 -- src/collect.rt:132:1
 returns-3 : tie.Need-returns-3
 returns-3 c =
-    let st = c .before .before .before .before .before .before .before .before .before .before .before .before
-    .before .before .before .before .before .before .before .before .before .before .before .before .before
-    .before .before .before .before .before .before .before .before .before .before .before .before .before
-    .before .before in
+    let st = c .before .before .before .before .before .before .before .before .before .before .before .before .before
+    .before .before .before .before .before .before .before .before .before .before .before .before .before .before
+    .before .before .before .before .before .before .before .before .before .before in
     let classify = c .before .before .before .before .before .before .before .before .before .before .before
     .before .before .before .before .before .before .before .before .before .before .before .before .before
     .before .classify in
@@ -552,9 +536,9 @@ same-length-19 c = search needs
 -- src/collect.rt:132:1
 returns-4 : tie.Need-returns-4
 returns-4 c =
-    let st = c .before .before .before .before .before .before .before .before .before .before .before .before
-    .before .before .before .before .before .before .before .before .before .before .before .before .before
-    .before .before .before .before .before .before .before in
+    let st = c .before .before .before .before .before .before .before .before .before .before .before .before .before
+    .before .before .before .before .before .before .before .before .before .before .before .before .before .before
+    .before .before in
     let classify = c .before .before .before .before .before .before .before .before .before .before .before
     .before .before .before .before .before .before .classify in
     let arm = c .before .before .before .before .before .before .before .before .before .before .before .before
@@ -595,10 +579,9 @@ same-length-23 c = search needs
 -- src/collect.rt:132:1
 returns-5 : tie.Need-returns-5
 returns-5 c =
-    let st = c .before .before .before .before .before .before .before .before .before .before .before .before
-    .before .before .before .before .before .before .before .before .before .before .before .before .before
-    .before .before .before .before .before .before .before .before .before .before .before .before .before
-    .before .before in
+    let st = c .before .before .before .before .before .before .before .before .before .before .before .before .before
+    .before .before .before .before .before .before .before .before .before .before .before .before .before .before
+    .before .before .before .before .before .before .before .before .before .before in
     let classify = c .before .before .before .before .before .before .before .before .before .before .before
     .before .before .before .before .before .before .before .before .before .before .before .before .before
     .before .classify in
@@ -633,8 +616,7 @@ same-length-24 c = search needs
 -- src/collect.rt:132:1
 returns-6 : tie.Need-returns-6
 returns-6 c =
-    let st = c .before .before .before .before .before .before .before .before .before .before .before .before
-    .before .before .before .before .before in
+    let st = c .before .before .before .before .before .before .before .before .before .before .before .before .before .before in
     let classify = c .before .before .classify in
     let arm = c .enum-told in
     let k = read-as _ _ _ _ _ (classify .ensures _) (arm .given .1) in (

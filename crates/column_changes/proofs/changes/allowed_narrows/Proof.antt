@@ -9,12 +9,13 @@ use Rattle.column_sets.proofs.Lists.{narrows-first, skip-allowed, none-allowed}
 use borrow.Author.Needs.{needs}
 use Rattle.column_changes.proofs.changes.allowed_narrows.Statement.{statement}
 use Rattle.column_changes.proofs.changes.allowed_narrows.Tie as tie
+use Rattle.column_constraints.specs.Abstraction.{kindsIn, startsIn, countsIn}
 
 abbrev Inv-loop : tie.InvT-loop
-Inv-loop index kinds starts counts pool marks n j i₀ i = (i ≤ n) × (allowedBy kinds starts counts pool marks i ≡ none)
+Inv-loop index told pool marks n j i₀ i = (i ≤ n) × (allowedBy (kindsIn told) (startsIn told) (countsIn told) pool marks i ≡ none)
 
 abbrev μ-loop : tie.MeasureT-loop
-μ-loop index kinds starts counts pool marks n j i₀ i = n - i
+μ-loop index told pool marks n j i₀ i = n - i
 
 loop-holds : tie.Need-loop-holds Inv-loop μ-loop
 loop-holds c =
@@ -23,15 +24,15 @@ loop-holds c =
 byte-requires : tie.Need-byte-requires Inv-loop μ-loop
 byte-requires c κs = search needs
 
-cast-byte : tie.Need-cast-byte Inv-loop μ-loop
-cast-byte c = search needs
+cast-kind-at : tie.Need-cast-kind-at Inv-loop μ-loop
+cast-kind-at c = search needs
 
-byte-requires-2 : tie.Need-byte-requires-2 Inv-loop μ-loop
-byte-requires-2 c κs = search needs
+kind-at-requires : tie.Need-kind-at-requires Inv-loop μ-loop
+kind-at-requires c κs = search needs
 
 kind-set-requires : tie.Need-kind-set-requires Inv-loop μ-loop
 kind-set-requires c κs =
-    let st = c .before .before .before .before .before .before .before .before .before .before .before in
+    let st = c .before .before .before .before .before .before .before .before .before in
     st .pre .1
 
 slice-aggregate-any-outside : tie.Need-slice-aggregate-any-outside Inv-loop μ-loop
@@ -41,24 +42,22 @@ slice-aggregate-any-outside c =
 
 any-outside-requires : tie.Need-any-outside-requires Inv-loop μ-loop
 any-outside-requires c κs =
-    let st = c .before .before .before .before .before .before .before .before .before .before .before .before
-    .before in
+    let st = c .before .before .before .before .before .before .before .before .before .before .before in
     let kind-set = c .before .kind-set in
     (st .pre .0, (st .pre .1, kind-set .ensures))
 
 returns : tie.Need-returns Inv-loop μ-loop
 returns c =
-    let st = c .before .before .before .before .before .before .before .before .before .before .before .before
-    .before .before in
+    let st = c .before .before .before .before .before .before .before .before .before .before .before .before in
     let loop = c .before .before .before .before .before .before .before .loop in
     let loop-test = c .before .before .before .before .before .before .loop-test in
     let byte = c .before .before .before .before .before .byte in
-    let byte2 = c .before .before .before .before .byte2 in
+    let kind-at = c .before .before .before .before .kind-at in
     let if1 = c .before .before .before .if1 in
     let any-outside = c .any-outside in
-    any-outside .ensures ∙ narrows-first (st .args .kinds .now) (st .args .starts .now) (st .args .counts .now)
+    any-outside .ensures ∙ narrows-first (kindsIn (st .args .told .now)) (startsIn (st .args .told .now)) (countsIn (st .args .told .now))
     (st .args .pool .now) (st .args .marks .now) (st .args .n) _ (st .args .j) (marked-at (st .args .marks .now)
-    (loop .i) (st .args .n) _ (loop-test .taken) (sym (byte .ensures))) (sym (byte2 .ensures) ∙ if1 .taken)
+    (loop .i) (st .args .n) _ (loop-test .taken) (sym (byte .ensures))) (sym (kind-at .ensures) ∙ if1 .taken)
 
 add-i : tie.Need-add-i Inv-loop μ-loop
 add-i c = search needs
@@ -68,20 +67,20 @@ loop-less c = search needs
 
 loop-again : tie.Need-loop-again Inv-loop μ-loop
 loop-again c =
-    let st = c .before .before .before .before .before .before .before .before .before .before .before in
+    let st = c .before .before .before .before .before .before .before .before .before in
     let loop = c .before .before .before .before .loop in
     let byte = c .before .before .byte in
-    let byte2 = c .before .byte2 in
+    let kind-at = c .before .kind-at in
     let if1 = c .if1 in (
       search needs,
-      skip-allowed (st .args .kinds .now) (st .args .starts .now) (st .args .counts .now) (st .args
-          .pool .now) (st .args .marks .now) (loop .i) (loop .inv .1) (λ e. if1 .left (byte2 .ensures ∙ ap (λ (m : ℕ).
-          getD (st .args .kinds .now) m 0) (byte .ensures) ∙ e)),
+      skip-allowed (kindsIn (st .args .told .now)) (startsIn (st .args .told .now)) (countsIn (st .args .told .now)) (st .args
+          .pool .now) (st .args .marks .now) (loop .i) (loop .inv .1) (λ e. if1 .left (kind-at .ensures ∙ ap (λ (m : ℕ).
+          getD (kindsIn (st .args .told .now)) m 0) (byte .ensures) ∙ e)),
     )
 
 returns-2 : tie.Need-returns-2 Inv-loop μ-loop
 returns-2 c =
-    let st = c .before .before .before .before .before .before .before .before in
+    let st = c .before .before .before .before .before .before in
     let loop = c .before .loop in
     let loop-test = c .loop-test in
     let e : loop .i ≡ st .args .n = omega (arith, loop .inv .0, loop-test .left) in
@@ -96,8 +95,8 @@ allowed-narrows-spec =
     μ-loop
     loop-holds
     byte-requires
-    cast-byte
-    byte-requires-2
+    cast-kind-at
+    kind-at-requires
     kind-set-requires
     slice-aggregate-any-outside
     any-outside-requires

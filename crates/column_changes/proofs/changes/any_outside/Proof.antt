@@ -9,21 +9,22 @@ use Rattle.column_sets.proofs.Lists.{an-none, an-more, an-found, an-done, list-
 use borrow.Author.Needs.{needs}
 use Rattle.column_changes.proofs.changes.any_outside.Statement.{statement}
 use Rattle.column_changes.proofs.changes.any_outside.Tie as tie
+use Rattle.column_constraints.specs.Abstraction.{kindsIn, startsIn, countsIn}
 
 abbrev Inv-loop : tie.InvT-loop
-Inv-loop index kinds starts counts pool marks n allowed f j s m i₀ i = (i ≤ m) × (anyOf (λ (v : ℕ). outside (allowedBy kinds starts counts pool marks n) (valuesOf starts counts pool j) v) (valuesFrom pool s i) ≡ false)
+Inv-loop index told pool marks n allowed f j s m i₀ i = (i ≤ m) × (anyOf (λ (v : ℕ). outside (allowedBy (kindsIn told) (startsIn told) (countsIn told) pool marks n) (valuesOf (startsIn told) (countsIn told) pool j) v) (valuesFrom pool s i) ≡ false)
 
 abbrev μ-loop : tie.MeasureT-loop
-μ-loop index kinds starts counts pool marks n allowed f j s m i₀ i = m - i
+μ-loop index told pool marks n allowed f j s m i₀ i = m - i
 
-number-at-requires : tie.Need-number-at-requires Inv-loop μ-loop
-number-at-requires c κs = search needs
+start-at-requires : tie.Need-start-at-requires Inv-loop μ-loop
+start-at-requires c κs = search needs
 
 cast-s : tie.Need-cast-s Inv-loop μ-loop
 cast-s c = search needs
 
-number-at-requires-2 : tie.Need-number-at-requires-2 Inv-loop μ-loop
-number-at-requires-2 c κs = search needs
+count-at-requires : tie.Need-count-at-requires Inv-loop μ-loop
+count-at-requires c κs = search needs
 
 cast-m : tie.Need-cast-m Inv-loop μ-loop
 cast-m c = search needs
@@ -37,26 +38,28 @@ add-is-outside c = search needs
 
 is-outside-requires : tie.Need-is-outside-requires Inv-loop μ-loop
 is-outside-requires c κs =
-    let st = c .before .before .before .before .before .before .before .before .before .before .before in
+    let st = c .before .before .before .before .before .before .before .before .before in
     ((st .pre .0, search needs), st .pre .1)
 
 returns : tie.Need-returns Inv-loop μ-loop
 returns c =
-    let st = c .before .before .before .before .before .before .before .before .before .before .before .before
-    .before in
-    let number-at = c .before .before .before .before .before .number-at in
-    let number-at2 = c .before .before .before .before .number-at2 in
+    let st = c .before .before .before .before .before .before .before .before .before .before .before in
+    let start-at = c .before .before .before .before .before .start-at in
+    let count-at = c .before .before .before .before .count-at in
     let loop-test = c .before .before .loop-test in
     let is-outside = c .before .is-outside in
     let if1 = c .if1 in
-    an-found (λ (v : ℕ). outside (allowedBy (st .args .kinds .now) (st .args .starts .now) (st .args .counts
-    .now) (st .args .pool .now) (st .args .marks .now) (st .args .n)) (valuesOf (st .args .starts .now) (st .args
-    .counts .now) (st .args .pool .now) (st .args .j)) v) _ _ _ _ (loop-test .taken) (rw (← is-outside .ensures)
-    (if1 .taken)) ∙ ap (λ (l : List ℕ). anyOf (λ (v : ℕ). outside (allowedBy (st .args .kinds .now) (st .args
-    .starts .now) (st .args .counts .now) (st .args .pool .now) (st .args .marks .now) (st .args .n)) (valuesOf
-    (st .args .starts .now) (st .args .counts .now) (st .args .pool .now) (st .args .j)) v) l) (list-as (st
-    .args .starts .now) (st .args .counts .now) (st .args .pool .now) (st .args .f) _ _ (number-at .ensures)
-    (number-at2 .ensures))
+    an-found (λ (v : ℕ). outside (allowedBy (kindsIn (st .args .told .now)) (startsIn (st .args .told .now)) (countsIn
+    (st .args .told .now)) (st .args .pool .now) (st .args .marks .now) (st .args .n)) (valuesOf (startsIn (st .args
+    .told .now)) (countsIn (st .args .told .now)) (st .args .pool .now) (st .args .j)) v) _ _ _ _ (loop-test .taken)
+    (rw (← is-outside .ensures)
+    (if1 .taken)) ∙ ap (λ (l : List ℕ). anyOf (λ (v : ℕ). outside (allowedBy (kindsIn (st .args .told .now)) (startsIn
+    (st .args .told .now)) (countsIn (st .args .told .now)) (st .args .pool .now) (st .args .marks .now) (st .args
+    .n)) (valuesOf
+    (startsIn (st .args .told .now)) (countsIn (st .args .told .now)) (st .args .pool .now) (st .args .j)) v) l)
+    (list-as (startsIn (st .args .told .now)) (countsIn (st .args .told .now)) (st .args .pool .now) (st .args .f) _
+    _ (start-at .ensures)
+    (count-at .ensures))
 
 add-i : tie.Need-add-i Inv-loop μ-loop
 add-i c = search needs
@@ -66,32 +69,34 @@ loop-less c = search needs
 
 loop-again : tie.Need-loop-again Inv-loop μ-loop
 loop-again c =
-    let st = c .before .before .before .before .before .before .before .before .before .before .before .before
-    .before in
+    let st = c .before .before .before .before .before .before .before .before .before .before .before in
     let loop = c .before .before .before .loop in
     let is-outside = c .before .is-outside in
     let if1 = c .if1 in (
       search needs,
-      an-more (λ (v : ℕ). outside (allowedBy (st .args .kinds .now) (st .args .starts .now) (st
-          .args .counts .now) (st .args .pool .now) (st .args .marks .now) (st .args .n)) (valuesOf (st .args .starts
-          .now) (st .args .counts .now) (st .args .pool .now) (st .args .j)) v) _ _ _ (loop .inv .1) (rw (← is-outside
+      an-more (λ (v : ℕ). outside (allowedBy (kindsIn (st .args .told .now)) (startsIn (st .args .told .now)) (countsIn
+          (st .args .told .now)) (st .args .pool .now) (st .args .marks .now) (st .args .n)) (valuesOf (startsIn (st
+          .args .told .now)) (countsIn (st .args .told .now)) (st .args .pool .now) (st .args .j)) v) _ _ _ (loop .inv
+          .1) (rw (← is-outside
           .ensures) (if1 .left)),
     )
 
 returns-2 : tie.Need-returns-2 Inv-loop μ-loop
 returns-2 c =
-    let st = c .before .before .before .before .before .before .before .before .before .before .before in
-    let number-at = c .before .before .before .number-at in
-    let number-at2 = c .before .before .number-at2 in
+    let st = c .before .before .before .before .before .before .before .before .before in
+    let start-at = c .before .before .before .start-at in
+    let count-at = c .before .before .count-at in
     let loop = c .before .loop in
     let loop-test = c .loop-test in
-    an-done (λ (v : ℕ). outside (allowedBy (st .args .kinds .now) (st .args .starts .now) (st .args .counts
-    .now) (st .args .pool .now) (st .args .marks .now) (st .args .n)) (valuesOf (st .args .starts .now) (st .args
-    .counts .now) (st .args .pool .now) (st .args .j)) v) _ _ _ _ (loop .inv .0) (loop-test .left) (loop .inv
-    .1) ∙ ap (λ (l : List ℕ). anyOf (λ (v : ℕ). outside (allowedBy (st .args .kinds .now) (st .args .starts
-    .now) (st .args .counts .now) (st .args .pool .now) (st .args .marks .now) (st .args .n)) (valuesOf (st .args
-    .starts .now) (st .args .counts .now) (st .args .pool .now) (st .args .j)) v) l) (list-as (st .args .starts
-    .now) (st .args .counts .now) (st .args .pool .now) (st .args .f) _ _ (number-at .ensures) (number-at2
+    an-done (λ (v : ℕ). outside (allowedBy (kindsIn (st .args .told .now)) (startsIn (st .args .told .now)) (countsIn
+    (st .args .told .now)) (st .args .pool .now) (st .args .marks .now) (st .args .n)) (valuesOf (startsIn (st .args
+    .told .now)) (countsIn (st .args .told .now)) (st .args .pool .now) (st .args .j)) v) _ _ _ _ (loop .inv .0)
+    (loop-test .left) (loop .inv
+    .1) ∙ ap (λ (l : List ℕ). anyOf (λ (v : ℕ). outside (allowedBy (kindsIn (st .args .told .now)) (startsIn (st .args
+    .told .now)) (countsIn (st .args .told .now)) (st .args .pool .now) (st .args .marks .now) (st .args .n))
+    (valuesOf (startsIn (st .args .told .now)) (countsIn (st .args .told .now)) (st .args .pool .now) (st .args .j))
+    v) l) (list-as (startsIn (st .args .told .now)) (countsIn (st .args .told .now)) (st .args .pool .now) (st .args
+    .f) _ _ (start-at .ensures) (count-at
     .ensures))
 
 pub any-outside-spec : {M : Type 1} → statement M
@@ -100,9 +105,9 @@ any-outside-spec =
     (tie.spec
     Inv-loop
     μ-loop
-    number-at-requires
+    start-at-requires
     cast-s
-    number-at-requires-2
+    count-at-requires
     cast-m
     loop-holds
     add-is-outside

@@ -18,7 +18,7 @@ has-mark-requires c κs = search needs
 
 returns-2 : tie.Need-returns-2
 returns-2 c =
-    let st = c .before .before .before .before .before .before .before .before .before in
+    let st = c .before .before .before .before .before .before .before in
     let if1 = c .before .before .if1 in
     let has-mark = c .before .has-mark in
     let if2 = c .if2 in
@@ -27,7 +27,7 @@ returns-2 c =
 
 disallowed-widens-requires : tie.Need-disallowed-widens-requires
 disallowed-widens-requires c κs =
-    let st = c .before .before .before .before .before .before .before .before .before in
+    let st = c .before .before .before .before .before .before .before in
     st .pre .1
 
 returns-3 : tie.Need-returns-3

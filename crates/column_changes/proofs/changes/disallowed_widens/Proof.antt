@@ -12,26 +12,27 @@ use Rattle.column_sets.proofs.Lists.{an-none, an-more, an-found, an-done, widen
 use borrow.Author.Needs.{needs}
 use Rattle.column_changes.proofs.changes.disallowed_widens.Statement.{statement}
 use Rattle.column_changes.proofs.changes.disallowed_widens.Tie as tie
+use Rattle.column_constraints.specs.Abstraction.{kindsIn, startsIn, countsIn}
 
 abbrev Inv-loop : tie.InvT-loop
-Inv-loop index kinds starts counts pool marks n j disallowed s m i₀ i = (i ≤ m) × (anyOf (λ (v : ℕ). not (contains lined (payload .key v) (disallowedBy kinds starts counts pool marks n))) (valuesFrom pool s i) ≡ false)
+Inv-loop index told pool marks n j disallowed s m i₀ i = (i ≤ m) × (anyOf (λ (v : ℕ). not (contains lined (payload .key v) (disallowedBy (kindsIn told) (startsIn told) (countsIn told) pool marks n))) (valuesFrom pool s i) ≡ false)
 
 abbrev μ-loop : tie.MeasureT-loop
-μ-loop index kinds starts counts pool marks n j disallowed s m i₀ i = m - i
+μ-loop index told pool marks n j disallowed s m i₀ i = m - i
 
 kind-set-requires : tie.Need-kind-set-requires Inv-loop μ-loop
 kind-set-requires c κs =
-    let st = c .before .before .before .before .before .before in
+    let st = c .before .before .before .before in
     st .pre .1
 
-number-at-requires : tie.Need-number-at-requires Inv-loop μ-loop
-number-at-requires c κs = search needs
+start-at-requires : tie.Need-start-at-requires Inv-loop μ-loop
+start-at-requires c κs = search needs
 
 cast-s : tie.Need-cast-s Inv-loop μ-loop
 cast-s c = search needs
 
-number-at-requires-2 : tie.Need-number-at-requires-2 Inv-loop μ-loop
-number-at-requires-2 c κs = search needs
+count-at-requires : tie.Need-count-at-requires Inv-loop μ-loop
+count-at-requires c κs = search needs
 
 cast-m : tie.Need-cast-m Inv-loop μ-loop
 cast-m c = search needs
@@ -50,28 +51,29 @@ add-disallows-at c = search needs
 
 disallows-at-requires : tie.Need-disallows-at-requires Inv-loop μ-loop
 disallows-at-requires c κs =
-    let st = c .before .before .before .before .before .before .before .before .before .before .before .before
+    let st = c .before .before .before .before .before .before .before .before .before .before
     in
     let kind-set = c .before .before .before .before .before .kind-set in
     ((st .pre .0, search needs), (st .pre .1, kind-set .ensures))
 
 returns : tie.Need-returns Inv-loop μ-loop
 returns c =
-    let st = c .before .before .before .before .before .before .before .before .before .before .before .before
-    .before .before in
-    let number-at = c .before .before .before .before .before .before .number-at in
-    let number-at2 = c .before .before .before .before .before .number-at2 in
+    let st = c .before .before .before .before .before .before .before .before .before .before .before .before in
+    let start-at = c .before .before .before .before .before .before .start-at in
+    let count-at = c .before .before .before .before .before .count-at in
     let loop-test = c .before .before .before .loop-test in
     let disallows-at = c .before .disallows-at in
     let if1 = c .if1 in
-    an-found (λ (v : ℕ). not (contains lined (payload .key v) (disallowedBy (st .args .kinds .now) (st .args
-    .starts .now) (st .args .counts .now) (st .args .pool .now) (st .args .marks .now) (st .args .n)))) _ _ _ _
+    an-found (λ (v : ℕ). not (contains lined (payload .key v) (disallowedBy (kindsIn (st .args .told .now)) (startsIn
+    (st .args .told .now)) (countsIn (st .args .told .now)) (st .args .pool .now) (st .args .marks .now) (st .args
+    .n)))) _ _ _ _
     (loop-test .taken) (rw (← disallows-at .ensures) (if1 .taken)) ∙ ap (λ (l : List ℕ). anyOf (λ (v : ℕ). not
-    (contains lined (payload .key v) (disallowedBy (st .args .kinds .now) (st .args .starts .now) (st .args
-    .counts .now) (st .args .pool .now) (st .args .marks .now) (st .args .n)))) l) (list-as (st .args .starts
-    .now) (st .args .counts .now) (st .args .pool .now) (st .args .j) _ _ (number-at .ensures) (number-at2
-    .ensures)) ∙ sym (widens-any (st .args .starts .now) (st .args .counts .now) (st .args .pool .now)
-    (st .args .j) (disallowedBy (st .args .kinds .now) (st .args .starts .now) (st .args .counts .now) (st
+    (contains lined (payload .key v) (disallowedBy (kindsIn (st .args .told .now)) (startsIn (st .args .told .now))
+    (countsIn (st .args .told .now)) (st .args .pool .now) (st .args .marks .now) (st .args .n)))) l) (list-as
+    (startsIn (st .args .told .now)) (countsIn (st .args .told .now)) (st .args .pool .now) (st .args .j) _ _
+    (start-at .ensures) (count-at
+    .ensures)) ∙ sym (widens-any (startsIn (st .args .told .now)) (countsIn (st .args .told .now)) (st .args .pool .now)
+    (st .args .j) (disallowedBy (kindsIn (st .args .told .now)) (startsIn (st .args .told .now)) (countsIn (st .args .told .now)) (st
     .args .pool .now) (st .args .marks .now) (st .args .n)))
 
 add-i : tie.Need-add-i Inv-loop μ-loop
@@ -82,32 +84,33 @@ loop-less c = search needs
 
 loop-again : tie.Need-loop-again Inv-loop μ-loop
 loop-again c =
-    let st = c .before .before .before .before .before .before .before .before .before .before .before .before
-    .before .before in
+    let st = c .before .before .before .before .before .before .before .before .before .before .before .before in
     let loop = c .before .before .before .before .loop in
     let disallows-at = c .before .disallows-at in
     let if1 = c .if1 in (
       search needs,
-      an-more (λ (v : ℕ). not (contains lined (payload .key v) (disallowedBy (st .args .kinds
-          .now) (st .args .starts .now) (st .args .counts .now) (st .args .pool .now) (st .args .marks .now) (st .args
+      an-more (λ (v : ℕ). not (contains lined (payload .key v) (disallowedBy (kindsIn (st .args .told .now)) (startsIn
+          (st .args .told .now)) (countsIn (st .args .told .now)) (st .args .pool .now) (st .args .marks .now) (st .args
           .n)))) _ _ _ (loop .inv .1) (rw (← disallows-at .ensures) (if1 .left)),
     )
 
 returns-2 : tie.Need-returns-2 Inv-loop μ-loop
 returns-2 c =
-    let st = c .before .before .before .before .before .before .before .before .before .before .before in
-    let number-at = c .before .before .before .number-at in
-    let number-at2 = c .before .before .number-at2 in
+    let st = c .before .before .before .before .before .before .before .before .before in
+    let start-at = c .before .before .before .start-at in
+    let count-at = c .before .before .count-at in
     let loop = c .before .loop in
     let loop-test = c .loop-test in
-    an-done (λ (v : ℕ). not (contains lined (payload .key v) (disallowedBy (st .args .kinds .now) (st .args
-    .starts .now) (st .args .counts .now) (st .args .pool .now) (st .args .marks .now) (st .args .n)))) _ _ _ _
+    an-done (λ (v : ℕ). not (contains lined (payload .key v) (disallowedBy (kindsIn (st .args .told .now)) (startsIn (st
+    .args .told .now)) (countsIn (st .args .told .now)) (st .args .pool .now) (st .args .marks .now) (st .args
+    .n)))) _ _ _ _
     (loop .inv .0) (loop-test .left) (loop .inv .1) ∙ ap (λ (l : List ℕ). anyOf (λ (v : ℕ). not (contains
-    lined (payload .key v) (disallowedBy (st .args .kinds .now) (st .args .starts .now) (st .args .counts
-    .now) (st .args .pool .now) (st .args .marks .now) (st .args .n)))) l) (list-as (st .args .starts .now) (st
-    .args .counts .now) (st .args .pool .now) (st .args .j) _ _ (number-at .ensures) (number-at2 .ensures)) ∙
-    sym (widens-any (st .args .starts .now) (st .args .counts .now) (st .args .pool .now) (st .args .j)
-    (disallowedBy (st .args .kinds .now) (st .args .starts .now) (st .args .counts .now) (st .args .pool .now)
+    lined (payload .key v) (disallowedBy (kindsIn (st .args .told .now)) (startsIn (st .args .told .now)) (countsIn (st
+    .args .told .now)) (st .args .pool .now) (st .args .marks .now) (st .args .n)))) l) (list-as (startsIn (st .args
+    .told .now)) (countsIn (st .args .told .now)) (st .args .pool .now) (st .args .j) _ _ (start-at .ensures)
+    (count-at .ensures)) ∙
+    sym (widens-any (startsIn (st .args .told .now)) (countsIn (st .args .told .now)) (st .args .pool .now) (st .args .j)
+    (disallowedBy (kindsIn (st .args .told .now)) (startsIn (st .args .told .now)) (countsIn (st .args .told .now)) (st .args .pool .now)
     (st .args .marks .now) (st .args .n)))
 
 pub disallowed-widens-spec : {M : Type 1} → statement M
@@ -117,9 +120,9 @@ disallowed-widens-spec =
     Inv-loop
     μ-loop
     kind-set-requires
-    number-at-requires
+    start-at-requires
     cast-s
-    number-at-requires-2
+    count-at-requires
     cast-m
     loop-holds
     slice-aggregate-disallows-at

@@ -11,7 +11,7 @@ use Rattle.column_changes.proofs.Excluding.{none-excludes}
 -- src/changes.rt:251:9
 returns : tie.Need-returns
 returns c =
-    let st = c .before .before .before .before in
+    let st = c .before .before .before in
     let if1 = c .if1 in
     none-excludes _ _ _ _ _ (st .args .excluding) (st .pre) (if1 .taken)
 

@@ -105,8 +105,7 @@ returns-4 c =
 -- src/changes.rt:294:6
 disallows-at-requires : tie.Need-disallows-at-requires
 disallows-at-requires c κs =
-    let st = c .before .before .before .before .before .before .before .before .before .before .before .before
-    .before .before .before .before .before .before in
+    let st = c .before .before .before .before .before .before .before .before .before .before .before .before .before .before .before in
     (st .pre .0, (st .pre .1 .0 .0, st .pre .1 .0 .2))
 
 -- src/changes.rt:257:1

@@ -6,7 +6,7 @@ use Rattle.column_changes.proofs.changes.is_outside.Tie as tie
 
 listed-at-requires : tie.Need-listed-at-requires
 listed-at-requires c κs =
-    let st = c .before .before .before .before .before .before .before in
+    let st = c .before .before .before .before .before in
     st .pre .0
 
 returns : tie.Need-returns
@@ -17,7 +17,7 @@ returns c =
 
 allows-at-requires : tie.Need-allows-at-requires
 allows-at-requires c κs =
-    let st = c .before .before .before .before .before .before .before .before .before in
+    let st = c .before .before .before .before .before .before .before in
     (st .pre .0, st .pre .1)
 
 returns-2 : tie.Need-returns-2

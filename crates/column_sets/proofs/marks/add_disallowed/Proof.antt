@@ -4,7 +4,7 @@ use Rattle.column_sets.proofs.marks.add_disallowed.Tie as tie
 use Rattle.column_sets.proofs.marks.add_disallowed.Reads as reads
 use Rattle.column_sets.proofs.marks.add_disallowed.Lts as lts
 use Rattle.column_sets.proofs.marks.insert_list.Reads as insert-list-reads
-use Rattle.column_sets.proofs.marks.number_at.Reads as number-at-reads
+use Rattle.column_sets.proofs.told.count_at.Reads as count-at-reads
 use mathlib.Core.Path.{sym, _∙_, ap}
 use mathlib.Core.List.{List}
 use Prim.Native.Nat.{ℕ}
@@ -28,8 +28,8 @@ insert-list-requires : tie.Need-insert-list-requires
 insert-list-requires c κs = search needs
 
 -- src/marks.rt:287:42
-number-at-requires : tie.Need-number-at-requires
-number-at-requires c κs = search needs
+count-at-requires : tie.Need-count-at-requires
+count-at-requires c κs = search needs
 
 -- src/marks.rt:272:1
 same-length : tie.Need-same-length
@@ -41,13 +41,13 @@ returns-2 c =
     let st = c .before .before .before .before .before .before .before .before .before in
     let if1 = c .before .before .before .before .before .before .if1 in
     let insert-list = c .before .before .before .before .insert-list in
-    let number-at = c .before .number-at in (
+    let count-at = c .before .count-at in (
       (λ t f k. strict-add t (numbered (st .args .marks .now) (st .args .c)) (numbered _ (insert-list .result))
-          (st .args .j) (st .args .strict) (number-at .result) (insert-list .ensures .1 .0 t k) (if1 .left) (number-at
+          (st .args .j) (st .args .strict) (count-at .result) (insert-list .ensures .1 .0 t k) (if1 .left) (count-at
           .ensures ∙ sym (ap (λ (l : List ℕ). getD l (st .args .j) 0) f))),
       insert-list .ensures .1 .1,
     )
 
 pub add-disallowed-spec : {M : Type 1} → statement M
 add-disallowed-spec =
-    tie.close (tie.spec returns insert-list-requires number-at-requires same-length returns-2)
+    tie.close (tie.spec returns insert-list-requires count-at-requires same-length returns-2)

@@ -8,13 +8,14 @@ use mathlib.Core.Path.{_∙_}
 use Rattle.constraints.specs.Column as q
 use Rattle.column_constraints.specs.Abstraction.{columnOf, numbered, literalAt}
 use Rattle.column_sets.proofs.Insertions.{live-add, dead-add}
+use Rattle.column_constraints.specs.Abstraction.{valuesIn}
 
 -- src/marks.rt:238:9
 returns : tie.Need-returns
 returns c =
-    let st = c .before .before .before .before in
+    let st = c .before .before .before in
     let if1 = c .if1 in (
-      (λ t e f. dead-add (q.Exclude (literalAt (st .args .values .now) (st .args .j))) (columnOf t (numbered (st
+      (λ t e f. dead-add (q.Exclude (literalAt (valuesIn (st .args .told .now)) (st .args .j))) (columnOf t (numbered (st
           .args .marks .now) (st .args .c))) (if1 .taken)),
       st .pre .0,
     )
@@ -30,10 +31,10 @@ same-length c = search needs
 -- src/marks.rt:231:1
 returns-2 : tie.Need-returns-2
 returns-2 c =
-    let st = c .before .before .before .before .before .before .before .before in
+    let st = c .before .before .before .before .before .before .before in
     let if1 = c .before .before .before .before .if1 in
     let insert-excluded = c .before .before .insert-excluded in (
-      (λ t e f. insert-excluded .ensures .0 t e f ∙ live-add (q.Exclude (literalAt (st .args .values .now) (st .args
+      (λ t e f. insert-excluded .ensures .0 t e f ∙ live-add (q.Exclude (literalAt (valuesIn (st .args .told .now)) (st .args
           .j))) (columnOf t (numbered (st .args .marks .now) (st .args .c))) (if1 .left)),
       insert-excluded .ensures
           .1,

@@ -9,13 +9,14 @@ use Rattle.column_sets.proofs.Insertions.{all-none, all-more, all-fails
 use borrow.Author.Needs.{needs}
 use Rattle.column_sets.proofs.marks.allows.Statement.{statement}
 use Rattle.column_sets.proofs.marks.allows.Tie as tie
+use Rattle.column_constraints.specs.Abstraction.{kindsIn, startsIn, countsIn}
 
 abbrev Inv-loop : tie.InvT-loop
-Inv-loop kinds starts counts pool marks n v i₀ i =
-    (i ≤ n) × (isAllowed lined (allowedBy kinds starts counts pool marks i) (payload .key (v .0)) ≡ true)
+Inv-loop told pool marks n v i₀ i =
+    (i ≤ n) × (isAllowed lined (allowedBy (kindsIn told) (startsIn told) (countsIn told) pool marks i) (payload .key (v .0)) ≡ true)
 
 abbrev μ-loop : tie.MeasureT-loop
-μ-loop kinds starts counts pool marks n v i₀ i = n - i
+μ-loop told pool marks n v i₀ i = n - i
 
 -- src/marks.rt:160:5
 loop-holds : tie.Need-loop-holds Inv-loop μ-loop

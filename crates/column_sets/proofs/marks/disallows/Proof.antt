@@ -9,13 +9,14 @@ use Rattle.column_sets.proofs.Insertions.{any-none, any-more, any-found
 use borrow.Author.Needs.{needs}
 use Rattle.column_sets.proofs.marks.disallows.Statement.{statement}
 use Rattle.column_sets.proofs.marks.disallows.Tie as tie
+use Rattle.column_constraints.specs.Abstraction.{kindsIn, startsIn, countsIn}
 
 abbrev Inv-loop : tie.InvT-loop
-Inv-loop kinds starts counts pool marks n v i₀ i =
-    (i ≤ n) × (contains lined (payload .key (v .0)) (disallowedBy kinds starts counts pool marks i) ≡ false)
+Inv-loop told pool marks n v i₀ i =
+    (i ≤ n) × (contains lined (payload .key (v .0)) (disallowedBy (kindsIn told) (startsIn told) (countsIn told) pool marks i) ≡ false)
 
 abbrev μ-loop : tie.MeasureT-loop
-μ-loop kinds starts counts pool marks n v i₀ i = n - i
+μ-loop told pool marks n v i₀ i = n - i
 
 -- src/marks.rt:128:5
 loop-holds : tie.Need-loop-holds Inv-loop μ-loop

@@ -9,13 +9,14 @@ use Rattle.column_sets.proofs.Numbers.{excl-none, ex-more, ex-found, ex
 use borrow.Author.Needs.{needs}
 use Rattle.column_sets.proofs.marks.excludes.Statement.{statement}
 use Rattle.column_sets.proofs.marks.excludes.Tie as tie
+use Rattle.column_constraints.specs.Abstraction.{kindsIn, valuesIn}
 
 abbrev Inv-loop : tie.InvT-loop
-Inv-loop kinds values marks n v i₀ i =
-    (i ≤ n) × (contains lined (payload .key (v .0)) (excludedBy kinds values marks i) ≡ false)
+Inv-loop told marks n v i₀ i =
+    (i ≤ n) × (contains lined (payload .key (v .0)) (excludedBy (kindsIn told) (valuesIn told) marks i) ≡ false)
 
 abbrev μ-loop : tie.MeasureT-loop
-μ-loop kinds values marks n v i₀ i = n - i
+μ-loop told marks n v i₀ i = n - i
 
 -- src/marks.rt:61:5
 loop-holds : tie.Need-loop-holds Inv-loop μ-loop

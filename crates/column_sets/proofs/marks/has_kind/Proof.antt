@@ -7,12 +7,13 @@ use Rattle.column_sets.proofs.Lists.{kind-none, kind-more, kind-found, 
 use borrow.Author.Needs.{needs}
 use Rattle.column_sets.proofs.marks.has_kind.Statement.{statement}
 use Rattle.column_sets.proofs.marks.has_kind.Tie as tie
+use Rattle.column_constraints.specs.Abstraction.{kindsIn}
 
 abbrev Inv-loop : tie.InvT-loop
-Inv-loop kinds marks n k i₀ i = (i ≤ n) × (anyOfKind kinds k marks i ≡ false)
+Inv-loop told marks n k i₀ i = (i ≤ n) × (anyOfKind (kindsIn told) k marks i ≡ false)
 
 abbrev μ-loop : tie.MeasureT-loop
-μ-loop kinds marks n k i₀ i = n - i
+μ-loop told marks n k i₀ i = n - i
 
 -- src/marks.rt:66:5
 loop-holds : tie.Need-loop-holds Inv-loop μ-loop
@@ -23,17 +24,17 @@ byte-requires : tie.Need-byte-requires Inv-loop μ-loop
 byte-requires c κs = search needs
 
 -- src/marks.rt:68:24
-cast-byte : tie.Need-cast-byte Inv-loop μ-loop
-cast-byte c = search needs
+cast-kind-at : tie.Need-cast-kind-at Inv-loop μ-loop
+cast-kind-at c = search needs
 
 -- src/marks.rt:68:12
-byte-requires-2 : tie.Need-byte-requires-2 Inv-loop μ-loop
-byte-requires-2 c κs = search needs
+kind-at-requires : tie.Need-kind-at-requires Inv-loop μ-loop
+kind-at-requires c κs = search needs
 
 -- src/marks.rt:69:13
 returns : tie.Need-returns Inv-loop μ-loop
 returns c = kind-found _ _ _ _ _ (c .before .before .before .loop-test .taken)
-    (rw (← c .before .before .byte .ensures, ← c .before .byte2 .ensures) (eq-eqb _ _ (c .if1 .taken)))
+    (rw (← c .before .before .byte .ensures, ← c .before .kind-at .ensures) (eq-eqb _ _ (c .if1 .taken)))
 
 -- src/marks.rt:71:9
 add-i : tie.Need-add-i Inv-loop μ-loop
@@ -48,7 +49,7 @@ loop-again : tie.Need-loop-again Inv-loop μ-loop
 loop-again c = (
   search needs,
   kind-more _ _ _ _ (c .before .before .before .before .loop .inv .1)
-      (rw (← c .before .before .byte .ensures, ← c .before .byte2 .ensures) (ne-eqb _ _ (c .if1 .left))),
+      (rw (← c .before .before .byte .ensures, ← c .before .kind-at .ensures) (ne-eqb _ _ (c .if1 .left))),
 )
 
 -- src/marks.rt:62:1
@@ -63,8 +64,8 @@ has-kind-spec =
     μ-loop
     loop-holds
     byte-requires
-    cast-byte
-    byte-requires-2
+    cast-kind-at
+    kind-at-requires
     returns
     add-i
     loop-less

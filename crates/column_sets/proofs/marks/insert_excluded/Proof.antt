@@ -14,6 +14,7 @@ use Rattle.column_constraints.specs.Abstraction.{marked, numbered}
 use Rattle.column_constraints.proofs.Pigeon.{room}
 use Rattle.column_sets.proofs.Numbers.{fine-push}
 use Rattle.column_sets.proofs.Insertions.{exc-old, exc-new, not-marked}
+use Rattle.column_constraints.specs.Abstraction.{kindsIn, valuesIn}
 
 -- src/marks.rt:225:9
 literal-at-requires : tie.Need-literal-at-requires
@@ -30,7 +31,7 @@ same-length c = search needs
 -- src/marks.rt:227:9
 returns : tie.Need-returns
 returns c =
-    let st = c .before .before .before .before .before .before .before in
+    let st = c .before .before .before .before .before .before in
     let literal-at = c .before .before .before .literal-at in
     let excludes = c .before .excludes in
     let if1 = c .if1 in (
@@ -47,11 +48,11 @@ returns c =
 -- src/marks.rt:229:5
 push-requires : tie.Need-push-requires
 push-requires c κs =
-    let st = c .before .before .before .before .before .before .before .before in
+    let st = c .before .before .before .before .before .before .before in
     let literal-at = c .before .before .before .before .literal-at in
     let excludes = c .before .before .excludes in
     let if1 = c .before .if1 in
-    room _ _ _ _ (st .pre .0) (st .pre .1) (not-marked (st .args .kinds .now) (st .args .values .now) (st .args
+    room _ _ _ _ (st .pre .0) (st .pre .1) (not-marked (kindsIn (st .args .told .now)) (valuesIn (st .args .told .now)) (st .args
     .marks .now) (st .args .c .len) (st .args .j) (st .pre .2) (rw (← literal-at .ensures, ← excludes .ensures)
     (if1 .left)))
 
@@ -62,13 +63,13 @@ same-length-2 c = search needs
 -- src/marks.rt:214:1
 returns-2 : tie.Need-returns-2
 returns-2 c =
-    let st = c .before .before .before .before .before .before .before .before .before .before .before in
+    let st = c .before .before .before .before .before .before .before .before .before .before in
     let literal-at = c .before .before .before .before .before .before .before .literal-at in
     let excludes = c .before .before .before .before .before .excludes in
     let if1 = c .before .before .before .before .if1 in
     let push = c .before .before .push in
-    let m : marked (st .args .marks .now) (st .args .c .len) (st .args .j) ≡ false = not-marked (st .args .kinds
-    .now) (st .args .values .now) (st .args .marks .now) (st .args .c .len) (st .args .j) (st .pre .2) (rw
+    let m : marked (st .args .marks .now) (st .args .c .len) (st .args .j) ≡ false = not-marked (kindsIn (st .args .told
+    .now)) (valuesIn (st .args .told .now)) (st .args .marks .now) (st .args .c .len) (st .args .j) (st .pre .2) (rw
     (← literal-at .ensures, ← excludes .ensures) (if1 .left)) in
     let l : st .args .c .len < length (st .args .marks .now) = room _ _ _ _ (st .pre .0) (st .pre .1) m in rw
     (push .ensures .0, push .ensures .1) (

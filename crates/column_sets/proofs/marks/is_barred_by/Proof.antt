@@ -7,12 +7,12 @@ listed-requires : tie.Need-listed-requires
 listed-requires c κs = search needs
 
 -- src/marks.rt:143:6
-byte-requires : tie.Need-byte-requires
-byte-requires c κs = search needs
+kind-at-requires : tie.Need-kind-at-requires
+kind-at-requires c κs = search needs
 
 -- src/marks.rt:138:1
 returns : tie.Need-returns
-returns c = rw (c .byte .ensures, c .before .listed .ensures)
+returns c = rw (c .kind-at .ensures, c .before .listed .ensures)
 
 pub is-barred-by-spec : {M : Type 1} → statement M
-is-barred-by-spec = tie.close (tie.spec listed-requires byte-requires returns)
+is-barred-by-spec = tie.close (tie.spec listed-requires kind-at-requires returns)

@@ -7,8 +7,8 @@ literal-at-requires : tie.Need-literal-at-requires
 literal-at-requires c κs = search needs
 
 -- src/marks.rt:53:6
-byte-requires : tie.Need-byte-requires
-byte-requires c κs = search needs
+kind-at-requires : tie.Need-kind-at-requires
+kind-at-requires c κs = search needs
 
 -- src/marks.rt:53:38
 same-requires : tie.Need-same-requires
@@ -16,7 +16,7 @@ same-requires c κs = search needs
 
 -- src/marks.rt:49:1
 returns : tie.Need-returns
-returns c = rw (c .same .ensures, c .before .byte .ensures, c .before .before .literal-at .ensures)
+returns c = rw (c .same .ensures, c .before .kind-at .ensures, c .before .before .literal-at .ensures)
 
 pub is-excluded-by-spec : {M : Type 1} → statement M
-is-excluded-by-spec = tie.close (tie.spec literal-at-requires byte-requires same-requires returns)
+is-excluded-by-spec = tie.close (tie.spec literal-at-requires kind-at-requires same-requires returns)

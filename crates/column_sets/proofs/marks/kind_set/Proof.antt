@@ -6,12 +6,13 @@ use Rattle.column_sets.proofs.Asked.{set-none, kind-more, kind-skip}
 use borrow.Author.Needs.{needs}
 use Rattle.column_sets.proofs.marks.kind_set.Statement.{statement}
 use Rattle.column_sets.proofs.marks.kind_set.Tie as tie
+use Rattle.column_constraints.specs.Abstraction.{kindsIn}
 
 abbrev Inv-loop : tie.InvT-loop
-Inv-loop kinds marks n k set₀ i₀ set i = (i ≤ n) × KindSet kinds k marks i set
+Inv-loop told marks n k set₀ i₀ set i = (i ≤ n) × KindSet (kindsIn told) k marks i set
 
 abbrev μ-loop : tie.MeasureT-loop
-μ-loop kinds marks n k set₀ i₀ set i = n - i
+μ-loop told marks n k set₀ i₀ set i = n - i
 
 loop-holds : tie.Need-loop-holds Inv-loop μ-loop
 loop-holds c =
@@ -23,11 +24,11 @@ byte-requires c κs = search needs
 add-i : tie.Need-add-i Inv-loop μ-loop
 add-i c = search needs
 
-cast-byte : tie.Need-cast-byte Inv-loop μ-loop
-cast-byte c = search needs
+cast-kind-at : tie.Need-cast-kind-at Inv-loop μ-loop
+cast-kind-at c = search needs
 
-byte-requires-2 : tie.Need-byte-requires-2 Inv-loop μ-loop
-byte-requires-2 c κs = search needs
+kind-at-requires : tie.Need-kind-at-requires Inv-loop μ-loop
+kind-at-requires c κs = search needs
 
 loop-less : tie.Need-loop-less Inv-loop μ-loop
 loop-less c = search needs
@@ -36,9 +37,9 @@ loop-again : tie.Need-loop-again Inv-loop μ-loop
 loop-again c =
     let loop = c .before .before .before .before .loop in
     let byte = c .before .before .byte in
-    let byte2 = c .before .byte2 in
+    let kind-at = c .before .kind-at in
     let if1 = c .if1 in
-    (search needs, kind-skip _ _ _ _ _ _ (byte .ensures) (loop .inv .1) (λ e. if1 .taken (byte2 .ensures ∙ e)))
+    (search needs, kind-skip _ _ _ _ _ _ (byte .ensures) (loop .inv .1) (λ e. if1 .taken (kind-at .ensures ∙ e)))
 
 slice-aggregate-put : tie.Need-slice-aggregate-put Inv-loop μ-loop
 slice-aggregate-put c =
@@ -63,11 +64,11 @@ loop-again-2 : tie.Need-loop-again-2 Inv-loop μ-loop
 loop-again-2 c =
     let loop = c .before .before .before .before .before .before .before .loop in
     let byte = c .before .before .before .before .before .byte in
-    let byte2 = c .before .before .before .before .byte2 in
+    let kind-at = c .before .before .before .before .kind-at in
     let if1 = c .before .before .before .if1 in
     let put = c .before .put in (
       search needs,
-      kind-more _ _ _ _ _ _ _ (byte .ensures) (loop .inv .1) (search needs) (sym (byte2 .ensures) ∙
+      kind-more _ _ _ _ _ _ _ (byte .ensures) (loop .inv .1) (search needs) (sym (kind-at .ensures) ∙
           if1 .left) (put .ensures),
     )
 
@@ -88,8 +89,8 @@ kind-set-spec =
     loop-holds
     byte-requires
     add-i
-    cast-byte
-    byte-requires-2
+    cast-kind-at
+    kind-at-requires
     loop-less
     loop-again
     slice-aggregate-put

@@ -4,12 +4,12 @@ use Rattle.column_sets.proofs.marks.listed.Statement.{statement}
 use Rattle.column_sets.proofs.marks.listed.Tie as tie
 
 -- src/marks.rt:94:9
-number-at-requires : tie.Need-number-at-requires
-number-at-requires c κs = search needs
+start-at-requires : tie.Need-start-at-requires
+start-at-requires c κs = search needs
 
 -- src/marks.rt:95:9
-number-at-requires-2 : tie.Need-number-at-requires-2
-number-at-requires-2 c κs = search needs
+count-at-requires : tie.Need-count-at-requires
+count-at-requires c κs = search needs
 
 -- src/marks.rt:96:5
 in-list-requires : tie.Need-in-list-requires
@@ -18,7 +18,7 @@ in-list-requires c κs = search needs
 -- src/marks.rt:90:1
 returns : tie.Need-returns
 unfolding listOf
-returns c = rw (c .in-list .ensures, c .before .number-at2 .ensures, c .before .before .number-at .ensures)
+returns c = rw (c .in-list .ensures, c .before .count-at .ensures, c .before .before .start-at .ensures)
 
 pub listed-spec : {M : Type 1} → statement M
-listed-spec = tie.close (tie.spec number-at-requires number-at-requires-2 in-list-requires returns)
+listed-spec = tie.close (tie.spec start-at-requires count-at-requires in-list-requires returns)

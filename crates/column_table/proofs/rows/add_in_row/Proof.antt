@@ -14,13 +14,13 @@ use Rattle.column_table.proofs.Lending.{row-ends, row-part, row-back, p
 -- src/rows.rt:49:14
 mul-at : tie.Need-mul-at
 mul-at c =
-    let st = c .before .before .before .before .before .before in
+    let st = c .before .before .before in
     let r = row-ends (st .args .marks .now) (st .args .x) (st .pre .0 .0) in search (needs, r)
 
 -- src/rows.rt:50:15
 add-end : tie.Need-add-end
 add-end c =
-    let st = c .before .before .before .before .before .before in
+    let st = c .before .before .before in
     let r = row-ends (st .args .marks .now) (st .args .x) (st .pre .0 .0) in search (needs, r)
 
 -- src/rows.rt:51:51
@@ -34,13 +34,13 @@ part-add-says-start c = search needs
 -- src/rows.rt:51:51
 part-add-says-end : tie.Need-part-add-says-end
 part-add-says-end c =
-    let st = c .before .before .before .before .before .before in
+    let st = c .before .before .before in
     let r = row-ends (st .args .marks .now) (st .args .x) (st .pre .0 .0) in search (needs, r)
 
 -- src/rows.rt:51:5
 add-says-requires : tie.Need-add-says-requires
 add-says-requires c κs =
-    let st = c .before .before .before .before .before .before .before in
+    let st = c .before .before .before .before in
     let p = part-length (st .args .marks .now) (st .args .x) (st .pre .0 .0) in (
       fine-lent (st .args .marks
           .now) (st .args .x) _ (st .pre .0 .0) (st .pre .0 .1),
@@ -55,10 +55,10 @@ same-length c = search needs
 -- src/rows.rt:28:1
 returns : tie.Need-returns
 returns c =
-    let st = c .before .before .before .before .before .before .before .before .before .before in
+    let st = c .before .before .before .before .before .before .before in
     let add-says = c .before .before .add-says in
     let ms = st .args .marks .now in
-    let ys = add-says .last .1 .1 .1 .1 .1 .0 in
+    let ys = add-says .last .1 .1 .0 in
     let p = part-length ms (st .args .x) (st .pre .0 .0) in
     let l : length ys ≡ stride ms = search (needs, p) in
     let b = row-back ms (st .args .x) _ _ ys (st .pre .0 .0) refl refl l in (

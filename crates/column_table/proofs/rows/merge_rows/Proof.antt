@@ -17,13 +17,13 @@ use Rattle.column_table.proofs.Lending.{row-ends, row-part, row-back, p
 -- src/rows.rt:79:16
 mul-from : tie.Need-mul-from
 mul-from c =
-    let st = c .before .before .before .before .before .before .before in
+    let st = c .before .before .before .before in
     let r = row-ends (st .args .marks .now) (st .args .y) (st .pre .0 .1) in search (needs, r)
 
 -- src/rows.rt:80:14
 add-to : tie.Need-add-to
 add-to c =
-    let st = c .before .before .before .before .before .before .before in
+    let st = c .before .before .before .before in
     let r = row-ends (st .args .marks .now) (st .args .y) (st .pre .0 .1) in search (needs, r)
 
 -- src/rows.rt:81:24
@@ -37,26 +37,26 @@ part-copied-start c = search needs
 -- src/rows.rt:81:24
 part-copied-end : tie.Need-part-copied-end
 part-copied-end c =
-    let st = c .before .before .before .before .before .before .before .before in
+    let st = c .before .before .before .before .before in
     let r = row-ends (st .args .marks .now) (st .args .y) (st .pre .0 .1) in search (needs, r)
 
 -- src/rows.rt:81:17
 copied-requires : tie.Need-copied-requires
 copied-requires c κs =
-    let st = c .before .before .before .before .before .before .before .before .before in
+    let st = c .before .before .before .before .before .before in
     let p = part-length (st .args .marks .now) (st .args .y) (st .pre .0 .1) in
     let n = few _ _ _ (st .pre .1 .1) in (omega (arith, p, n), omega (arith, n, st .pre .0 .2))
 
 -- src/rows.rt:82:14
 mul-at : tie.Need-mul-at
 mul-at c =
-    let st = c .before .before .before .before .before .before .before .before .before .before in
+    let st = c .before .before .before .before .before .before .before in
     let r = row-ends (st .args .marks .now) (st .args .x) (st .pre .0 .0) in search (needs, r)
 
 -- src/rows.rt:83:15
 add-end : tie.Need-add-end
 add-end c =
-    let st = c .before .before .before .before .before .before .before .before .before .before in
+    let st = c .before .before .before .before .before .before .before in
     let r = row-ends (st .args .marks .now) (st .args .x) (st .pre .0 .0) in search (needs, r)
 
 -- src/rows.rt:84:53
@@ -70,7 +70,7 @@ part-merge-from-start c = search needs
 -- src/rows.rt:84:53
 part-merge-from-end : tie.Need-part-merge-from-end
 part-merge-from-end c =
-    let st = c .before .before .before .before .before .before .before .before .before .before in
+    let st = c .before .before .before .before .before .before .before in
     let r = row-ends (st .args .marks .now) (st .args .x) (st .pre .0 .0) in search (needs, r)
 
 -- src/rows.rt:84:77
@@ -80,7 +80,7 @@ slice-aggregate-merge-from c = search needs
 -- src/rows.rt:84:5
 merge-from-requires : tie.Need-merge-from-requires
 merge-from-requires c κs =
-    let st = c .before .before .before .before .before .before .before .before .before .before .before .before in
+    let st = c .before .before .before .before .before .before .before .before .before in
     let copied = c .before .before .copied in
     let ms = st .args .marks .now in
     let p = part-length ms (st .args .x) (st .pre .0 .0) in (
@@ -99,17 +99,15 @@ same-length c = search needs
 -- src/rows.rt:55:1
 returns : tie.Need-returns
 returns c =
-    let st = c .before .before .before .before .before .before .before .before .before .before .before .before
-    .before .before .before in
+    let st = c .before .before .before .before .before .before .before .before .before .before .before .before in
     let copied = c .before .before .before .before .before .copied in
     let merge-from = c .before .before .merge-from in
     let ms = st .args .marks .now in
-    let ys = merge-from .last .1 .1 .1 .1 .1 .1 .0 in
+    let ys = merge-from .last .1 .1 .1 .0 in
     let p = part-length ms (st .args .x) (st .pre .0 .0) in
     let l : length ys ≡ stride ms = search (needs, p) in
     let b = row-back ms (st .args .x) _ _ ys (st .pre .0 .0) refl refl l in
-    let t = conjuncts (st .args .kinds .now) (st .args .values .now) (st .args .starts .now) (st .args .counts
-    .now) (st .args .pool .now) in
+    let t = conjuncts (st .args .told .now) (st .args .pool .now) in
     let e = ap (λ k. columnOf t (numbered k (st .args .c))) (sym (row-part ms (st .args .x))) in
     let f = column-copied t (copied .result) (part ms (st .args .y)) (st .args .d) (copied .ensures) ∙ ap (λ k.
     columnOf t (numbered k (st .args .d))) (sym (row-part ms (st .args .y))) in (

@@ -14,13 +14,13 @@ use Rattle.column_table.proofs.Lending.{row-ends, row-part, row-back, p
 -- src/rows.rt:105:14
 mul-at : tie.Need-mul-at
 mul-at c =
-    let st = c .before .before .before .before .before .before .before in
+    let st = c .before .before .before .before in
     let r = row-ends (st .args .marks .now) (st .args .x) (st .pre .0) in search (needs, r)
 
 -- src/rows.rt:106:15
 add-end : tie.Need-add-end
 add-end c =
-    let st = c .before .before .before .before .before .before .before in
+    let st = c .before .before .before .before in
     let r = row-ends (st .args .marks .now) (st .args .x) (st .pre .0) in search (needs, r)
 
 -- src/rows.rt:107:59
@@ -34,13 +34,13 @@ part-resolve-deferred-start c = search needs
 -- src/rows.rt:107:59
 part-resolve-deferred-end : tie.Need-part-resolve-deferred-end
 part-resolve-deferred-end c =
-    let st = c .before .before .before .before .before .before .before in
+    let st = c .before .before .before .before in
     let r = row-ends (st .args .marks .now) (st .args .x) (st .pre .0) in search (needs, r)
 
 -- src/rows.rt:107:5
 resolve-deferred-requires : tie.Need-resolve-deferred-requires
 resolve-deferred-requires c κs =
-    let st = c .before .before .before .before .before .before .before .before in
+    let st = c .before .before .before .before .before in
     let p = part-length (st .args .marks .now) (st .args .x) (st .pre .0) in (
       (fine-lent (st .args .marks .now) (st .args .x) _ (st .pre .0) (st .pre .2), rw p (st .pre .1)),
       st .pre .3,
@@ -53,10 +53,10 @@ same-length c = search needs
 -- src/rows.rt:87:1
 returns : tie.Need-returns
 returns c =
-    let st = c .before .before .before .before .before .before .before .before .before .before .before in
+    let st = c .before .before .before .before .before .before .before .before in
     let resolve-deferred = c .before .before .resolve-deferred in
     let ms = st .args .marks .now in
-    let ys = resolve-deferred .last .1 .1 .1 .1 .1 .1 .0 in
+    let ys = resolve-deferred .last .1 .1 .1 .0 in
     let p = part-length ms (st .args .x) (st .pre .0) in
     let l : length ys ≡ stride ms = search (needs, p) in
     let b = row-back ms (st .args .x) _ _ ys (st .pre .0) refl refl l in (

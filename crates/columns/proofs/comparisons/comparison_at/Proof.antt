@@ -32,7 +32,7 @@ at-point-requires c κs = search needs
 returns : tie.Need-returns
 unfolding placed
 returns c =
-    let st = c .before .before .before .before .before .before .before in
+    let st = c .before .before .before .before .before .before in
     let fixed-value = c .before .before .before .fixed-value in
     let enum-told = c .before .enum-told in
     let at-place = c .at-place in
@@ -42,7 +42,7 @@ returns c =
 returns-2 : tie.Need-returns-2
 unfolding placed
 returns-2 c =
-    let st = c .before .before .before .before .before .before .before .before in
+    let st = c .before .before .before .before .before .before .before in
     let fixed-value = c .before .before .before .before .fixed-value in
     let f = c .before .before .f in
     let at-point = c .at-point in

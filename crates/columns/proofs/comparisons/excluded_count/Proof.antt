@@ -9,12 +9,13 @@ use Rattle.columns.proofs.Written.{count-none, count-more, count-few}
 use borrow.Author.Needs.{needs}
 use Rattle.columns.proofs.comparisons.excluded_count.Statement.{statement}
 use Rattle.columns.proofs.comparisons.excluded_count.Tie as tie
+use Rattle.column_constraints.specs.Abstraction.{kindsIn}
 
 abbrev Inv-loop : tie.InvT-loop
-Inv-loop kinds marks n m₀ i₀ m i = (i ≤ n) × (m ≤ i) × ((vs : List ℕ) → m ≡ length (excludedBy kinds vs marks i))
+Inv-loop told marks n m₀ i₀ m i = (i ≤ n) × (m ≤ i) × ((vs : List ℕ) → m ≡ length (excludedBy (kindsIn told) vs marks i))
 
 abbrev μ-loop : tie.MeasureT-loop
-μ-loop kinds marks n m₀ i₀ m i = n - i
+μ-loop told marks n m₀ i₀ m i = n - i
 
 -- src/comparisons.rt:95:5
 loop-holds : tie.Need-loop-holds Inv-loop μ-loop
@@ -25,12 +26,12 @@ byte-requires : tie.Need-byte-requires Inv-loop μ-loop
 byte-requires c κs = search needs
 
 -- src/comparisons.rt:97:37
-cast-byte : tie.Need-cast-byte Inv-loop μ-loop
-cast-byte c = search needs
+cast-kind-at : tie.Need-cast-kind-at Inv-loop μ-loop
+cast-kind-at c = search needs
 
 -- src/comparisons.rt:97:25
-byte-requires-2 : tie.Need-byte-requires-2 Inv-loop μ-loop
-byte-requires-2 c κs = search needs
+kind-at-requires : tie.Need-kind-at-requires Inv-loop μ-loop
+kind-at-requires c κs = search needs
 
 -- src/comparisons.rt:97:17
 counted-requires : tie.Need-counted-requires Inv-loop μ-loop
@@ -39,7 +40,7 @@ counted-requires c κs = search needs
 -- src/comparisons.rt:97:13
 add-m : tie.Need-add-m Inv-loop μ-loop
 add-m c =
-    let h : c .counted .result ≤ 1 = count-few (eqb (c .before .byte2 .result) 0) _ (c .counted .ensures) in
+    let h : c .counted .result ≤ 1 = count-few (eqb (c .before .kind-at .result) 0) _ (c .counted .ensures) in
     omega (arith, h, c .before .before .before .before .loop .inv .1, c .before .before .before .loop-test .taken)
 
 -- src/comparisons.rt:98:9
@@ -53,12 +54,12 @@ loop-less c = search needs
 -- src/comparisons.rt:95:5
 loop-again : tie.Need-loop-again Inv-loop μ-loop
 loop-again c =
-    let h : c .counted .result ≤ 1 = count-few (eqb (c .before .byte2 .result) 0) _ (c .counted .ensures) in (
+    let h : c .counted .result ≤ 1 = count-few (eqb (c .before .kind-at .result) 0) _ (c .counted .ensures) in (
       search needs,
       omega (arith, h, c .before .before .before .before .loop .inv .1),
       λ vs. rw (
         c .counted .ensures,
-        c .before .byte2 .ensures,
+        c .before .kind-at .ensures,
         c .before .before .byte .ensures,
         c .before .before .before .before .loop .inv .2 vs,
       ) (sym (count-more _ vs _ _)),
@@ -78,8 +79,8 @@ excluded-count-spec =
     μ-loop
     loop-holds
     byte-requires
-    cast-byte
-    byte-requires-2
+    cast-kind-at
+    kind-at-requires
     counted-requires
     add-m
     add-i

@@ -1,90 +1,65 @@
-use mathlib.Core.Path.{_≡_, refl, sym, _∙_}
-use mathlib.Core.List.{List}
-use Prim.Native.Nat.{ℕ, _+_, _≤_, _<_, _-_}
-use native.Mathlib.Omega.{arith}
-use lib.ListN.{length, getD}
-use Rattle.truth.specs.FromBytes.{valuesFrom}
-use Rattle.column_sets.specs.Index.{Places, ListPut}
-use Rattle.columns.proofs.Indexing.{list-none, list-more}
-use borrow.Author.Needs.{needs}
 use Rattle.columns.proofs.index.put_list.Statement.{statement}
 use Rattle.columns.proofs.index.put_list.Tie as tie
+use Rattle.columns.proofs.index.put_list.Reads as reads
+use Rattle.columns.proofs.index.put_list.Lts as lts
+use Rattle.columns.proofs.index.place_value.Reads as place-value-reads
+use mathlib.Core.Path.{_≡_, refl}
+use mathlib.Core.List.{List}
+use Prim.Native.Nat.{ℕ, _≤_, _-_}
+use native.Mathlib.Omega.{arith}
+use lib.ListN.{length}
+use Rattle.column_sets.specs.Index.{Sets}
+use borrow.Author.Needs.{needs}
 
 abbrev Inv-loop : tie.InvT-loop
-Inv-loop index₀ start count j i₀ index i = (i ≤ count) × (length index ≡ 24576) × ((p : ℕ) → p < 8192 → getD index p 0 ≡ getD index₀ p 0) × ((pool : List ℕ) → Places pool index₀ → ListPut pool index₀ index j (valuesFrom pool start i))
+Inv-loop index₀ m sorted k hints pool start count j i₀ index i =
+    (i ≤ count) × (length index ≡ length index₀) × ((ss : List ℕ) (cs : List ℕ) → Sets ss cs pool sorted index₀
+    k m j start 0 → Sets ss cs pool sorted index k m j start i)
 
 abbrev μ-loop : tie.MeasureT-loop
-μ-loop index₀ start count j i₀ index i = count - i
+μ-loop index₀ m sorted k hints pool start count j i₀ index i =
+    count - i
 
+-- src/index.rt:187:5
 loop-holds : tie.Need-loop-holds Inv-loop μ-loop
 loop-holds c =
-    let st = c .before in
-    (search needs, st .pre .0 .2, (λ p l. refl), (λ pool P. list-none _ _ _ _))
+    (search needs, refl, (λ ss cs S. S))
 
-add-at : tie.Need-add-at Inv-loop μ-loop
-add-at c =
-    let st = c .before .before .before in
-    let loop-test = c .loop-test in
-    omega (arith, st .pre .0 .0, loop-test .taken)
+-- src/index.rt:188:55
+add-place-value : tie.Need-add-place-value Inv-loop μ-loop
+add-place-value c = search needs
 
-mul-at : tie.Need-mul-at Inv-loop μ-loop
-mul-at c = search needs
+-- src/index.rt:188:9
+place-value-requires : tie.Need-place-value-requires Inv-loop μ-loop
+place-value-requires c κs = search needs
 
-slice-read-at : tie.Need-slice-read-at Inv-loop μ-loop
-slice-read-at c =
-    let st = c .before .before .before .before in
-    let loop = c .before .before .loop in
-    let loop-test = c .before .loop-test in
-    omega (arith, st .pre .0 .0, loop-test .taken, loop .inv .1)
-
-put-requires : tie.Need-put-requires Inv-loop μ-loop
-put-requires c κs =
-    let st = c .before .before .before .before .before in
-    let loop = c .before .before .before .loop in
-    let loop-test = c .before .before .loop-test in
-    let l : st .args .start + loop .i < 8192 = omega (arith, st .pre .0 .0, loop-test .taken) in
-    omega (arith, loop .inv .2 _ l, st .pre .1 _ l .1, st .pre .0 .1, loop .inv .1)
-
+-- src/index.rt:189:9
 add-i : tie.Need-add-i Inv-loop μ-loop
 add-i c = search needs
 
+-- src/index.rt:187:5
 loop-less : tie.Need-loop-less Inv-loop μ-loop
 loop-less c = search needs
 
+-- src/index.rt:187:5
 loop-again : tie.Need-loop-again Inv-loop μ-loop
 loop-again c =
-    let st = c .before .before .before .before .before .before .before .before in
-    let loop = c .before .before .before .before .before .before .loop in
-    let loop-test = c .before .before .before .before .before .loop-test in
-    let put = c .before .before .put in
-    let l : st .args .start + loop .i < 8192 = omega (arith, st .pre .0 .0, loop-test .taken) in (
-      search needs,
-      search (needs, loop .inv .1),
-      (λ p h. put .ensures .kept p (λ e. omega (
-        arith,
-        e,
-        h,
-        loop
-            .inv .2 _ l,
-        st .pre .1 _ l .0,
-      )) ∙ loop .inv .2 p h),
-      (λ pool P. list-more _ _ _ _ _ _ _ _ P l (st .pre .0
-          .1) (loop .inv .3 pool P) refl (search needs) (put .ensures)),
-    )
+    let loop = c .before .before .before .before .before .loop in
+    let place-value = c .before .before .place-value in
+    (search needs, search needs, (λ ss cs S. place-value .ensures ss cs _ _ refl (loop .inv .2 ss cs S)))
 
+-- src/index.rt:168:1
 same-length : tie.Need-same-length Inv-loop μ-loop
-same-length c =
-    let st = c .before .before .before in
-    let loop = c .before .loop in
-    loop .inv .1 ∙ sym (st .pre .0 .2)
+same-length c = search needs
 
+-- src/index.rt:168:1
 returns : tie.Need-returns Inv-loop μ-loop
 returns c =
-    let st = c .before .before .before in
+    let st = c .before .before .before .before .before .before in
     let loop = c .before .loop in
     let loop-test = c .loop-test in
     let e : loop .i ≡ st .args .count = omega (arith, loop .inv .0, loop-test .left) in
-    ((λ pool P. rw e at (loop .inv .3 pool P)), loop .inv .2)
+    λ ss cs S. rw e at (loop .inv .2 ss cs S)
 
 pub put-list-spec : {M : Type 1} → statement M
 put-list-spec =
@@ -93,10 +68,8 @@ put-list-spec =
     Inv-loop
     μ-loop
     loop-holds
-    add-at
-    mul-at
-    slice-read-at
-    put-requires
+    add-place-value
+    place-value-requires
     add-i
     loop-less
     loop-again

@@ -9,7 +9,7 @@ use Rattle.columns.proofs.merging.merge_allowed.Tie as tie
 
 add-allowed-requires : tie.Need-add-allowed-requires
 add-allowed-requires c κs =
-    let st = c .before .before .before .before .before .before .before .before .before in
+    let st = c .before .before .before .before .before .before .before in
     (st .pre .0 .0, st .pre .0 .1)
 
 same-length : tie.Need-same-length
@@ -17,7 +17,7 @@ same-length c = search needs
 
 returns : tie.Need-returns
 returns c =
-    let st = c .before .before .before .before .before .before .before .before .before .before .before .before
+    let st = c .before .before .before .before .before .before .before .before .before .before
     in
     let if1 = c .before .before .before .before .if1 in
     let add-allowed = c .before .before .add-allowed in (
@@ -30,12 +30,12 @@ returns c =
 
 allowed-changes-requires : tie.Need-allowed-changes-requires
 allowed-changes-requires c κs =
-    let st = c .before .before .before .before .before .before .before .before .before in
+    let st = c .before .before .before .before .before .before .before in
     (st .pre .0 .2, (st .pre .1 .0, low-row _ _ _ (st .pre .0 .0) (st .pre .1 .1)))
 
 add-allowed-requires-2 : tie.Need-add-allowed-requires-2
 add-allowed-requires-2 c κs =
-    let st = c .before .before .before .before .before .before .before .before .before .before .before in
+    let st = c .before .before .before .before .before .before .before .before .before in
     (st .pre .0 .0, st .pre .0 .1)
 
 same-length-2 : tie.Need-same-length-2
@@ -43,8 +43,7 @@ same-length-2 c = search needs
 
 returns-2 : tie.Need-returns-2
 returns-2 c =
-    let st = c .before .before .before .before .before .before .before .before .before .before .before .before
-    .before .before .before in
+    let st = c .before .before .before .before .before .before .before .before .before .before .before .before .before in
     let allowed-changes = c .before .before .before .before .before .allowed-changes in
     let add-allowed2 = c .before .before .before .add-allowed2 in (
       (λ t e. rw (

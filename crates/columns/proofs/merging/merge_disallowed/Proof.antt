@@ -9,7 +9,7 @@ use Rattle.columns.proofs.merging.merge_disallowed.Tie as tie
 
 add-disallowed-requires : tie.Need-add-disallowed-requires
 add-disallowed-requires c κs =
-    let st = c .before .before .before .before .before .before .before .before .before in
+    let st = c .before .before .before .before .before .before .before in
     (st .pre .0 .0, st .pre .0 .1)
 
 same-length : tie.Need-same-length
@@ -17,7 +17,7 @@ same-length c = search needs
 
 returns : tie.Need-returns
 returns c =
-    let st = c .before .before .before .before .before .before .before .before .before .before .before .before
+    let st = c .before .before .before .before .before .before .before .before .before .before
     in
     let if1 = c .before .before .before .before .if1 in
     let add-disallowed = c .before .before .add-disallowed in (
@@ -31,12 +31,12 @@ returns c =
 
 disallowed-changes-requires : tie.Need-disallowed-changes-requires
 disallowed-changes-requires c κs =
-    let st = c .before .before .before .before .before .before .before .before .before in
+    let st = c .before .before .before .before .before .before .before in
     (st .pre .0 .2, (st .pre .1 .0, low-row _ _ _ (st .pre .0 .0) (st .pre .1 .1)))
 
 add-disallowed-requires-2 : tie.Need-add-disallowed-requires-2
 add-disallowed-requires-2 c κs =
-    let st = c .before .before .before .before .before .before .before .before .before .before .before in
+    let st = c .before .before .before .before .before .before .before .before .before in
     (st .pre .0 .0, st .pre .0 .1)
 
 same-length-2 : tie.Need-same-length-2
@@ -44,8 +44,7 @@ same-length-2 c = search needs
 
 returns-2 : tie.Need-returns-2
 returns-2 c =
-    let st = c .before .before .before .before .before .before .before .before .before .before .before .before
-    .before .before .before in
+    let st = c .before .before .before .before .before .before .before .before .before .before .before .before .before in
     let disallowed-changes = c .before .before .before .before .before .disallowed-changes in
     let add-disallowed2 = c .before .before .before .add-disallowed2 in (
       (λ t e. rw (

@@ -15,7 +15,7 @@ merge-upper-requires c κs = search needs
 
 merge-marks-requires : tie.Need-merge-marks-requires
 merge-marks-requires c κs =
-    let st = c .before .before .before .before .before .before .before .before .before .before .before in
+    let st = c .before .before .before .before .before .before .before .before in
     let merge-lower = c .before .before .merge-lower in
     let merge-upper = c .before .merge-upper in
     ((rw (merge-upper .ensures .1, merge-lower .ensures .1) (st .pre .0 .0), st .pre .0 .1), st .pre .1)
@@ -25,13 +25,11 @@ same-length c = search needs
 
 returns : tie.Need-returns
 returns c =
-    let st = c .before .before .before .before .before .before .before .before .before .before .before .before
-    .before .before .before in
+    let st = c .before .before .before .before .before .before .before .before .before .before .before .before in
     let merge-lower = c .before .before .before .before .before .before .merge-lower in
     let merge-upper = c .before .before .before .before .before .merge-upper in
     let merge-marks = c .before .before .before .merge-marks in
-    let tables = conjuncts (st .args .kinds .now) (st .args .values .now) (st .args .starts .now) (st .args
-    .counts .now) (st .args .pool .now) in
+    let tables = conjuncts (st .args .told .now) (st .args .pool .now) in
     let a = st .args .own .now in
     let d = numbered (st .args .marks .now) (st .args .d) in
     let w = merge-marks .ensures .0 ∙ ap (λ (x : Merging). takeMarks tables (d .marks) (d .len) x) (merge-upper

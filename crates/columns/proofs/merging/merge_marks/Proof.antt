@@ -15,19 +15,19 @@ below-at : {j k m : ℕ} → m ≡ k → j < k → j < m
 below-at e h = rw e h
 
 abbrev Inv-loop : tie.InvT-loop
-Inv-loop index kinds values starts counts pool own₀ marks n held m₀ i₀ own m i = (i ≤ n) × Fine (length own₀) own (m .column .len) × (mergingOf (conjuncts kinds values starts counts pool) own m ≡ takeMarks (conjuncts kinds values starts counts pool) marks i (mergingOf (conjuncts kinds values starts counts pool) own₀ m₀)) × (length own ≡ length own₀)
+Inv-loop index told pool own₀ marks n held m₀ i₀ own m i = (i ≤ n) × Fine (length own₀) own (m .column .len) × (mergingOf (conjuncts told pool) own m ≡ takeMarks (conjuncts told pool) marks i (mergingOf (conjuncts told pool) own₀ m₀)) × (length own ≡ length own₀)
 
 abbrev μ-loop : tie.MeasureT-loop
-μ-loop index kinds values starts counts pool own₀ marks n held m₀ i₀ own m i = n - i
+μ-loop index told pool own₀ marks n held m₀ i₀ own m i = n - i
 
 number-set-requires : tie.Need-number-set-requires Inv-loop μ-loop
 number-set-requires c κs =
-    let st = c .before .before .before .before .before .before .before .before .before in
+    let st = c .before .before .before .before .before .before in
     low-row _ _ _ (st .pre .0 .0) (st .pre .1 .1)
 
 loop-holds : tie.Need-loop-holds Inv-loop μ-loop
 loop-holds c =
-    let st = c .before .before .before .before .before .before .before .before .before .before in
+    let st = c .before .before .before .before .before .before .before in
     (search needs, st .pre .0 .0, marks-none _ _ _, refl)
 
 byte-requires : tie.Need-byte-requires Inv-loop μ-loop
@@ -46,8 +46,7 @@ cast-has c = search needs
 
 has-requires : tie.Need-has-requires Inv-loop μ-loop
 has-requires c κs =
-    let st = c .before .before .before .before .before .before .before .before .before .before .before .before
-    .before .before in
+    let st = c .before .before .before .before .before .before .before .before .before .before .before in
     let number-set = c .before .before .before .before .number-set in
     let loop-test = c .before .before .loop-test in
     let byte = c .before .byte in
@@ -65,8 +64,7 @@ loop-less c = search needs
 
 loop-again : tie.Need-loop-again Inv-loop μ-loop
 loop-again c =
-    let st = c .before .before .before .before .before .before .before .before .before .before .before .before
-    .before .before .before .before in
+    let st = c .before .before .before .before .before .before .before .before .before .before .before .before .before in
     let number-set = c .before .before .before .before .before .before .number-set in
     let loop = c .before .before .before .before .before .loop in
     let loop-test = c .before .before .before .before .loop-test in
@@ -82,8 +80,7 @@ loop-again c =
     ) in (
       search needs,
       loop .inv .1,
-      loop .inv .2 ∙ marks-skip (conjuncts (st .args .kinds .now) (st .args .values
-          .now) (st .args .starts .now) (st .args .counts .now) (st .args .pool .now)) (st .args .marks .now) (loop
+      loop .inv .2 ∙ marks-skip (conjuncts (st .args .told .now) (st .args .pool .now)) (st .args .marks .now) (loop
           .i) (numbered (st .args .own .now) (st .args .m0 .column)) (st .args .m0 .emitted) (st .args .m0 .any) (byte
           .result) (byte .ensures) (sym (number-set .ensures .has _ b) ∙ sym (has .ensures) ∙ if1 .taken),
       loop .inv
@@ -92,8 +89,7 @@ loop-again c =
 
 merge-mark-requires : tie.Need-merge-mark-requires Inv-loop μ-loop
 merge-mark-requires c κs =
-    let st = c .before .before .before .before .before .before .before .before .before .before .before .before
-    .before .before .before .before .before in
+    let st = c .before .before .before .before .before .before .before .before .before .before .before .before .before .before in
     let loop = c .before .before .before .before .before .before .loop in
     let loop-test = c .before .before .before .before .before .loop-test in
     let byte = c .before .before .before .before .byte in
@@ -129,7 +125,7 @@ same-length c = search needs
 
 returns : tie.Need-returns Inv-loop μ-loop
 returns c =
-    let st = c .before .before .before .before .before .before .before .before .before .before .before .before
+    let st = c .before .before .before .before .before .before .before .before .before
     in
     let loop = c .before .loop in
     let loop-test = c .loop-test in

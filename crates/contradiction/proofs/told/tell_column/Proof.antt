@@ -22,7 +22,7 @@ load-requires c κs = search needs
 -- src/told.rt:78:9
 add-in-row-requires : tie.Need-add-in-row-requires
 add-in-row-requires c κs =
-    let st = c .before .before .before .before .before .before .before .before .before .before .before in
+    let st = c .before .before .before .before .before .before .before .before in
     let slot = c .before .before .before .slot in
     let load = c .before .load in (
       (
@@ -36,8 +36,7 @@ add-in-row-requires c κs =
 -- src/told.rt:79:5
 store-requires : tie.Need-store-requires
 store-requires c κs =
-    let st = c .before .before .before .before .before .before .before .before .before .before .before .before
-    .before .before .before in
+    let st = c .before .before .before .before .before .before .before .before .before .before .before .before in
     let slot = c .before .before .before .before .before .before .before .slot in
     (omega (arith, slot .ensures), st .pre .0 .0 .size)
 
@@ -52,8 +51,7 @@ same-length-2 c = search needs
 -- src/told.rt:54:1
 returns : tie.Need-returns
 returns c =
-    let st = c .before .before .before .before .before .before .before .before .before .before .before .before
-    .before .before .before .before .before .before in
+    let st = c .before .before .before .before .before .before .before .before .before .before .before .before .before .before .before in
     let slot = c .before .before .before .before .before .before .before .before .before .before .slot in
     let load = c .before .before .before .before .before .before .before .before .load in
     let add-in-row = c .before .before .before .before .before .before .add-in-row in

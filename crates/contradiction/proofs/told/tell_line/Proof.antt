@@ -31,8 +31,7 @@ label-of-requires c κs = search needs
 -- src/told.rt:114:13
 tell-column-requires : tie.Need-tell-column-requires
 tell-column-requires c κs =
-    let st = c .before .before .before .before .before .before .before .before .before .before .before .before
-    .before .before .before .before in
+    let st = c .before .before .before .before .before .before .before .before .before .before .before .before .before in
     let classify = c .before .before .before .before .before .before .classify in
     let arm = c .before .before .before .before .k in
     let label-of = c .before .before .label-of in
@@ -52,8 +51,7 @@ label-of-requires-2 c κs = search needs
 -- src/told.rt:118:13
 tell-column-requires-2 : tie.Need-tell-column-requires-2
 tell-column-requires-2 c κs =
-    let st = c .before .before .before .before .before .before .before .before .before .before .before .before
-    .before .before .before .before in
+    let st = c .before .before .before .before .before .before .before .before .before .before .before .before .before in
     let classify = c .before .before .before .before .before .before .classify in
     let arm = c .before .before .before .before .k2 in
     let label-of2 = c .before .before .label-of2 in
@@ -77,16 +75,15 @@ label-of-requires-4 c κs = search needs
 -- src/told.rt:123:13
 tell-non-null-requires : tie.Need-tell-non-null-requires
 tell-non-null-requires c κs =
-    let st = c .before .before .before .before .before .before .before .before .before .before .before .before
-    .before .before .before .before in
+    let st = c .before .before .before .before .before .before .before .before .before .before .before .before .before in
     let label-of3 = c .before .before .label-of3 in
     (label-low (st .args .labels .now) _ _ (st .pre .0 .3) (label-of3 .ensures), st .pre .0 .0 .size)
 
 -- src/told.rt:124:13
 tell-non-null-requires-2 : tie.Need-tell-non-null-requires-2
 tell-non-null-requires-2 c κs =
-    let st = c .before .before .before .before .before .before .before .before .before .before .before .before
-    .before .before .before .before .before .before .before .before in
+    let st = c .before .before .before .before .before .before .before .before .before .before .before .before .before
+    .before .before .before .before in
     let label-of4 = c .before .before .before .before .before .label-of4 in
     let tell-non-null = c .before .before .before .tell-non-null in (
       label-low (st .args .labels .now) _ _ (st .pre .0 .3) (label-of4 .ensures),
@@ -105,8 +102,7 @@ label-of-requires-5 c κs = search needs
 -- src/told.rt:129:13
 tell-column-requires-3 : tie.Need-tell-column-requires-3
 tell-column-requires-3 c κs =
-    let st = c .before .before .before .before .before .before .before .before .before .before .before .before
-    .before .before .before .before in
+    let st = c .before .before .before .before .before .before .before .before .before .before .before .before .before in
     let classify = c .before .before .before .before .before .before .classify in
     let arm = c .before .before .before .before .k4 in
     let label-of5 = c .before .before .label-of5 in
@@ -130,16 +126,15 @@ label-of-requires-7 c κs = search needs
 -- src/told.rt:134:13
 tell-non-null-requires-3 : tie.Need-tell-non-null-requires-3
 tell-non-null-requires-3 c κs =
-    let st = c .before .before .before .before .before .before .before .before .before .before .before .before
-    .before .before .before .before in
+    let st = c .before .before .before .before .before .before .before .before .before .before .before .before .before in
     let label-of6 = c .before .before .label-of6 in
     (label-low (st .args .labels .now) _ _ (st .pre .0 .3) (label-of6 .ensures), st .pre .0 .0 .size)
 
 -- src/told.rt:135:13
 tell-non-null-requires-4 : tie.Need-tell-non-null-requires-4
 tell-non-null-requires-4 c κs =
-    let st = c .before .before .before .before .before .before .before .before .before .before .before .before
-    .before .before .before .before .before .before .before .before in
+    let st = c .before .before .before .before .before .before .before .before .before .before .before .before .before
+    .before .before .before .before in
     let label-of7 = c .before .before .before .before .before .label-of7 in
     let tell-non-null3 = c .before .before .before .tell-non-null3 in (
       label-low (st .args .labels .now) _ _ (st .pre .0 .3) (label-of7 .ensures),
@@ -162,8 +157,8 @@ same-length-2 c = search needs
 -- src/told.rt:84:1
 returns : tie.Need-returns
 returns c =
-    let st = c .before .before .before .before .before .before .before .before .before .before .before .before
-    .before .before .before .before .before .before .before .before .before in
+    let st = c .before .before .before .before .before .before .before .before .before .before .before .before .before
+    .before .before .before .before .before in
     let classify = c .before .before .before .before .before .before .before .before .before .before .before
     .classify in
     let arm = c .before .before .before .before .before .before .before .before .before .k in
@@ -190,8 +185,8 @@ same-length-4 c = search needs
 -- src/told.rt:84:1
 returns-2 : tie.Need-returns-2
 returns-2 c =
-    let st = c .before .before .before .before .before .before .before .before .before .before .before .before
-    .before .before .before .before .before .before .before .before .before in
+    let st = c .before .before .before .before .before .before .before .before .before .before .before .before .before
+    .before .before .before .before .before in
     let classify = c .before .before .before .before .before .before .before .before .before .before .before
     .classify in
     let arm = c .before .before .before .before .before .before .before .before .before .k2 in
@@ -214,8 +209,8 @@ same-length-5 c = search needs
 -- src/told.rt:84:1
 returns-3 : tie.Need-returns-3
 returns-3 c =
-    let st = c .before .before .before .before .before .before .before .before .before .before .before .before
-    .before .before .before .before .before .before .before .before .before .before .before in
+    let st = c .before .before .before .before .before .before .before .before .before .before .before .before .before
+    .before .before .before .before .before .before .before in
     let classify = c .before .before .before .before .before .before .before .before .before .before .before
     .before .before .classify in
     let arm = c .before .before .before .before .before .before .before .before .before .before .before .k3 in
@@ -241,8 +236,8 @@ same-length-7 c = search needs
 -- src/told.rt:84:1
 returns-4 : tie.Need-returns-4
 returns-4 c =
-    let st = c .before .before .before .before .before .before .before .before .before .before .before .before
-    .before .before .before .before .before .before .before .before .before in
+    let st = c .before .before .before .before .before .before .before .before .before .before .before .before .before
+    .before .before .before .before .before in
     let classify = c .before .before .before .before .before .before .before .before .before .before .before
     .classify in
     let arm = c .before .before .before .before .before .before .before .before .before .k4 in
@@ -265,8 +260,8 @@ same-length-8 c = search needs
 -- src/told.rt:84:1
 returns-5 : tie.Need-returns-5
 returns-5 c =
-    let st = c .before .before .before .before .before .before .before .before .before .before .before .before
-    .before .before .before .before .before .before .before .before .before .before .before in
+    let st = c .before .before .before .before .before .before .before .before .before .before .before .before .before
+    .before .before .before .before .before .before .before in
     let classify = c .before .before .before .before .before .before .before .before .before .before .before
     .before .before .classify in
     let arm = c .before .before .before .before .before .before .before .before .before .before .before .k5 in
@@ -284,7 +279,7 @@ returns-5 c =
 -- src/told.rt:84:1
 returns-6 : tie.Need-returns-6
 returns-6 c =
-    let st = c .before .before .before .before .before .before .before .before .before .before .before .before
+    let st = c .before .before .before .before .before .before .before .before .before
     in
     let classify = c .before .before .classify in
     let enum-told = c .enum-told in

@@ -19,18 +19,18 @@ use Rattle.contradiction.proofs.Steps.{told-none, shows-more, told-stop
 use borrow.Author.Needs.{needs}
 
 abbrev Inv-loop : tie.InvT-loop
-Inv-loop rs pool nodes n kinds values starts counts labels cells₀ marks₀ i₀ cells marks i =
-    (i ≤ n) × Shows (conjuncts kinds values starts counts pool) (columnsOf cells) marks (toldTo labels (aexprOf
+Inv-loop rs pool nodes n told labels cells₀ marks₀ i₀ cells marks i =
+    (i ≤ n) × Shows (conjuncts told pool) (columnsOf cells) marks (toldTo labels (aexprOf
     rs pool) nodes i) × (length cells ≡ length cells₀) × (length marks ≡ length marks₀)
 
 abbrev μ-loop : tie.MeasureT-loop
-μ-loop rs pool nodes n kinds values starts counts labels cells₀ marks₀ i₀ cells marks i =
+μ-loop rs pool nodes n told labels cells₀ marks₀ i₀ cells marks i =
     n - i
 
 -- src/told.rt:169:5
 loop-holds : tie.Need-loop-holds Inv-loop μ-loop
 loop-holds c =
-    let st = c .before .before .before .before .before .before .before .before .before .before in (
+    let st = c .before .before .before .before .before .before .before in (
       omega arith,
       told-none _ _ _ (st .args .labels .now) (aexprOf (st .args .rs .now) (st .args .pool .now))
           (st .args .nodes .now) (st .pre .0 .4),
@@ -39,30 +39,27 @@ loop-holds c =
     )
 
 -- src/told.rt:170:25
-mul-t17 : tie.Need-mul-t17 Inv-loop μ-loop
-mul-t17 c = search needs
+mul-t14 : tie.Need-mul-t14 Inv-loop μ-loop
+mul-t14 c = search needs
 
 -- src/told.rt:170:25
-shared-slice-read-t19 : tie.Need-shared-slice-read-t19 Inv-loop μ-loop
-shared-slice-read-t19 c =
-    let st = c .before .before .before .before .before .before .before .before .before .before .before .before
-    .before in
+shared-slice-read-t16 : tie.Need-shared-slice-read-t16 Inv-loop μ-loop
+shared-slice-read-t16 c =
+    let st = c .before .before .before .before .before .before .before .before .before .before in
     let t1 = c .before .loop-test in
     omega (arith, t1 .taken, st .pre .0 .2)
 
 -- src/told.rt:171:17
 cast-j : tie.Need-cast-j Inv-loop μ-loop
 cast-j c =
-    let st = c .before .before .before .before .before .before .before .before .before .before .before .before
-    .before in
+    let st = c .before .before .before .before .before .before .before .before .before .before in
     let t1 = c .before .loop-test in
     omega (arith, t1 .taken, st .pre .0 .0, st .pre .0 .1)
 
 -- src/told.rt:172:13
 tell-line-requires : tie.Need-tell-line-requires Inv-loop μ-loop
 tell-line-requires c κs =
-    let st = c .before .before .before .before .before .before .before .before .before .before .before .before
-    .before .before .before in
+    let st = c .before .before .before .before .before .before .before .before .before .before .before .before in
     let l1 = c .before .before .before .before .loop in
     let t1 = c .before .before .before .loop-test in (
       (
@@ -100,8 +97,8 @@ same-length-2 c =
 -- src/told.rt:186:13
 returns : tie.Need-returns Inv-loop μ-loop
 returns c =
-    let st = c .before .before .before .before .before .before .before .before .before .before .before .before
-    .before .before .before .before .before .before .before .before .before in
+    let st = c .before .before .before .before .before .before .before .before .before .before .before .before .before
+    .before .before .before .before .before in
     let l1 = c .before .before .before .before .before .before .before .before .before .before .loop in
     let t1 = c .before .before .before .before .before .before .before .before .before .loop-test in
     let tell-line = c .before .before .before .before .before .tell-line in
@@ -127,8 +124,8 @@ loop-less c = search needs
 -- src/told.rt:169:5
 loop-again : tie.Need-loop-again Inv-loop μ-loop
 loop-again c =
-    let st = c .before .before .before .before .before .before .before .before .before .before .before .before
-    .before .before .before .before .before .before .before .before .before in
+    let st = c .before .before .before .before .before .before .before .before .before .before .before .before .before
+    .before .before .before .before .before in
     let l1 = c .before .before .before .before .before .before .before .before .before .before .loop in
     let t1 = c .before .before .before .before .before .before .before .before .before .loop-test in
     let tell-line = c .before .before .before .before .before .tell-line in (
@@ -155,7 +152,7 @@ same-length-4 c =
 -- src/told.rt:143:1
 returns-2 : tie.Need-returns-2 Inv-loop μ-loop
 returns-2 c =
-    let st = c .before .before .before .before .before .before .before .before .before .before .before .before
+    let st = c .before .before .before .before .before .before .before .before .before
     in
     let l1 = c .before .loop in
     let t1 = c .loop-test in (
@@ -171,8 +168,8 @@ tell-lines-spec =
     Inv-loop
     μ-loop
     loop-holds
-    mul-t17
-    shared-slice-read-t19
+    mul-t14
+    shared-slice-read-t16
     cast-j
     tell-line-requires
     same-length

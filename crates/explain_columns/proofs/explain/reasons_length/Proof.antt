@@ -11,7 +11,7 @@ use Prim.Native.Nat.{ℕ, _+_, _-_, _*_, _≤_, _<_}
 use native.Mathlib.Omega.{arith}
 use lib.ListN.{length}
 use Rattle.constraints.specs.Lined.{lined}
-use Rattle.column_constraints.specs.Abstraction.{Conjuncts, conjuncts}
+use Rattle.column_constraints.specs.Abstraction.{Conjuncts}
 use Rattle.column_reasons.specs.ColumnText.{tableText}
 use Rattle.merge.specs.Reasons.{shownIn}
 use Rattle.merge.specs.Write.{splice}
@@ -20,21 +20,22 @@ use Rattle.column_table.specs.Words.{columnsOf}
 use Rattle.column_table.specs.State.{shown}
 use Rattle.explain_columns.proofs.Explaining.{begin-size, length-loaded}
 use borrow.Author.Needs.{needs}
+use Rattle.column_constraints.specs.Abstraction.{kindsIn, valuesIn}
 
 abbrev Inv-loop : tie.InvT-loop
-Inv-loop t kinds values cells marks order columns size₀ w₀ size w =
-    (w ≤ columns) × (size ≤ 1116691503200 * w) × ((s : Conjuncts) → s .kinds ≡ kinds → s .values ≡ values →
+Inv-loop t told cells marks order columns size₀ w₀ size w =
+    (w ≤ columns) × (size ≤ 1116691503200 * w) × ((s : Conjuncts) → s .kinds ≡ (kindsIn told) → s .values ≡ (valuesIn told) →
     (text : List ℕ) → size ≡ 0 + length (tableText (shownIn t text) (firstOf order w) (shown s (columnsOf cells)
     marks)))
 
 abbrev μ-loop : tie.MeasureT-loop
-μ-loop t kinds values cells marks order columns size₀ w₀ size w =
+μ-loop t told cells marks order columns size₀ w₀ size w =
     columns - w
 
 -- src/explain.rt:94:5
 loop-holds : tie.Need-loop-holds Inv-loop μ-loop
 loop-holds c =
-    let st = c .before .before .before .before .before .before in (
+    let st = c .before .before .before .before .before in (
       omega arith,
       omega arith,
       λ s ek ev text. begin-size (shownIn (st .args .t .now) text) (st .args .order
@@ -42,12 +43,12 @@ loop-holds c =
     )
 
 -- src/explain.rt:95:24
-mul-t14 : tie.Need-mul-t14 Inv-loop μ-loop
-mul-t14 c = search needs
+mul-t13 : tie.Need-mul-t13 Inv-loop μ-loop
+mul-t13 c = search needs
 
 -- src/explain.rt:95:24
-shared-slice-read-t16 : tie.Need-shared-slice-read-t16 Inv-loop μ-loop
-shared-slice-read-t16 c = search needs
+shared-slice-read-t15 : tie.Need-shared-slice-read-t15 Inv-loop μ-loop
+shared-slice-read-t15 c = search needs
 
 -- src/explain.rt:96:13
 slot-requires : tie.Need-slot-requires Inv-loop μ-loop
@@ -56,14 +57,14 @@ slot-requires c κs = search needs
 -- src/explain.rt:97:13
 load-requires : tie.Need-load-requires Inv-loop μ-loop
 load-requires c κs =
-    let st = c .before .before .before .before .before .before .before .before .before .before in
+    let st = c .before .before .before .before .before .before .before .before .before in
     let slot = c .slot in
     (omega (arith, slot .ensures), st .pre .0 .0 .size)
 
 -- src/explain.rt:98:23
 row-length-requires : tie.Need-row-length-requires Inv-loop μ-loop
 row-length-requires c κs =
-    let st = c .before .before .before .before .before .before .before .before .before .before .before in
+    let st = c .before .before .before .before .before .before .before .before .before .before in
     let slot = c .before .slot in
     let load = c .load in (
       omega (arith, slot .ensures),
@@ -75,7 +76,7 @@ row-length-requires c κs =
 -- src/explain.rt:98:16
 add-size : tie.Need-add-size Inv-loop μ-loop
 add-size c =
-    let st = c .before .before .before .before .before .before .before .before .before .before .before .before
+    let st = c .before .before .before .before .before .before .before .before .before .before .before
     in
     let loop = c .before .before .before .before .before .loop in
     let t1 = c .before .before .before .before .loop-test in
@@ -85,7 +86,7 @@ add-size c =
 -- src/explain.rt:99:9
 add-w : tie.Need-add-w Inv-loop μ-loop
 add-w c =
-    let st = c .before .before .before .before .before .before .before .before .before .before .before .before
+    let st = c .before .before .before .before .before .before .before .before .before .before .before
     in
     let t1 = c .before .before .before .before .loop-test in
     omega (arith, t1 .taken, st .pre .0 .2)
@@ -97,7 +98,7 @@ loop-less c = search needs
 -- src/explain.rt:94:5
 loop-again : tie.Need-loop-again Inv-loop μ-loop
 loop-again c =
-    let st = c .before .before .before .before .before .before .before .before .before .before .before .before
+    let st = c .before .before .before .before .before .before .before .before .before .before .before
     in
     let loop = c .before .before .before .before .before .loop in
     let t1 = c .before .before .before .before .loop-test in
@@ -115,7 +116,7 @@ loop-again c =
 -- src/explain.rt:77:1
 returns : tie.Need-returns Inv-loop μ-loop
 returns c =
-    let st = c .before .before .before .before .before .before .before .before in
+    let st = c .before .before .before .before .before .before .before in
     let loop = c .before .loop in
     let t1 = c .loop-test in
     let h : loop .w ≡ st .args .columns = omega (arith, loop .inv .0, t1 .left) in
@@ -128,8 +129,8 @@ reasons-length-spec =
     Inv-loop
     μ-loop
     loop-holds
-    mul-t14
-    shared-slice-read-t16
+    mul-t13
+    shared-slice-read-t15
     slot-requires
     load-requires
     row-length-requires

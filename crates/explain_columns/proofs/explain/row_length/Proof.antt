@@ -10,14 +10,14 @@ use Rattle.column_table.proofs.Lending.{row-ends, row-part, part-length, fine-l
 -- src/explain.rt:41:14
 mul-at : tie.Need-mul-at
 mul-at c =
-    let st = c .before .before .before .before in
+    let st = c .before .before .before in
     let r = row-ends (st .args .marks .now) (st .args .x) (st .pre .0) in
     search (needs, r)
 
 -- src/explain.rt:42:15
 add-end : tie.Need-add-end
 add-end c =
-    let st = c .before .before .before .before in
+    let st = c .before .before .before in
     let r = row-ends (st .args .marks .now) (st .args .x) (st .pre .0) in
     search (needs, r)
 
@@ -32,14 +32,14 @@ part-column-length-start c = search needs
 -- src/explain.rt:43:40
 part-column-length-end : tie.Need-part-column-length-end
 part-column-length-end c =
-    let st = c .before .before .before .before in
+    let st = c .before .before .before in
     let r = row-ends (st .args .marks .now) (st .args .x) (st .pre .0) in
     search (needs, r)
 
 -- src/explain.rt:43:5
 column-length-requires : tie.Need-column-length-requires
 column-length-requires c κs =
-    let st = c .before .before .before .before .before in
+    let st = c .before .before .before .before in
     let p = part-length (st .args .marks .now) (st .args .x) (st .pre .0) in
     fine-wider _ _ _ _ (omega (arith, p, st .pre .1)) (fine-lent (st .args .marks .now) (st .args .x) _ (st .pre
     .0) (st .pre .2))
@@ -47,7 +47,7 @@ column-length-requires c κs =
 -- src/explain.rt:25:1
 returns : tie.Need-returns
 returns c =
-    let st = c .before .before .before .before .before .before in
+    let st = c .before .before .before .before .before in
     let column-length = c .column-length in (
       (λ s e f text. rw (row-part (st .args .marks .now) (st .args .x)) (column-length .ensures .0 s e f text)),
       column-length .ensures .1,

@@ -11,7 +11,7 @@ use Prim.Native.Nat.{ℕ, _+_, _-_, _*_, _≤_, _<_}
 use native.Mathlib.Omega.{arith}
 use lib.ListN.{length}
 use Rattle.constraints.specs.Lined.{lined}
-use Rattle.column_constraints.specs.Abstraction.{Conjuncts, conjuncts}
+use Rattle.column_constraints.specs.Abstraction.{Conjuncts}
 use Rattle.column_reasons.specs.ColumnText.{tableText}
 use Rattle.merge.specs.Reasons.{shownIn}
 use Rattle.merge.specs.Write.{splice}
@@ -20,22 +20,23 @@ use Rattle.column_table.specs.Words.{columnsOf}
 use Rattle.column_table.specs.State.{shown}
 use Rattle.explain_columns.proofs.Explaining.{begin-size, begin-out, next-loaded, text-loaded, text-room}
 use borrow.Author.Needs.{needs}
+use Rattle.column_constraints.specs.Abstraction.{kindsIn, valuesIn}
 
 abbrev Inv-loop : tie.InvT-loop
-Inv-loop out₀ t text kinds values cells marks order columns next₀ w₀ out next w =
-    (w ≤ columns) × (length out ≡ length out₀) × ((s : Conjuncts) → s .kinds ≡ kinds → s .values ≡ values → next
+Inv-loop out₀ t text told cells marks order columns next₀ w₀ out next w =
+    (w ≤ columns) × (length out ≡ length out₀) × ((s : Conjuncts) → s .kinds ≡ (kindsIn told) → s .values ≡ (valuesIn told) → next
     ≡ 0 + length (tableText (shownIn t text) (firstOf order w) (shown s (columnsOf cells) marks))) × ((s :
-    Conjuncts) → s .kinds ≡ kinds → s .values ≡ values → out ≡ splice out₀ 0 (tableText (shownIn t text)
+    Conjuncts) → s .kinds ≡ (kindsIn told) → s .values ≡ (valuesIn told) → out ≡ splice out₀ 0 (tableText (shownIn t text)
     (firstOf order w) (shown s (columnsOf cells) marks)))
 
 abbrev μ-loop : tie.MeasureT-loop
-μ-loop out₀ t text kinds values cells marks order columns next₀ w₀ out next w =
+μ-loop out₀ t text told cells marks order columns next₀ w₀ out next w =
     columns - w
 
 -- src/explain.rt:128:5
 loop-holds : tie.Need-loop-holds Inv-loop μ-loop
 loop-holds c =
-    let st = c .before .before .before .before .before .before .before .before in (
+    let st = c .before .before .before .before .before .before .before in (
       omega arith,
       refl,
       (λ s ek ev. begin-size (shownIn (st .args .t .now) (st .args .text .now)) (st .args
@@ -46,12 +47,12 @@ loop-holds c =
     )
 
 -- src/explain.rt:129:24
-mul-t16 : tie.Need-mul-t16 Inv-loop μ-loop
-mul-t16 c = search needs
+mul-t15 : tie.Need-mul-t15 Inv-loop μ-loop
+mul-t15 c = search needs
 
 -- src/explain.rt:129:24
-shared-slice-read-t18 : tie.Need-shared-slice-read-t18 Inv-loop μ-loop
-shared-slice-read-t18 c = search needs
+shared-slice-read-t17 : tie.Need-shared-slice-read-t17 Inv-loop μ-loop
+shared-slice-read-t17 c = search needs
 
 -- src/explain.rt:130:13
 slot-requires : tie.Need-slot-requires Inv-loop μ-loop
@@ -60,7 +61,7 @@ slot-requires c κs = search needs
 -- src/explain.rt:131:13
 load-requires : tie.Need-load-requires Inv-loop μ-loop
 load-requires c κs =
-    let st = c .before .before .before .before .before .before .before .before .before .before .before .before
+    let st = c .before .before .before .before .before .before .before .before .before .before .before
     in
     let slot = c .slot in
     (omega (arith, slot .ensures), st .pre .0 .0 .size)
@@ -68,8 +69,7 @@ load-requires c κs =
 -- src/explain.rt:132:9
 write-row-reasons-requires : tie.Need-write-row-reasons-requires Inv-loop μ-loop
 write-row-reasons-requires c κs =
-    let st = c .before .before .before .before .before .before .before .before .before .before .before .before
-    .before .before in
+    let st = c .before .before .before .before .before .before .before .before .before .before .before .before .before in
     let loop = c .before .before .before .before .before .loop in
     let t1 = c .before .before .before .before .loop-test in
     let slot = c .before .before .slot in
@@ -89,8 +89,8 @@ write-row-reasons-requires c κs =
 -- src/explain.rt:133:9
 add-w : tie.Need-add-w Inv-loop μ-loop
 add-w c =
-    let st = c .before .before .before .before .before .before .before .before .before .before .before .before
-    .before .before .before .before .before in
+    let st = c .before .before .before .before .before .before .before .before .before .before .before .before .before
+    .before .before .before in
     let t1 = c .before .before .before .before .before .before .before .loop-test in
     omega (arith, t1 .taken, st .pre .0 .2)
 
@@ -101,8 +101,8 @@ loop-less c = search needs
 -- src/explain.rt:128:5
 loop-again : tie.Need-loop-again Inv-loop μ-loop
 loop-again c =
-    let st = c .before .before .before .before .before .before .before .before .before .before .before .before
-    .before .before .before .before .before in
+    let st = c .before .before .before .before .before .before .before .before .before .before .before .before .before
+    .before .before .before in
     let loop = c .before .before .before .before .before .before .before .before .loop in
     let t1 = c .before .before .before .before .before .before .before .loop-test in
     let slot = c .before .before .before .before .before .slot in
@@ -129,7 +129,7 @@ same-length c = search needs
 -- src/explain.rt:105:1
 returns : tie.Need-returns Inv-loop μ-loop
 returns c =
-    let st = c .before .before .before .before .before .before .before .before .before .before in
+    let st = c .before .before .before .before .before .before .before .before .before in
     let loop = c .before .loop in
     let t1 = c .loop-test in
     let h : loop .w ≡ st .args .columns = omega (arith, loop .inv .0, t1 .left) in
@@ -142,8 +142,8 @@ write-reasons-spec =
     Inv-loop
     μ-loop
     loop-holds
-    mul-t16
-    shared-slice-read-t18
+    mul-t15
+    shared-slice-read-t17
     slot-requires
     load-requires
     write-row-reasons-requires

@@ -10,14 +10,14 @@ use Rattle.column_table.proofs.Lending.{row-ends, row-part, part-length, fine-l
 -- src/explain.rt:71:14
 mul-at : tie.Need-mul-at
 mul-at c =
-    let st = c .before .before .before .before .before .before in
+    let st = c .before .before .before .before .before in
     let r = row-ends (st .args .marks .now) (st .args .x) (st .pre .0 .0) in
     search (needs, r)
 
 -- src/explain.rt:72:15
 add-end : tie.Need-add-end
 add-end c =
-    let st = c .before .before .before .before .before .before in
+    let st = c .before .before .before .before .before in
     let r = row-ends (st .args .marks .now) (st .args .x) (st .pre .0 .0) in
     search (needs, r)
 
@@ -32,14 +32,14 @@ part-write-column-reasons-start c = search needs
 -- src/explain.rt:73:64
 part-write-column-reasons-end : tie.Need-part-write-column-reasons-end
 part-write-column-reasons-end c =
-    let st = c .before .before .before .before .before .before .before in
+    let st = c .before .before .before .before .before .before in
     let r = row-ends (st .args .marks .now) (st .args .x) (st .pre .0 .0) in
     search (needs, r)
 
 -- src/explain.rt:73:5
 write-column-reasons-requires : tie.Need-write-column-reasons-requires
 write-column-reasons-requires c κs =
-    let st = c .before .before .before .before .before .before .before .before in
+    let st = c .before .before .before .before .before .before .before in
     let p = part-length (st .args .marks .now) (st .args .x) (st .pre .0 .0) in (
       fine-wider _ _ _ _ (omega (arith, p, st .pre .0 .1)) (fine-lent (st .args .marks .now) (st .args .x) _ (st
           .pre .0 .0) (st .pre .0 .2)),
@@ -54,7 +54,7 @@ same-length c = search needs
 -- src/explain.rt:47:1
 returns : tie.Need-returns
 returns c =
-    let st = c .before .before .before .before .before .before .before .before .before .before .before in
+    let st = c .before .before .before .before .before .before .before .before .before .before in
     let write-column-reasons = c .before .before .write-column-reasons in (
       (λ s e f. rw (row-part (st .args .marks .now) (st .args .x)) (write-column-reasons .ensures .0 s e f)),
       (λ

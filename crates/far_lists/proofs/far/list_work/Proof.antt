@@ -6,25 +6,26 @@ use Rattle.far_lists.proofs.Sizes.{ends-more, work-bound}
 use borrow.Author.Needs.{needs}
 use Rattle.far_lists.proofs.far.list_work.Statement.{statement}
 use Rattle.far_lists.proofs.far.list_work.Tie as tie
+use Rattle.column_constraints.specs.Abstraction.{startsIn, countsIn}
 
 abbrev Inv-loop : tie.InvT-loop
-Inv-loop starts counts lists₀ total₀ j₀ lists total j = (j ≤ 128) × (lists ≤ j) × (total ≤ j * 8192) × ((i : ℕ) → i < j → getD starts i 0 + getD counts i 0 ≤ 8192)
+Inv-loop told places lists₀ total₀ j₀ lists total j = (j ≤ 128) × (lists ≤ j) × (total ≤ j * 16384) × ((i : ℕ) → i < j → getD (startsIn told) i 0 + getD (countsIn told) i 0 ≤ places)
 
 abbrev μ-loop : tie.MeasureT-loop
-μ-loop starts counts lists₀ total₀ j₀ lists total j = 128 - j
+μ-loop told places lists₀ total₀ j₀ lists total j = 128 - j
 
 loop-holds : tie.Need-loop-holds Inv-loop μ-loop
 loop-holds c =
     (search needs, search needs, search needs, λ i l. absurd (omega (arith, l)))
 
-number-at-requires : tie.Need-number-at-requires Inv-loop μ-loop
-number-at-requires c κs = search needs
+start-at-requires : tie.Need-start-at-requires Inv-loop μ-loop
+start-at-requires c κs = search needs
 
 cast-start : tie.Need-cast-start Inv-loop μ-loop
 cast-start c = search needs
 
-number-at-requires-2 : tie.Need-number-at-requires-2 Inv-loop μ-loop
-number-at-requires-2 c κs = search needs
+count-at-requires : tie.Need-count-at-requires Inv-loop μ-loop
+count-at-requires c κs = search needs
 
 cast-count : tie.Need-cast-count Inv-loop μ-loop
 cast-count c = search needs
@@ -44,8 +45,9 @@ bump-requires c κs =
 add-total : tie.Need-add-total Inv-loop μ-loop
 add-total c =
     let loop = c .before .before .before .before .before .loop in
+    let st = c .before .before .before .before .before .before .before in
     let if1 = c .before .if1 in
-    omega (arith, loop .inv .2, loop .inv .0, if1 .left)
+    omega (arith, loop .inv .2, loop .inv .0, if1 .left, st .pre)
 
 add-j : tie.Need-add-j Inv-loop μ-loop
 add-j c = search needs
@@ -55,16 +57,16 @@ loop-less c = search needs
 
 loop-again : tie.Need-loop-again Inv-loop μ-loop
 loop-again c =
-    let st = c .before .before .before .before .before .before .before .before in
+    let st = c .before .before .before .before .before .before .before in
     let loop = c .before .before .before .before .before .loop in
-    let number-at = c .before .before .before .number-at in
-    let number-at2 = c .before .before .number-at2 in
+    let start-at = c .before .before .before .start-at in
+    let count-at = c .before .before .count-at in
     let if1 = c .before .if1 in
     let bump = c .bump in (
       search needs,
       omega (arith, bump .ensures .1, loop .inv .1),
-      omega (arith, loop .inv .2, if1 .left),
-      ends-more (st .args .starts .now) (st .args .counts .now) (loop .j) _ _ (number-at .ensures) (number-at2
+      omega (arith, loop .inv .2, if1 .left, st .pre),
+      ends-more (startsIn (st .args .told .now)) (countsIn (st .args .told .now)) (st .args .places) (loop .j) _ _ (start-at .ensures) (count-at
           .ensures) (if1 .left) (loop .inv .3),
     )
 
@@ -99,9 +101,9 @@ list-work-spec =
     Inv-loop
     μ-loop
     loop-holds
-    number-at-requires
+    start-at-requires
     cast-start
-    number-at-requires-2
+    count-at-requires
     cast-count
     add-if1
     returns

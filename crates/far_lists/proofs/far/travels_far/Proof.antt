@@ -9,7 +9,7 @@ use Rattle.far_lists.proofs.far.travels_far.Tie as tie
 
 value-count-requires : tie.Need-value-count-requires
 value-count-requires c κs =
-    let st = c .before .before .before .before in
+    let st = c .before .before .before in
     st .pre .1
 
 returns : tie.Need-returns
@@ -25,12 +25,12 @@ returns-2 c =
 
 equality-count-requires : tie.Need-equality-count-requires
 equality-count-requires c κs =
-    let st = c .before .before .before .before .before .before .before .before in
+    let st = c .before .before .before .before .before .before .before in
     st .pre
 
 mul-result : tie.Need-mul-result
 mul-result c =
-    let st = c .before .before .before .before .before .before .before .before .before in
+    let st = c .before .before .before .before .before .before .before .before in
     let list-work = c .before .before .list-work in
     let equality-count = c .equality-count in
     let b = product-fits (list-work .result) (equality-count .result) (list-work .ensures .1) (omega (

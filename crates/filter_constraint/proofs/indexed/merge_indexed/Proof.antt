@@ -17,8 +17,8 @@ slice-aggregate-make-index c = search needs
 -- src/indexed.rt:63:5
 make-index-requires : tie.Need-make-index-requires
 make-index-requires c κs =
-    let st = c .before .before .before .before .before .before .before .before .before .before .before .before
-    .before .before .before .before .before .before .before .before in
+    let st = c .before .before .before .before .before .before .before .before .before .before .before .before .before
+    .before .before .before .before in
     ((st .pre .0 .4, length-replicate {A = ℕ} 24576 0), λ q. zero-array 24576 q)
 
 -- src/indexed.rt:76:9
@@ -28,9 +28,9 @@ slice-aggregate-merge-filter-constraints c = search needs
 -- src/indexed.rt:64:5
 merge-filter-constraints-requires : tie.Need-merge-filter-constraints-requires
 merge-filter-constraints-requires c κs =
-    let st = c .before .before .before .before .before .before .before .before .before .before .before .before
-    .before .before .before .before .before .before .before .before .before .before .before .before .before
-    .before .before .before .before .before .before in
+    let st = c .before .before .before .before .before .before .before .before .before .before .before .before .before
+    .before .before .before .before .before .before .before .before .before .before .before .before .before .before
+    .before in
     let make-index = c .before .before .before .before .before .before .before .before .before .before
     .make-index in
     ((st .pre .0 .0, st .pre .0 .1, st .pre .0 .2, st .pre .0 .3, make-index .ensures), st .pre .1)

@@ -18,8 +18,8 @@ use Rattle.filter_constraint.proofs.Concluding.{passesTo, passes-stoppe
 -- src/merged.rt:89:9
 collect-requires : tie.Need-collect-requires
 collect-requires c κs =
-    let st = c .before .before .before .before .before .before .before .before .before .before .before .before
-    .before .before .before .before .before .before .before .before .before .before in (
+    let st = c .before .before .before .before .before .before .before .before .before .before .before .before .before
+    .before .before .before .before .before .before in (
       (
         st .pre .0 .0,
         st .pre .0 .1,
@@ -71,10 +71,9 @@ same-length-7 c = search needs
 -- src/merged.rt:107:9
 returns : tie.Need-returns
 returns c =
-    let st = c .before .before .before .before .before .before .before .before .before .before .before .before
-    .before .before .before .before .before .before .before .before .before .before .before .before .before
-    .before .before .before .before .before .before .before .before .before .before .before .before .before
-    .before in
+    let st = c .before .before .before .before .before .before .before .before .before .before .before .before .before
+    .before .before .before .before .before .before .before .before .before .before .before .before .before .before
+    .before .before .before .before .before .before .before .before .before in
     let collect = c .before .before .before .before .before .before .before .before .before .before .before
     .before .before .before .before .before .collect in
     let if1 = c .before .if1 in
@@ -109,10 +108,9 @@ returns c =
 -- src/merged.rt:109:9
 propagate-equalities-requires : tie.Need-propagate-equalities-requires
 propagate-equalities-requires c κs =
-    let st = c .before .before .before .before .before .before .before .before .before .before .before .before
-    .before .before .before .before .before .before .before .before .before .before .before .before .before
-    .before .before .before .before .before .before .before .before .before .before .before .before .before
-    .before .before .before .before in
+    let st = c .before .before .before .before .before .before .before .before .before .before .before .before .before
+    .before .before .before .before .before .before .before .before .before .before .before .before .before .before
+    .before .before .before .before .before .before .before .before .before .before .before .before in
     let collect = c .before .before .before .before .before .before .before .before .before .before .before
     .before .before .before .before .before .before .before .before .collect in (
       (
@@ -123,8 +121,7 @@ propagate-equalities-requires c κs =
         },
         omega (
           arith,
-          collect .kept .1 .1 .1 .1 .1 .1 .1 .1 .1 .1 .1
-              .1 .0,
+          collect .kept .1 .1 .1 .1 .1 .1 .1 .1 .1 .0,
           st .pre .1 .0 .2,
           collect .ensures .1 .0,
           collect .ensures .1 .1,
@@ -135,7 +132,7 @@ propagate-equalities-requires c κs =
         ),
         omega (
           arith,
-          collect .kept .1 .1 .1 .1 .1 .1 .1 .1 .1 .1 .1 .1 .1 .0,
+          collect .kept .1 .1 .1 .1 .1 .1 .1 .1 .1 .1 .0,
           st .pre .1 .0
               .3,
           collect .ensures .1 .0,
@@ -156,10 +153,10 @@ propagate-equalities-requires c κs =
 -- src/merged.rt:123:9
 keep-equalities-requires : tie.Need-keep-equalities-requires
 keep-equalities-requires c κs =
-    let st = c .before .before .before .before .before .before .before .before .before .before .before .before
-    .before .before .before .before .before .before .before .before .before .before .before .before .before
-    .before .before .before .before .before .before .before .before .before .before .before .before .before
-    .before .before .before .before .before .before .before .before .before .before .before .before .before
+    let st = c .before .before .before .before .before .before .before .before .before .before .before .before .before
+    .before .before .before .before .before .before .before .before .before .before .before .before .before .before
+    .before .before .before .before .before .before .before .before .before .before .before .before .before .before
+    .before .before .before .before .before .before .before
     in
     let collect = c .before .before .before .before .before .before .before .before .before .before .before
     .before .before .before .before .before .before .before .before .before .before .before .before .before
@@ -170,8 +167,7 @@ keep-equalities-requires c κs =
         propagate-equalities .ensures .1 .size,
         omega (
           arith,
-          collect .kept .1 .1 .1 .1 .1 .1 .1 .1 .1 .1 .1 .1
-              .0,
+          collect .kept .1 .1 .1 .1 .1 .1 .1 .1 .1 .0,
           st .pre .1 .0 .2,
           collect .ensures .1 .0,
           collect .ensures .1 .1,
@@ -181,7 +177,7 @@ keep-equalities-requires c κs =
         ),
         omega (
           arith,
-          collect .kept .1 .1 .1 .1 .1 .1 .1 .1 .1 .1 .1 .1 .1 .1,
+          collect .kept .1 .1 .1 .1 .1 .1 .1 .1 .1 .1 .1,
           st .pre .1 .0 .4,
           collect .ensures .1 .0,
           collect .ensures .1 .1,
@@ -200,7 +196,7 @@ keep-equalities-requires c κs =
         ),
         omega (
           arith,
-          collect .kept .1 .1 .1 .1 .1 .1 .1 .1 .1 .1 .1 .0,
+          collect .kept .1 .1 .1 .1 .1 .1 .1 .1 .0,
           st .pre .1 .0 .1,
           collect
               .ensures .1 .1,
@@ -212,11 +208,10 @@ keep-equalities-requires c κs =
 -- src/merged.rt:124:9
 resolve-all-requires : tie.Need-resolve-all-requires
 resolve-all-requires c κs =
-    let st = c .before .before .before .before .before .before .before .before .before .before .before .before
-    .before .before .before .before .before .before .before .before .before .before .before .before .before
-    .before .before .before .before .before .before .before .before .before .before .before .before .before
-    .before .before .before .before .before .before .before .before .before .before .before .before .before
-    .before .before .before .before .before .before in
+    let st = c .before .before .before .before .before .before .before .before .before .before .before .before .before
+    .before .before .before .before .before .before .before .before .before .before .before .before .before .before
+    .before .before .before .before .before .before .before .before .before .before .before .before .before .before
+    .before .before .before .before .before .before .before .before .before .before .before .before .before in
     let collect = c .before .before .before .before .before .before .before .before .before .before .before
     .before .before .before .before .before .before .before .before .before .before .before .before .before
     .before .before .before .before .before .before .before .before .before .before .collect in
@@ -226,7 +221,7 @@ resolve-all-requires c κs =
         propagate-equalities .ensures .1,
         omega (
           arith,
-          collect .kept .1 .1 .1 .1 .1 .1 .1 .1 .1 .1 .0,
+          collect .kept .1 .1 .1 .1 .1 .1 .1 .0,
           st .pre
               .1 .0 .0,
           collect .ensures .1 .0,

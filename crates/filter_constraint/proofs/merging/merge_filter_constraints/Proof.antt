@@ -14,7 +14,7 @@ use Prim.Native.Nat.{ℕ, _+_, _*_, _-_, _≤_, _<_}
 use native.Mathlib.Omega.{arith}
 use lib.ListN.{length, getD, length-replicate}
 use Rattle.truth.specs.FromBytes.{aexprOf}
-use Rattle.column_constraints.specs.Abstraction.{conjuncts}
+use Rattle.column_constraints.specs.Abstraction.{conjuncts, valuesIn}
 use Rattle.read_operands.specs.Walk.{firstOf}
 use Rattle.column_table.specs.Words.{columnsOf}
 use Rattle.column_table.specs.State.{shown}
@@ -31,9 +31,8 @@ slice-aggregate-merge-columns c = search needs
 -- src/merging.rt:95:9
 merge-columns-requires : tie.Need-merge-columns-requires
 merge-columns-requires c κs =
-    let st = c .before .before .before .before .before .before .before .before .before .before .before .before
-    .before .before .before .before .before .before .before .before .before .before .before .before .before
-    .before .before .before in (
+    let st = c .before .before .before .before .before .before .before .before .before .before .before .before .before
+    .before .before .before .before .before .before .before .before .before .before .before .before in (
       (
         st .pre .0 .0,
         st .pre .0 .1,
@@ -49,10 +48,10 @@ merge-columns-requires c κs =
 -- src/merging.rt:114:28
 nothing-passes-requires : tie.Need-nothing-passes-requires
 nothing-passes-requires c κs =
-    let st = c .before .before .before .before .before .before .before .before .before .before .before .before
-    .before .before .before .before .before .before .before .before .before .before .before .before .before
-    .before .before .before .before .before .before .before .before .before .before .before .before .before
-    .before .before .before .before .before .before in
+    let st = c .before .before .before .before .before .before .before .before .before .before .before .before .before
+    .before .before .before .before .before .before .before .before .before .before .before .before .before .before
+    .before .before .before .before .before .before .before .before .before .before .before .before .before .before
+    in
     st .pre .0 .2
 
 -- src/merging.rt:114:9
@@ -90,22 +89,22 @@ same-length-7 c = search needs
 -- src/merging.rt:114:9
 returns : tie.Need-returns
 returns c =
-    let st = c .before .before .before .before .before .before .before .before .before .before .before .before
-    .before .before .before .before .before .before .before .before .before .before .before .before .before
-    .before .before .before .before .before .before .before .before .before .before .before .before .before
-    .before .before .before .before .before .before .before .before .before .before in
+    let st = c .before .before .before .before .before .before .before .before .before .before .before .before .before
+    .before .before .before .before .before .before .before .before .before .before .before .before .before .before
+    .before .before .before .before .before .before .before .before .before .before .before .before .before .before
+    .before .before .before .before in
     let merge-columns = c .before .before .before .before .before .before .before .before .before .before
     .before .before .before .before .before .before .before .before .before .merge-columns in
     let if1 = c .before .before .before .before .before .if1 in
     let nothing-passes = c .before .before .before .nothing-passes in
     let with-passes = c .with-passes in (
       ends-stopped (linedTo (aexprOf (st .args .rs .now) (st .args .p .now)) (st .args .nodes .now) (st .args
-          .n)) (conjuncts (st .args .kinds .now) (st .args .values .now) (st .args .starts .now) (st .args .counts
-          .now) (st .args .p .now)) (st .args .t .now) (st .args .rs .now) (st .args .trees .now) (st .args .nodes
-          .now) (st .args .bits .now) (st .args .own .now) (st .args .text .now) (st .args .reasons .now) (st .args
-          .used) (with-passes .result) _ (st .args .reasons .now) (merge-columns .last .1 .1 .1 .1 .1 .1 .1 .1 .1 .0)
-          (merge-columns .last .1 .1 .1 .1 .1 .1 .1 .1 .1 .1 .0) (merge-columns .last .1 .1 .1 .1 .1 .1 .1 .1 .1 .1 .1
-          .0) (merge-columns .last .1 .1 .1 .1 .1 .1 .1 .1 .1 .1 .1 .1 .0) (merge-columns .result .unsat)
+          .n)) (conjuncts (st .args .told .now) (st .args .p .now)) (st .args .t .now) (st .args .rs .now) (st .args
+          .trees .now) (st .args .nodes
+          .now) (valuesIn (st .args .bits .now)) (st .args .own .now) (st .args .text .now) (st .args .reasons .now) (st .args
+          .used) (with-passes .result) _ (st .args .reasons .now) (merge-columns .last .1 .1 .1 .1 .1 .1 .0)
+          (merge-columns .last .1 .1 .1 .1 .1 .1 .1 .0) (merge-columns .last .1 .1 .1 .1 .1 .1 .1 .1 .0) (merge-columns
+          .last .1 .1 .1 .1 .1 .1 .1 .1 .1 .0) (merge-columns .result .unsat)
           (merge-columns .result .unchanged) (merge-columns .result .columns) (merge-columns .result .keeps)
           (merge-columns .result .total) (merge-columns .ensures .0) (merge-columns .ensures .1 .1 .0) (merge-columns
           .ensures .1 .1 .4) (if1 .taken) (
@@ -158,22 +157,21 @@ same-length-14 c = search needs
 -- src/merging.rt:117:9
 returns-2 : tie.Need-returns-2
 returns-2 c =
-    let st = c .before .before .before .before .before .before .before .before .before .before .before .before
-    .before .before .before .before .before .before .before .before .before .before .before .before .before
-    .before .before .before .before .before .before .before .before .before .before .before .before .before
-    .before .before .before .before .before .before .before in
+    let st = c .before .before .before .before .before .before .before .before .before .before .before .before .before
+    .before .before .before .before .before .before .before .before .before .before .before .before .before .before
+    .before .before .before .before .before .before .before .before .before .before .before .before .before .before
+    .before in
     let merge-columns = c .before .before .before .before .before .before .before .before .before .before
     .before .before .before .before .before .before .merge-columns in
     let if1 = c .before .before .if1 in
     let with-passes2 = c .with-passes2 in
     let if2 = c .before .if2 in (
       ends-stayed (linedTo (aexprOf (st .args .rs .now) (st .args .p .now)) (st .args .nodes .now) (st .args .n))
-          (conjuncts (st .args .kinds .now) (st .args .values .now) (st .args .starts .now) (st .args .counts .now)
-          (st .args .p .now)) (st .args .t .now) (st .args .rs .now) (st .args .trees .now) (st .args .nodes .now) (st
-          .args .bits .now) (st .args .own .now) (st .args .text .now) (st .args .reasons .now) (st .args .used)
-          (with-passes2 .result) (st .args .rs .now) (st .args .reasons .now) (merge-columns .last .1 .1 .1 .1 .1 .1
-          .1 .1 .1 .0) (merge-columns .last .1 .1 .1 .1 .1 .1 .1 .1 .1 .1 .0) (merge-columns .last .1 .1 .1 .1 .1 .1
-          .1 .1 .1 .1 .1 .0) (merge-columns .last .1 .1 .1 .1 .1 .1 .1 .1 .1 .1 .1 .1 .0) (merge-columns .result
+          (conjuncts (st .args .told .now)
+          (st .args .p .now)) (st .args .t .now) (st .args .rs .now) (st .args .trees .now) (st .args .nodes .now) (valuesIn (st .args .bits .now)) (st .args .own .now) (st .args .text .now) (st .args .reasons .now) (st .args .used)
+          (with-passes2 .result) (st .args .rs .now) (st .args .reasons .now) (merge-columns .last .1 .1 .1 .1 .1 .1 .0)
+          (merge-columns .last .1 .1 .1 .1 .1 .1 .1 .0) (merge-columns .last .1 .1 .1 .1 .1 .1 .1 .1 .0)
+          (merge-columns .last .1 .1 .1 .1 .1 .1 .1 .1 .1 .0) (merge-columns .result
           .unsat) (merge-columns .result .unchanged) (merge-columns .result .columns) (merge-columns .result .keeps)
           (merge-columns .result .total) (merge-columns .ensures .0) (merge-columns .ensures .1 .1 .0) (merge-columns
           .ensures .1 .1 .4) (if1 .left) (if2 .taken) (
@@ -197,13 +195,13 @@ slice-aggregate-put-literals c = search needs
 -- src/merging.rt:119:5
 put-literals-requires : tie.Need-put-literals-requires
 put-literals-requires c κs =
-    let st = c .before .before .before .before .before .before .before .before .before .before .before .before
-    .before .before .before .before .before .before .before .before .before .before .before .before .before
-    .before .before .before .before .before .before .before .before .before .before .before .before .before
-    .before .before .before .before .before .before .before in
+    let st = c .before .before .before .before .before .before .before .before .before .before .before .before .before
+    .before .before .before .before .before .before .before .before .before .before .before .before .before .before
+    .before .before .before .before .before .before .before .before .before .before .before .before .before .before
+    .before in
     let merge-columns = c .before .before .before .before .before .before .before .before .before .before
     .before .before .before .before .before .before .merge-columns in
-    (st .pre .1 .1 .1 .1 .few, merge-columns .ensures .1 .1 .0 .size)
+    (st .pre .1 .1 .1 .1 .0 .few, merge-columns .ensures .1 .1 .0 .size)
 
 -- src/merging.rt:127:9
 slice-aggregate-rebuild : tie.Need-slice-aggregate-rebuild
@@ -212,11 +210,10 @@ slice-aggregate-rebuild c = search needs
 -- src/merging.rt:120:9
 rebuild-requires : tie.Need-rebuild-requires
 rebuild-requires c κs =
-    let st = c .before .before .before .before .before .before .before .before .before .before .before .before
-    .before .before .before .before .before .before .before .before .before .before .before .before .before
-    .before .before .before .before .before .before .before .before .before .before .before .before .before
-    .before .before .before .before .before .before .before .before .before .before .before .before .before
-    .before .before in
+    let st = c .before .before .before .before .before .before .before .before .before .before .before .before .before
+    .before .before .before .before .before .before .before .before .before .before .before .before .before .before
+    .before .before .before .before .before .before .before .before .before .before .before .before .before .before
+    .before .before .before .before .before .before .before .before .before in
     let merge-columns = c .before .before .before .before .before .before .before .before .before .before
     .before .before .before .before .before .before .before .before .before .before .before .before .before
     .before .merge-columns in
@@ -224,20 +221,19 @@ rebuild-requires c κs =
     let if2 = c .before .before .before .before .before .before .before .before .before .if2 in
     let put-literals = c .before .before .before .before .before .before .before .put-literals in (
       (
-        fits-converted (conjuncts (st .args .kinds .now) (st .args .values .now) (st .args .starts .now) (st
-            .args .counts .now) (st .args .p .now)) (st .args .t .now) (st .args .own .now) (st .args .nodes .now)
-            (merge-columns .last .1 .1 .1 .1 .1 .1 .1 .1 .1 .0) (put-literals .last .1 .1 .1 .0) (merge-columns .last .1
-            .1 .1 .1 .1 .1 .1 .1 .1 .1 .0) (merge-columns .ensures .1 .1 .0) (put-literals .ensures),
+        fits-converted (conjuncts (st .args .told .now) (st .args .p .now)) (st .args .t .now) (st .args .own .now) (st .args .nodes .now)
+            (merge-columns .last .1 .1 .1 .1 .1 .1 .0) (put-literals .last .1 .1 .1 .0) (merge-columns .last .1 .1 .1 .1
+            .1 .1 .1 .0) (merge-columns .ensures .1 .1 .0) (put-literals .ensures),
         omega (
           arith,
-          merge-columns .kept .1 .1 .1 .1 .1 .1 .1 .1 .1 .1 .1 .0,
+          merge-columns .kept .1 .1 .1 .1 .1 .1 .1 .1 .0,
           st .pre .1 .0 .0,
           merge-columns .ensures .1 .1 .1,
         ),
         omega (arith, merge-columns .ensures .1 .1 .1, st .pre .0 .0, st .pre .0 .1),
         omega (
           arith,
-          merge-columns .kept .1 .1 .1 .1 .1 .1 .1 .1 .1 .1 .1 .1 .0,
+          merge-columns .kept .1 .1 .1 .1 .1 .1 .1 .1 .1 .0,
           st .pre .1 .0 .1,
           merge-columns .ensures .1 .1
               .2,
@@ -253,13 +249,13 @@ rebuild-requires c κs =
       (
         (λ o h.
             merge-columns .ensures .1 .1 .4 o h),
-        λ s ek ev. st .pre .1 .1 .1 .1 .counts (merge-columns .last .1 .1 .1
-            .1 .1 .1 .1 .1 .1 .0) (put-literals .last .1 .1 .1 .0) (merge-columns .last .1 .1 .1 .1 .1 .1 .1 .1 .1 .1
-            .0) (merge-columns .last .1 .1 .1 .1 .1 .1 .1 .1 .1 .1 .1 .0) (merge-columns .last .1 .1 .1 .1 .1 .1 .1 .1
-            .1 .1 .1 .1 .0) (merge-columns .result .unsat) (merge-columns .result .unchanged) (merge-columns .result
+        λ s ek ev. st .pre .1 .1 .1 .1 .0 .counts (merge-columns .last .1 .1 .1 .1 .1 .1 .0) (put-literals .last .1 .1 .1
+            .0) (merge-columns .last .1 .1 .1 .1 .1 .1 .1 .0) (merge-columns .last .1 .1 .1 .1 .1 .1 .1 .1 .0)
+            (merge-columns .last .1 .1 .1 .1 .1 .1 .1 .1 .1 .0) (merge-columns .result .unsat) (merge-columns .result
+            .unchanged) (merge-columns .result
             .columns) (merge-columns .result .keeps) (merge-columns .result .total) (merge-columns .ensures .0)
             (merge-columns .ensures .1 .1 .0) (if1 .left) (if2 .left) (merge-columns .ensures .1 .1 .4) (put-literals
-            .ensures) s ek ev,
+            .ensures) s (ek ∙ st .pre .1 .1 .1 .1 .1) ev,
       ),
     )
 
@@ -319,11 +315,11 @@ same-length-22 c = search needs
 -- src/merging.rt:55:1
 returns-3 : tie.Need-returns-3
 returns-3 c =
-    let st = c .before .before .before .before .before .before .before .before .before .before .before .before
-    .before .before .before .before .before .before .before .before .before .before .before .before .before
-    .before .before .before .before .before .before .before .before .before .before .before .before .before
-    .before .before .before .before .before .before .before .before .before .before .before .before .before
-    .before .before .before .before .before .before .before .before in
+    let st = c .before .before .before .before .before .before .before .before .before .before .before .before .before
+    .before .before .before .before .before .before .before .before .before .before .before .before .before .before
+    .before .before .before .before .before .before .before .before .before .before .before .before .before .before
+    .before .before .before .before .before .before .before .before .before .before .before .before .before .before
+    .before in
     let merge-columns = c .before .before .before .before .before .before .before .before .before .before
     .before .before .before .before .before .before .before .before .before .before .before .before .before
     .before .before .before .before .before .before .before .merge-columns in
@@ -336,22 +332,22 @@ returns-3 c =
     let rebuild = c .before .before .before .before .before .rebuild in
     let with-passes3 = c .with-passes3 in (
       ends-chained (linedTo (aexprOf (st .args .rs .now) (st .args .p .now)) (st .args .nodes .now) (st .args
-          .n)) (conjuncts (st .args .kinds .now) (st .args .values .now) (st .args .starts .now) (st .args .counts
-          .now) (st .args .p .now)) (st .args .t .now) (st .args .rs .now) (st .args .trees .now) (st .args .nodes
-          .now) (st .args .bits .now) (st .args .own .now) (st .args .text .now) (st .args .reasons .now) (st .args
-          .used) (with-passes3 .result) _ _ (merge-columns .last .1 .1 .1 .1 .1 .1 .1 .1 .1 .0) (merge-columns .last
-          .1 .1 .1 .1 .1 .1 .1 .1 .1 .1 .0) (merge-columns .last .1 .1 .1 .1 .1 .1 .1 .1 .1 .1 .1 .0) (merge-columns
-          .last .1 .1 .1 .1 .1 .1 .1 .1 .1 .1 .1 .1 .0) (merge-columns .result .unsat) (merge-columns .result
+          .n)) (conjuncts (st .args .told .now) (st .args .p .now)) (st .args .t .now) (st .args .rs .now) (st .args
+          .trees .now) (st .args .nodes
+          .now) (valuesIn (st .args .bits .now)) (st .args .own .now) (st .args .text .now) (st .args .reasons .now) (st .args
+          .used) (with-passes3 .result) _ _ (merge-columns .last .1 .1 .1 .1 .1 .1 .0) (merge-columns .last .1 .1 .1 .1
+          .1 .1 .1 .0) (merge-columns .last .1 .1 .1 .1 .1 .1 .1 .1 .0) (merge-columns .last .1 .1 .1 .1 .1 .1 .1 .1
+          .1 .0) (merge-columns .result .unsat) (merge-columns .result
           .unchanged) (merge-columns .result .columns) (merge-columns .result .keeps) (merge-columns .result .total)
           (merge-columns .ensures .0) (merge-columns .ensures .1 .1 .0) (merge-columns .ensures .1 .1 .4)
           (put-literals .last .1 .1 .1 .0) (if1 .left) (if2 .left) (put-literals .ensures) (λ u ek ev. chained (st
           .args .t .now) (st .args .rs .now) (st .args .trees .now) (st .args .text .now) (st .args .reasons .now) (st
-          .args .used) (firstOf (merge-columns .last .1 .1 .1 .1 .1 .1 .1 .1 .1 .1 .1 .1 .0) (merge-columns .result
-          .keeps)) (firstOf (merge-columns .last .1 .1 .1 .1 .1 .1 .1 .1 .1 .1 .1 .0) (merge-columns .result
+          .args .used) (firstOf (merge-columns .last .1 .1 .1 .1 .1 .1 .1 .1 .1 .0) (merge-columns .result
+          .keeps)) (firstOf (merge-columns .last .1 .1 .1 .1 .1 .1 .1 .1 .0) (merge-columns .result
           .columns)) (merge-columns .result .total) (shown u (columnsOf (put-literals .last .1 .1 .1 .0))
-          (merge-columns .last .1 .1 .1 .1 .1 .1 .1 .1 .1 .1 .0)) _ _ (with-passes3 .result) _ _ (with-passes3
-          .ensures .0) (with-passes3 .ensures .1 .1) (rebuild .ensures .0 u ek ev) (rebuild .ensures .1 .0 u ek ev)
-          (rebuild .ensures .1 .1 .0 u ek ev) (rebuild .ensures .1 .1 .1 u ek ev)),
+          (merge-columns .last .1 .1 .1 .1 .1 .1 .1 .0)) _ _ (with-passes3 .result) _ _ (with-passes3
+          .ensures .0) (with-passes3 .ensures .1 .1) (rebuild .ensures .0 u (ek ∙ sym (st .pre .1 .1 .1 .1 .1)) ev) (rebuild .ensures .1 .0 u (ek ∙ sym (st .pre .1 .1 .1 .1 .1)) ev)
+          (rebuild .ensures .1 .1 .0 u (ek ∙ sym (st .pre .1 .1 .1 .1 .1)) ev) (rebuild .ensures .1 .1 .1 u (ek ∙ sym (st .pre .1 .1 .1 .1 .1)) ev)),
       with-passes3 .ensures .1 .0 ∙
           merge-columns .ensures .1 .0,
     )

@@ -15,7 +15,7 @@ use Prim.Native.Nat.{ℕ, _+_, _-_, _*_, _≤_, _<_}
 use native.Mathlib.Omega.{arith}
 use lib.ListN.{length}
 use Rattle.constraints.specs.Lined.{lined}
-use Rattle.column_constraints.specs.Abstraction.{Conjuncts, conjuncts}
+use Rattle.column_constraints.specs.Abstraction.{Conjuncts}
 use Rattle.column_reasons.specs.ColumnText.{tableText}
 use Rattle.merge.specs.Reasons.{shownIn}
 use Rattle.merge.specs.Write.{splice}
@@ -29,6 +29,7 @@ use Rattle.reckoning.specs.Reckon.{reckoned}
 use Rattle.reckoning.specs.Rewritten.{isRewritten}
 use Rattle.filter_constraint.proofs.Concluding.{chain-refused, chain-room, chain-answered, ands-asked}
 use Rattle.filter_constraint.proofs.Explained.{kept-answer, kept-text, kept-length, long-answer, fitting-answer, fitting-text, fitting-length}
+use Rattle.column_constraints.specs.Abstraction.{kindsIn, valuesIn, conjunctsOf}
 
 -- src/rebuild.rt:72:9
 rebuilt-answer-requires : tie.Need-rebuilt-answer-requires
@@ -41,8 +42,7 @@ is-rewritten-requires c κs = search needs
 -- src/rebuild.rt:74:9
 returns : tie.Need-returns
 returns c =
-    let st = c .before .before .before .before .before .before .before .before .before .before .before .before
-    .before .before in
+    let st = c .before .before .before .before .before .before .before .before .before .before .before .before .before in
     let rebuilt-answer = c .before .before .rebuilt-answer in
     let is-rewritten = c .before .is-rewritten in
     let if1 = c .if1 in
@@ -78,8 +78,7 @@ reasons-length-requires c κs = search needs
 -- src/rebuild.rt:81:9
 returns-2 : tie.Need-returns-2
 returns-2 c =
-    let st = c .before .before .before .before .before .before .before .before .before .before .before .before
-    .before .before .before .before in
+    let st = c .before .before .before .before .before .before .before .before .before .before .before .before .before .before .before in
     let rebuilt-answer = c .before .before .before .before .rebuilt-answer in
     let is-rewritten = c .before .before .before .is-rewritten in
     let reasons-length = c .before .reasons-length in
@@ -102,8 +101,8 @@ returns-2 c =
 -- src/rebuild.rt:86:9
 write-comparisons-requires : tie.Need-write-comparisons-requires
 write-comparisons-requires c κs =
-    let st = c .before .before .before .before .before .before .before .before .before .before .before .before
-    .before .before .before .before .before in
+    let st = c .before .before .before .before .before .before .before .before .before .before .before .before .before
+    .before .before .before in
     let rebuilt-answer = c .before .before .before .before .before .rebuilt-answer in
     let is-rewritten = c .before .before .before .before .is-rewritten in
     let if1 = c .before .before .before .if1 in (
@@ -125,20 +124,21 @@ write-comparisons-requires c κs =
 -- src/rebuild.rt:87:39
 add-write-ands : tie.Need-add-write-ands
 add-write-ands c =
-    let st = c .before .before .before .before .before .before .before .before .before .before .before .before .before .before .before .before .before .before .before .before .before in
+    let st = c .before .before .before .before .before .before .before .before .before .before .before .before .before
+    .before .before .before .before .before .before .before in
     omega (arith, st .pre .0 .4, st .pre .0 .6)
 
 -- src/rebuild.rt:87:5
 write-ands-requires : tie.Need-write-ands-requires
 write-ands-requires c κs =
-    let st = c .before .before .before .before .before .before .before .before .before .before .before .before
-    .before .before .before .before .before .before .before .before .before in
+    let st = c .before .before .before .before .before .before .before .before .before .before .before .before .before
+    .before .before .before .before .before .before .before in
     let rebuilt-answer = c .before .before .before .before .before .before .before .before .before
     .rebuilt-answer in
     let is-rewritten = c .before .before .before .before .before .before .before .before .is-rewritten in
     let if1 = c .before .before .before .before .before .before .before .if1 in
     let write-comparisons = c .before .before .before .write-comparisons in
-    let s0 = conjuncts (st .args .kinds .now) (st .args .values .now) [] [] [] in
+    let s0 = conjunctsOf (kindsIn (st .args .told .now)) (valuesIn (st .args .told .now)) [] [] [] in
     let room = chain-room (st .args .t .now) (st .args .rs .now) (st .args .trees .now) (st .args .used) (st
     .args .kept .now) (st .args .keeps) (st .args .total) (comparisons lined (firstOf (st .args .order .now)
     (st .args .columns)) (shown s0 (columnsOf (st .args .cells .now)) (st .args .marks .now))) _
@@ -152,8 +152,8 @@ write-ands-requires c κs =
 -- src/rebuild.rt:88:5
 write-reasons-requires : tie.Need-write-reasons-requires
 write-reasons-requires c κs =
-    let st = c .before .before .before .before .before .before .before .before .before .before .before .before
-    .before .before .before .before .before .before .before .before .before .before .before .before .before
+    let st = c .before .before .before .before .before .before .before .before .before .before .before .before .before
+    .before .before .before .before .before .before .before .before .before .before .before
     in
     let reasons-length = c .before .before .before .before .before .before .before .before .before .before
     .reasons-length in
@@ -181,9 +181,9 @@ same-length-2 c = search needs
 -- src/rebuild.rt:33:1
 returns-3 : tie.Need-returns-3
 returns-3 c =
-    let st = c .before .before .before .before .before .before .before .before .before .before .before .before
-    .before .before .before .before .before .before .before .before .before .before .before .before .before
-    .before .before .before in
+    let st = c .before .before .before .before .before .before .before .before .before .before .before .before .before
+    .before .before .before .before .before .before .before .before .before .before .before .before .before .before
+    in
     let rebuilt-answer = c .before .before .before .before .before .before .before .before .before .before
     .before .before .before .before .before .before .rebuilt-answer in
     let is-rewritten = c .before .before .before .before .before .before .before .before .before .before .before

@@ -18,12 +18,12 @@ use Rattle.judge_lines.proofs.LeftOut.{at-set, line-helps, set-back, tr
 use borrow.Author.Needs.{needs}
 
 abbrev Inv-loop : tie.InvT-loop
-Inv-loop rs p nodes₀ n kinds values starts counts index marks₀ i₀ nodes marks i =
+Inv-loop rs p nodes₀ n told index marks₀ i₀ nodes marks i =
     (i ≤ n) × (nodes ≡ nodes₀) × (firstTrue (λ (k : ℕ). not (nothingPasses (aexprOf rs p) (without k (firstOf
     nodes₀ n)))) i ≡ i) × (length marks ≡ length marks₀)
 
 abbrev μ-loop : tie.MeasureT-loop
-μ-loop rs p nodes₀ n kinds values starts counts index marks₀ i₀ nodes marks i =
+μ-loop rs p nodes₀ n told index marks₀ i₀ nodes marks i =
     n - i
 
 -- src/lines.rt:43:5
@@ -38,7 +38,7 @@ mul-node c = search needs
 -- src/lines.rt:44:20
 slice-read-node : tie.Need-slice-read-node Inv-loop μ-loop
 slice-read-node c =
-    let st = c .before .before .before .before .before .before .before .before .before .before .before .before
+    let st = c .before .before .before .before .before .before .before .before .before
     in
     let l1 = c .before .before .loop in
     let t1 = c .before .loop-test in
@@ -52,7 +52,7 @@ mul-nodes c = search needs
 -- src/lines.rt:45:9
 slice-write-nodes : tie.Need-slice-write-nodes Inv-loop μ-loop
 slice-write-nodes c =
-    let st = c .before .before .before .before .before .before .before .before .before .before .before .before
+    let st = c .before .before .before .before .before .before .before .before .before
     in
     let l1 = c .before .before .loop in
     let t1 = c .before .loop-test in
@@ -62,8 +62,7 @@ slice-write-nodes c =
 -- src/lines.rt:46:13
 lets-nothing-pass-requires : tie.Need-lets-nothing-pass-requires Inv-loop μ-loop
 lets-nothing-pass-requires c κs =
-    let st = c .before .before .before .before .before .before .before .before .before .before .before .before
-    .before .before in
+    let st = c .before .before .before .before .before .before .before .before .before .before .before in
     let l1 = c .before .before .before .before .loop in
     let t1 = c .before .before .before .loop-test in
     let z = ap length (l1 .inv .1) in
@@ -80,8 +79,7 @@ lets-nothing-pass-requires c κs =
         st .pre .0 .3,
       ),
       (
-        at-set (λ j x. ToldConjunct (conjuncts
-            (st .args .kinds .now) (st .args .values .now) (st .args .starts .now) (st .args .counts .now) (st .args .p
+        at-set (λ j x. ToldConjunct (conjuncts (st .args .told .now) (st .args .p
             .now)) j x) (aexprOf (st .args .rs .now) (st .args .p .now)) (l1 .nodes) (st .args .nodes .now) (l1 .i) (st
             .args .n) (l1 .inv .1) (st .pre .1 .1 .1) (λ j. tt) (st .pre .1 .0) k,
         at-set (λ j x. ColumnsBelow 64 x)
@@ -97,8 +95,7 @@ mul-nodes-2 c = search needs
 -- src/lines.rt:58:9
 slice-write-nodes-2 : tie.Need-slice-write-nodes-2 Inv-loop μ-loop
 slice-write-nodes-2 c =
-    let st = c .before .before .before .before .before .before .before .before .before .before .before .before
-    .before .before .before .before .before in
+    let st = c .before .before .before .before .before .before .before .before .before .before .before .before .before .before in
     let l1 = c .before .before .before .before .before .before .before .loop in
     let t1 = c .before .before .before .before .before .before .loop-test in
     let z = ap length (l1 .inv .1) in
@@ -117,8 +114,7 @@ same-length-2 c = search needs
 -- src/lines.rt:60:13
 returns : tie.Need-returns Inv-loop μ-loop
 returns c =
-    let st = c .before .before .before .before .before .before .before .before .before .before .before .before
-    .before .before .before .before .before .before in
+    let st = c .before .before .before .before .before .before .before .before .before .before .before .before .before .before .before in
     let l1 = c .before .before .before .before .before .before .before .before .loop in
     let t1 = c .before .before .before .before .before .before .before .loop-test in
     let lets-nothing-pass = c .before .before .before .lets-nothing-pass in
@@ -138,8 +134,7 @@ loop-less c = search needs
 -- src/lines.rt:43:5
 loop-again : tie.Need-loop-again Inv-loop μ-loop
 loop-again c =
-    let st = c .before .before .before .before .before .before .before .before .before .before .before .before
-    .before .before .before .before .before .before in
+    let st = c .before .before .before .before .before .before .before .before .before .before .before .before .before .before .before in
     let l1 = c .before .before .before .before .before .before .before .before .loop in
     let t1 = c .before .before .before .before .before .before .before .loop-test in
     let lets-nothing-pass = c .before .before .before .lets-nothing-pass in

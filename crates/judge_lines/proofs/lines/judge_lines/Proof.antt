@@ -25,8 +25,7 @@ same-length-2 c = search needs
 -- src/lines.rt:89:9
 returns : tie.Need-returns
 returns c =
-    let st = c .before .before .before .before .before .before .before .before .before .before .before .before
-    .before .before .before in
+    let st = c .before .before .before .before .before .before .before .before .before .before .before .before in
     let lets-nothing-pass = c .before .before .before .lets-nothing-pass in
     let if1 = c .if1 in
     line-passes (aexprOf (st .args .rs .now) (st .args .p .now)) (st .args .nodes .now) (st .args .n) _
@@ -35,8 +34,7 @@ returns c =
 -- src/lines.rt:91:9
 first-line-requires : tie.Need-first-line-requires
 first-line-requires c κs =
-    let st = c .before .before .before .before .before .before .before .before .before .before .before .before
-    .before .before .before .before .before in
+    let st = c .before .before .before .before .before .before .before .before .before .before .before .before .before .before in
     let marks = c .before .before .before .before .marks in (
       (
         omega (arith, marks .given, st .pre .0 .0),
@@ -59,8 +57,8 @@ same-length-4 c = search needs
 -- src/lines.rt:93:9
 returns-2 : tie.Need-returns-2
 returns-2 c =
-    let st = c .before .before .before .before .before .before .before .before .before .before .before .before
-    .before .before .before .before .before .before .before .before .before .before .before in
+    let st = c .before .before .before .before .before .before .before .before .before .before .before .before .before
+    .before .before .before .before .before .before .before in
     let lets-nothing-pass = c .before .before .before .before .before .before .before .before .before .before
     .before .lets-nothing-pass in
     let if1 = c .before .before .before .before .before .before .before .before .if1 in
@@ -80,8 +78,8 @@ same-length-6 c = search needs
 -- src/lines.rt:68:1
 returns-3 : tie.Need-returns-3
 returns-3 c =
-    let st = c .before .before .before .before .before .before .before .before .before .before .before .before
-    .before .before .before .before .before .before .before .before .before .before .before in
+    let st = c .before .before .before .before .before .before .before .before .before .before .before .before .before
+    .before .before .before .before .before .before .before in
     let lets-nothing-pass = c .before .before .before .before .before .before .before .before .before .before
     .before .lets-nothing-pass in
     let if1 = c .before .before .before .before .before .before .before .before .if1 in

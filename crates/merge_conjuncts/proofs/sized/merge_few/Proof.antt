@@ -12,74 +12,49 @@ use Rattle.checking.proofs.Accepted.{checked, checked-used}
 use Rattle.reading.proofs.Screens.{node-columns}
 use Rattle.merge_conjuncts.proofs.Merged.{rewrite-merged}
 
--- src/sized.rt:147:9
+-- src/sized.rt:138:33
 slice-aggregate-read-literals : tie.Need-slice-aggregate-read-literals
 slice-aggregate-read-literals c = search needs
 
--- src/sized.rt:148:9
-slice-aggregate-read-literals-2 : tie.Need-slice-aggregate-read-literals-2
-slice-aggregate-read-literals-2 c = search needs
-
--- src/sized.rt:149:9
-slice-aggregate-read-literals-3 : tie.Need-slice-aggregate-read-literals-3
-slice-aggregate-read-literals-3 c = search needs
-
--- src/sized.rt:150:9
-slice-aggregate-read-literals-4 : tie.Need-slice-aggregate-read-literals-4
-slice-aggregate-read-literals-4 c = search needs
-
--- src/sized.rt:143:5
+-- src/sized.rt:138:5
 read-literals-requires : tie.Need-read-literals-requires
 read-literals-requires c κs = search needs
 
--- src/sized.rt:160:9
+-- src/sized.rt:147:9
 slice-aggregate-merge-few-read : tie.Need-slice-aggregate-merge-few-read
 slice-aggregate-merge-few-read c = search needs
 
--- src/sized.rt:161:9
+-- src/sized.rt:148:9
 slice-aggregate-merge-few-read-2 : tie.Need-slice-aggregate-merge-few-read-2
 slice-aggregate-merge-few-read-2 c = search needs
 
--- src/sized.rt:162:9
+-- src/sized.rt:149:9
 slice-aggregate-merge-few-read-3 : tie.Need-slice-aggregate-merge-few-read-3
 slice-aggregate-merge-few-read-3 c = search needs
 
--- src/sized.rt:163:9
+-- src/sized.rt:150:9
 slice-aggregate-merge-few-read-4 : tie.Need-slice-aggregate-merge-few-read-4
 slice-aggregate-merge-few-read-4 c = search needs
 
--- src/sized.rt:164:9
+-- src/sized.rt:151:9
 slice-aggregate-merge-few-read-5 : tie.Need-slice-aggregate-merge-few-read-5
 slice-aggregate-merge-few-read-5 c = search needs
 
--- src/sized.rt:165:9
+-- src/sized.rt:152:9
 slice-aggregate-merge-few-read-6 : tie.Need-slice-aggregate-merge-few-read-6
 slice-aggregate-merge-few-read-6 c = search needs
 
--- src/sized.rt:166:9
+-- src/sized.rt:153:9
 slice-aggregate-merge-few-read-7 : tie.Need-slice-aggregate-merge-few-read-7
 slice-aggregate-merge-few-read-7 c = search needs
 
--- src/sized.rt:167:9
-slice-aggregate-merge-few-read-8 : tie.Need-slice-aggregate-merge-few-read-8
-slice-aggregate-merge-few-read-8 c = search needs
-
--- src/sized.rt:168:9
-slice-aggregate-merge-few-read-9 : tie.Need-slice-aggregate-merge-few-read-9
-slice-aggregate-merge-few-read-9 c = search needs
-
--- src/sized.rt:169:9
-slice-aggregate-merge-few-read-10 : tie.Need-slice-aggregate-merge-few-read-10
-slice-aggregate-merge-few-read-10 c = search needs
-
--- src/sized.rt:152:5
+-- src/sized.rt:139:5
 merge-few-read-requires : tie.Need-merge-few-read-requires
 merge-few-read-requires c κs =
     let st = c .before .before .before .before .before .before .before .before .before .before .before .before
-    .before .before .before .before .before .before .before .before .before .before .before .before .before
-    .before .before .before in
+    .before .before .before .before .before .before .before in
     let read-literals = c .before .before .before .before .before .before .before .before .before .before
-    .before .before .before .before .before .before .read-literals in
+    .read-literals in
     let ok = checked (st .args .t .now) (st .args .rs .now) (st .args .p .now) (st .args .used) (st .args .root
     .0) (st .pre .0) in
     let z = length-replicate {A = ℕ} 1024 0 in (
@@ -117,29 +92,28 @@ merge-few-read-requires c κs =
           ),
         ),
         (
-          (λ i h. read-literals .ensures (st .args .p .now) i h),
-          node-columns (st
-              .args .t .now) (st .args .rs .now) (st .args .p .now) (st .args .used) (st .args .root .0) ok (st .args
+          (λ i h. read-literals .ensures .0 (st .args .p .now) i h),
+          node-columns
+              (st .args .t .now) (st .args .rs .now) (st .args .p .now) (st .args .used) (st .args .root .0) ok (st .args
               .nodes .now) (st .args .n) (st .pre .1 .1 .1 .0),
         ),
       ),
     )
 
--- src/sized.rt:107:1
+-- src/sized.rt:105:1
 same-length : tie.Need-same-length
 same-length c = search needs
 
--- src/sized.rt:107:1
+-- src/sized.rt:105:1
 same-length-2 : tie.Need-same-length-2
 same-length-2 c = search needs
 
--- src/sized.rt:107:1
+-- src/sized.rt:105:1
 returns : tie.Need-returns
 returns c =
     let st = c .before .before .before .before .before .before .before .before .before .before .before .before
     .before .before .before .before .before .before .before .before .before .before .before .before .before
-    .before .before .before .before .before .before .before .before .before .before .before .before .before
-    .before in
+    .before .before .before .before .before in
     let merge-few-read = c .before .before .before .before .before .before .before .before .before .before
     .merge-few-read in
     rewrite-merged (st .args .t .now) (st .args .rs .now) (st .args .p .now) (st .args .used) (st .args .root
@@ -152,9 +126,6 @@ merge-few-spec =
     tie.close
     (tie.spec
     slice-aggregate-read-literals
-    slice-aggregate-read-literals-2
-    slice-aggregate-read-literals-3
-    slice-aggregate-read-literals-4
     read-literals-requires
     slice-aggregate-merge-few-read
     slice-aggregate-merge-few-read-2
@@ -163,9 +134,6 @@ merge-few-spec =
     slice-aggregate-merge-few-read-5
     slice-aggregate-merge-few-read-6
     slice-aggregate-merge-few-read-7
-    slice-aggregate-merge-few-read-8
-    slice-aggregate-merge-few-read-9
-    slice-aggregate-merge-few-read-10
     merge-few-read-requires
     same-length
     same-length-2

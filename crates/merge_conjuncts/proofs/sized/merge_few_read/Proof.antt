@@ -12,6 +12,7 @@ use native.Mathlib.Omega.{arith}
 use lib.ListN.{length-replicate}
 use Rattle.filter_constraint.proofs.Explained.{numbers-count, numbers-merged}
 use Rattle.far_lists.proofs.Sizes.{no-index}
+use Rattle.column_constraints.specs.Abstraction.{kindsIn, valuesIn, startsIn, countsIn}
 
 -- src/sized.rt:60:8
 travels-far-requires : tie.Need-travels-far-requires
@@ -28,9 +29,8 @@ slice-aggregate-merge-indexed-2 c = search needs
 -- src/sized.rt:61:9
 merge-indexed-requires : tie.Need-merge-indexed-requires
 merge-indexed-requires c κs =
-    let st = c .before .before .before .before .before .before .before .before .before .before .before .before
-    .before .before .before .before .before .before .before .before .before .before .before .before .before
-    .before .before .before .before in
+    let st = c .before .before .before .before .before .before .before .before .before .before .before .before .before
+    .before .before .before .before .before .before .before .before .before .before .before .before .before in
     let travels-far = c .before .before .before .before .before .before .before .before .before .before .before
     .travels-far in
     let if1 = c .before .before .before .before .before .before .before .before .before .before .if1 in (
@@ -38,7 +38,7 @@ merge-indexed-requires c κs =
       (
         st .pre
             .1 .0,
-        (st .pre .1 .1 .0, (st .pre .1 .1 .1, numbers-count _ _ _ _ _ refl)),
+        (st .pre .1 .1 .0, (st .pre .1 .1 .1, (numbers-count _ _ _ _ _ refl, refl))),
       ),
     )
 
@@ -77,15 +77,16 @@ same-length-8 c = search needs
 -- src/sized.rt:61:9
 returns : tie.Need-returns
 returns c =
-    let st = c .before .before .before .before .before .before .before .before .before .before .before .before
-    .before .before .before .before .before .before .before .before .before .before .before .before .before
-    .before .before .before .before .before .before .before .before .before .before .before .before .before
-    .before .before .before .before .before .before .before .before in
+    let st = c .before .before .before .before .before .before .before .before .before .before .before .before .before
+    .before .before .before .before .before .before .before .before .before .before .before .before .before .before
+    .before .before .before .before .before .before .before .before .before .before .before .before .before .before
+    .before .before in
     let merge-indexed = c .before .before .before .before .before .before .before .before .before .before
     .before .before .before .before .before .before .merge-indexed in
     let f = numbers-merged (st .args .t .now) (st .args .rs .now) (st .args .p .now) (st .args .trees .now) (st
-    .args .used) (st .args .nodes .now) (st .args .n) (st .args .kinds .now) (st .args .values .now) (st
-    .args .starts .now) (st .args .counts .now) (st .args .reasons .now) (merge-indexed .result) _ _
+    .args .used) (st .args .nodes .now) (st .args .n) (kindsIn (st .args .told .now)) (valuesIn (st .args .told .now))
+    (startsIn (st .args .told .now)) (countsIn (st .args .told .now)) (st .args .reasons .now) (merge-indexed
+    .result) _ _
     (merge-indexed .ensures .0) (merge-indexed .ensures .1) in
     record {
       answers = f .0;
@@ -111,15 +112,15 @@ slice-aggregate-merge-filter-constraints-3 c = search needs
 -- src/sized.rt:86:5
 merge-filter-constraints-requires : tie.Need-merge-filter-constraints-requires
 merge-filter-constraints-requires c κs =
-    let st = c .before .before .before .before .before .before .before .before .before .before .before .before
-    .before .before .before .before .before .before .before .before .before .before .before .before .before
-    .before .before .before .before .before in (
+    let st = c .before .before .before .before .before .before .before .before .before .before .before .before .before
+    .before .before .before .before .before .before .before .before .before .before .before .before .before .before
+    in (
       (
         st .pre .0 .0,
         st .pre .0 .1,
         st .pre .0 .2,
         st .pre .0 .3,
-        no-index _ _ _ _ (omega (
+        no-index _ _ _ (omega (
           arith,
           length-replicate {A = ℕ} 1 0,
         )),
@@ -130,8 +131,7 @@ merge-filter-constraints-requires c κs =
           st .pre .1 .1 .0,
           (
             st .pre .1 .1 .1,
-            numbers-count
-                _ _ _ _ _ refl,
+            (numbers-count _ _ _ _ _ refl, refl),
           ),
         ),
       ),
@@ -172,15 +172,16 @@ same-length-16 c = search needs
 -- src/sized.rt:31:1
 returns-2 : tie.Need-returns-2
 returns-2 c =
-    let st = c .before .before .before .before .before .before .before .before .before .before .before .before
-    .before .before .before .before .before .before .before .before .before .before .before .before .before
-    .before .before .before .before .before .before .before .before .before .before .before .before .before
-    .before .before .before .before .before .before .before .before .before in
+    let st = c .before .before .before .before .before .before .before .before .before .before .before .before .before
+    .before .before .before .before .before .before .before .before .before .before .before .before .before .before
+    .before .before .before .before .before .before .before .before .before .before .before .before .before .before
+    .before .before .before in
     let merge-filter-constraints = c .before .before .before .before .before .before .before .before .before
     .before .before .before .before .before .before .before .merge-filter-constraints in
     let f = numbers-merged (st .args .t .now) (st .args .rs .now) (st .args .p .now) (st .args .trees .now) (st
-    .args .used) (st .args .nodes .now) (st .args .n) (st .args .kinds .now) (st .args .values .now) (st
-    .args .starts .now) (st .args .counts .now) (st .args .reasons .now) (merge-filter-constraints .result)
+    .args .used) (st .args .nodes .now) (st .args .n) (kindsIn (st .args .told .now)) (valuesIn (st .args .told .now))
+    (startsIn (st .args .told .now)) (countsIn (st .args .told .now)) (st .args .reasons .now)
+    (merge-filter-constraints .result)
     _ _ (merge-filter-constraints .ensures .0) (merge-filter-constraints .ensures .1) in
     record {
       answers = f .0;

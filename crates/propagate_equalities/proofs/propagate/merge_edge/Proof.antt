@@ -9,7 +9,6 @@ use mathlib.Core.Path.{_≡_, refl, sym, _∙_, ap}
 use Prim.Native.Nat.{ℕ, _<_}
 use native.Mathlib.Omega.{arith}
 use lib.ListN.{length}
-use Rattle.column_constraints.specs.Abstraction.{conjuncts}
 use Rattle.column_table.proofs.Propagating.{edge-self}
 use Rattle.propagate_equalities.proofs.Edges.{edge-taken}
 
@@ -24,7 +23,7 @@ slot-requires-2 c κs = search needs
 -- src/propagate.rt:109:9
 returns : tie.Need-returns
 returns c =
-    let st = c .before .before .before .before .before .before .before .before .before .before .before in
+    let st = c .before .before .before .before .before .before .before .before in
     let slot = c .before .before .slot in
     let slot2 = c .before .slot2 in
     let if1 = c .if1 in (
@@ -52,9 +51,8 @@ same-length-2 c = search needs
 -- src/propagate.rt:86:1
 returns-2 : tie.Need-returns-2
 returns-2 c =
-    let st = c .before .before .before .before .before .before .before .before .before .before .before .before
-    .before .before .before .before .before .before .before .before .before .before .before .before .before
-    .before .before .before .before in
+    let st = c .before .before .before .before .before .before .before .before .before .before .before .before .before
+    .before .before .before .before .before .before .before .before .before .before .before .before .before in
     let slot = c .before .before .before .before .before .before .before .before .before .before .before .before
     .before .before .before .before .before .before .before .before .slot in
     let slot2 = c .before .before .before .before .before .before .before .before .before .before .before

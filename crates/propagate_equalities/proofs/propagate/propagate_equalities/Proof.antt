@@ -20,21 +20,21 @@ use Rattle.propagate_equalities.proofs.Quiet.{quiet-first}
 use borrow.Author.Needs.{needs}
 
 abbrev Inv-loop : tie.InvT-loop
-Inv-loop index kinds values starts counts pool cells₀ marks₀ lefts rights edges columns emitted₀ going₀ passes₀ before₀ cells marks emitted going passes before =
-    (passes ≤ columns) × ((T : ColumnTable) (equals : List ℕ) → Shows (conjuncts kinds values starts counts
-    pool) (columnsOf cells₀) marks₀ T → Passed (conjuncts kinds values starts counts pool) (columnsOf cells)
+Inv-loop index told pool cells₀ marks₀ lefts rights edges columns emitted₀ going₀ passes₀ before₀ cells marks emitted going passes before =
+    (passes ≤ columns) × ((T : ColumnTable) (equals : List ℕ) → Shows (conjuncts told
+    pool) (columnsOf cells₀) marks₀ T → Passed (conjuncts told pool) (columnsOf cells)
     marks (edgesOf lefts rights equals edges) columns passes emitted going T) × Fits cells marks × (length marks
-    ≡ length marks₀) × (length cells ≡ length cells₀) × QuietEdges (shown (conjuncts kinds values starts counts
+    ≡ length marks₀) × (length cells ≡ length cells₀) × QuietEdges (shown (conjuncts told
     pool) (columnsOf cells) marks) lefts rights edges before
 
 abbrev μ-loop : tie.MeasureT-loop
-μ-loop index kinds values starts counts pool cells₀ marks₀ lefts rights edges columns emitted₀ going₀ passes₀ before₀ cells marks emitted going passes before =
+μ-loop index told pool cells₀ marks₀ lefts rights edges columns emitted₀ going₀ passes₀ before₀ cells marks emitted going passes before =
     columns - passes
 
 -- src/propagate.rt:283:5
 loop-holds : tie.Need-loop-holds Inv-loop μ-loop
 loop-holds c =
-    let st = c .before .before .before .before .before .before .before .before .before .before in (
+    let st = c .before .before .before .before .before .before .before in (
       omega arith,
       (λ T equals S. passed-none _ _ _ _ _ _ _ _ T S),
       st .pre .0 .0,
@@ -47,16 +47,15 @@ loop-holds c =
 -- src/propagate.rt:284:13
 propagate-pass-requires : tie.Need-propagate-pass-requires Inv-loop μ-loop
 propagate-pass-requires c κs =
-    let st = c .before .before .before .before .before .before .before .before .before .before .before .before
-    .before .before in
+    let st = c .before .before .before .before .before .before .before .before .before .before .before in
     let l1 = c .before .before .before .loop in
     ((l1 .inv .2, st .pre .0 .1, st .pre .0 .2, st .pre .0 .3), (st .pre .1, l1 .inv .5))
 
 -- src/propagate.rt:301:9
 add-passes : tie.Need-add-passes Inv-loop μ-loop
 add-passes c =
-    let st = c .before .before .before .before .before .before .before .before .before .before .before .before
-    .before .before .before .before .before .before .before .before in
+    let st = c .before .before .before .before .before .before .before .before .before .before .before .before .before
+    .before .before .before .before in
     let l1 = c .before .before .before .before .before .before .before .before .before .loop in
     let t1 = c .before .before .before .before .before .before .before .before .loop-test in
     let h : l1 .passes < st .args .columns = ltb-true _ _ (and-left (ltb (l1 .passes) (st .args .columns)) (l1
@@ -66,8 +65,8 @@ add-passes c =
 -- src/propagate.rt:283:5
 loop-less : tie.Need-loop-less Inv-loop μ-loop
 loop-less c =
-    let st = c .before .before .before .before .before .before .before .before .before .before .before .before
-    .before .before .before .before .before .before .before .before in
+    let st = c .before .before .before .before .before .before .before .before .before .before .before .before .before
+    .before .before .before .before in
     let l1 = c .before .before .before .before .before .before .before .before .before .loop in
     let t1 = c .before .before .before .before .before .before .before .before .loop-test in
     let h : l1 .passes < st .args .columns = ltb-true _ _ (and-left (ltb (l1 .passes) (st .args .columns)) (l1
@@ -77,8 +76,8 @@ loop-less c =
 -- src/propagate.rt:283:5
 loop-again : tie.Need-loop-again Inv-loop μ-loop
 loop-again c =
-    let st = c .before .before .before .before .before .before .before .before .before .before .before .before
-    .before .before .before .before .before .before .before .before in
+    let st = c .before .before .before .before .before .before .before .before .before .before .before .before .before
+    .before .before .before .before in
     let l1 = c .before .before .before .before .before .before .before .before .before .loop in
     let t1 = c .before .before .before .before .before .before .before .before .loop-test in
     let propagate-pass = c .before .before .before .before .before .propagate-pass in

@@ -18,22 +18,22 @@ use Rattle.propagate_equalities.proofs.Quiet.{quiet-none, quiet-begin, 
 use borrow.Author.Needs.{needs}
 
 abbrev Inv-loop : tie.InvT-loop
-Inv-loop index kinds values starts counts pool cells₀ marks₀ lefts rights edges before emitted₀ any₀ word₀ e₀ cells marks emitted any word e =
-    (e ≤ edges) × ((T : ColumnTable) (equals : List ℕ) → Shows (conjuncts kinds values starts counts pool)
-    (columnsOf cells₀) marks₀ T → EdgesMerged (conjuncts kinds values starts counts pool) (columnsOf cells)
+Inv-loop index told pool cells₀ marks₀ lefts rights edges before emitted₀ any₀ word₀ e₀ cells marks emitted any word e =
+    (e ≤ edges) × ((T : ColumnTable) (equals : List ℕ) → Shows (conjuncts told pool)
+    (columnsOf cells₀) marks₀ T → EdgesMerged (conjuncts told pool) (columnsOf cells)
     marks (edgesOf lefts rights equals e) emitted any T) × Fits cells marks × (length marks ≡ length marks₀) ×
-    (length cells ≡ length cells₀) × QuietEdges (shown (conjuncts kinds values starts counts pool) (columnsOf
-    cells) marks) lefts rights e word × QuietEdges (shown (conjuncts kinds values starts counts pool) (columnsOf
+    (length cells ≡ length cells₀) × QuietEdges (shown (conjuncts told pool) (columnsOf
+    cells) marks) lefts rights e word × QuietEdges (shown (conjuncts told pool) (columnsOf
     cells) marks) lefts rights edges (bitOr before word)
 
 abbrev μ-loop : tie.MeasureT-loop
-μ-loop index kinds values starts counts pool cells₀ marks₀ lefts rights edges before emitted₀ any₀ word₀ e₀ cells marks emitted any word e =
+μ-loop index told pool cells₀ marks₀ lefts rights edges before emitted₀ any₀ word₀ e₀ cells marks emitted any word e =
     edges - e
 
 -- src/propagate.rt:228:5
 loop-holds : tie.Need-loop-holds Inv-loop μ-loop
 loop-holds c =
-    let st = c .before .before .before .before .before .before .before .before .before .before in (
+    let st = c .before .before .before .before .before .before .before in (
       omega arith,
       (λ T equals S. merged-none _ _ _ _ _ equals T S),
       st .pre .0 .0,
@@ -45,26 +45,25 @@ loop-holds c =
     )
 
 -- src/propagate.rt:238:20
-mul-t23 : tie.Need-mul-t23 Inv-loop μ-loop
-mul-t23 c = search needs
+mul-t20 : tie.Need-mul-t20 Inv-loop μ-loop
+mul-t20 c = search needs
 
 -- src/propagate.rt:238:20
-shared-slice-read-t25 : tie.Need-shared-slice-read-t25 Inv-loop μ-loop
-shared-slice-read-t25 c = search needs
+shared-slice-read-t22 : tie.Need-shared-slice-read-t22 Inv-loop μ-loop
+shared-slice-read-t22 c = search needs
 
 -- src/propagate.rt:239:20
-mul-t27 : tie.Need-mul-t27 Inv-loop μ-loop
-mul-t27 c = search needs
+mul-t24 : tie.Need-mul-t24 Inv-loop μ-loop
+mul-t24 c = search needs
 
 -- src/propagate.rt:239:20
-shared-slice-read-t29 : tie.Need-shared-slice-read-t29 Inv-loop μ-loop
-shared-slice-read-t29 c = search needs
+shared-slice-read-t26 : tie.Need-shared-slice-read-t26 Inv-loop μ-loop
+shared-slice-read-t26 c = search needs
 
 -- src/propagate.rt:229:13
 sweep-edge-requires : tie.Need-sweep-edge-requires Inv-loop μ-loop
 sweep-edge-requires c κs =
-    let st = c .before .before .before .before .before .before .before .before .before .before .before .before
-    .before .before .before .before in
+    let st = c .before .before .before .before .before .before .before .before .before .before .before .before .before in
     let l1 = c .before .before .before .before .before .loop in
     let t1 = c .before .before .before .before .loop-test in (
       (l1 .inv .2, st .pre .1 .0 _ (t1 .taken) .0, st .pre .1 .0 _ (t1 .taken) .1, st .pre .0 .3),
@@ -75,8 +74,8 @@ sweep-edge-requires c κs =
 -- src/propagate.rt:245:9
 add-e : tie.Need-add-e Inv-loop μ-loop
 add-e c =
-    let st = c .before .before .before .before .before .before .before .before .before .before .before .before
-    .before .before .before .before .before .before .before .before .before .before .before .before in
+    let st = c .before .before .before .before .before .before .before .before .before .before .before .before .before
+    .before .before .before .before .before .before .before .before in
     let t1 = c .before .before .before .before .before .before .before .before .before .before .before .before
     .loop-test in
     search (needs, t1 .taken, st .fits .edges)
@@ -88,8 +87,8 @@ loop-less c = search needs
 -- src/propagate.rt:228:5
 loop-again : tie.Need-loop-again Inv-loop μ-loop
 loop-again c =
-    let st = c .before .before .before .before .before .before .before .before .before .before .before .before
-    .before .before .before .before .before .before .before .before .before .before .before .before in
+    let st = c .before .before .before .before .before .before .before .before .before .before .before .before .before
+    .before .before .before .before .before .before .before .before in
     let l1 = c .before .before .before .before .before .before .before .before .before .before .before .before
     .before .loop in
     let t1 = c .before .before .before .before .before .before .before .before .before .before .before .before
@@ -118,7 +117,7 @@ same-length-2 c = search needs
 -- src/propagate.rt:194:1
 returns : tie.Need-returns Inv-loop μ-loop
 returns c =
-    let st = c .before .before .before .before .before .before .before .before .before .before .before .before
+    let st = c .before .before .before .before .before .before .before .before .before
     in
     let l1 = c .before .loop in
     let t1 = c .loop-test in
@@ -132,10 +131,10 @@ propagate-pass-spec =
     Inv-loop
     μ-loop
     loop-holds
-    mul-t23
-    shared-slice-read-t25
-    mul-t27
-    shared-slice-read-t29
+    mul-t20
+    shared-slice-read-t22
+    mul-t24
+    shared-slice-read-t26
     sweep-edge-requires
     add-e
     loop-less

@@ -20,7 +20,7 @@ is-set-requires-2 c κs = search needs
 -- src/propagate.rt:160:9
 returns : tie.Need-returns
 returns c =
-    let st = c .before .before .before .before .before .before .before .before .before .before .before in
+    let st = c .before .before .before .before .before .before .before .before in
     let is-set = c .before .before .is-set in
     let is-set2 = c .before .is-set2 in
     let if1 = c .if1 in
@@ -60,8 +60,8 @@ same-length-2 c = search needs
 -- src/propagate.rt:180:9
 returns-2 : tie.Need-returns-2
 returns-2 c =
-    let st = c .before .before .before .before .before .before .before .before .before .before .before .before
-    .before .before .before .before .before .before .before .before .before .before .before .before .before
+    let st = c .before .before .before .before .before .before .before .before .before .before .before .before .before
+    .before .before .before .before .before .before .before .before .before
     in
     let merge-edge = c .before .before .before .before .before .before .before .before .before .before .before
     .merge-edge in
@@ -85,8 +85,8 @@ same-length-4 c = search needs
 -- src/propagate.rt:130:1
 returns-3 : tie.Need-returns-3
 returns-3 c =
-    let st = c .before .before .before .before .before .before .before .before .before .before .before .before
-    .before .before .before .before .before .before .before .before .before .before .before .before in
+    let st = c .before .before .before .before .before .before .before .before .before .before .before .before .before
+    .before .before .before .before .before .before .before .before in
     let merge-edge = c .before .before .before .before .before .before .before .before .before .before
     .merge-edge in
     let is-impossible = c .before .before .before .before .is-impossible in

@@ -10,7 +10,6 @@ use mathlib.Core.Path.{_≡_, refl, sym, _∙_, ap}
 use Prim.Native.Nat.{ℕ, _<_}
 use native.Mathlib.Omega.{arith}
 use lib.ListN.{length}
-use Rattle.column_constraints.specs.Abstraction.{conjuncts}
 use Rattle.column_table.proofs.Arrays.{fits-set}
 use Rattle.propagate_equalities.proofs.Edges.{column-taken}
 
@@ -25,8 +24,7 @@ load-requires-2 c κs = search needs
 -- src/propagate.rt:64:9
 merge-rows-requires : tie.Need-merge-rows-requires
 merge-rows-requires c κs =
-    let st = c .before .before .before .before .before .before .before .before .before .before .before .before
-    .before in
+    let st = c .before .before .before .before .before .before .before .before .before .before in
     let load = c .before .before .before .load in
     let load2 = c .before .load2 in (
       (st .pre .1, st .pre .2, st .pre .0 .narrow, st .pre .3),
@@ -40,8 +38,7 @@ merge-rows-requires c κs =
 -- src/propagate.rt:78:5
 store-requires : tie.Need-store-requires
 store-requires c κs =
-    let st = c .before .before .before .before .before .before .before .before .before .before .before .before
-    .before .before .before .before .before .before in
+    let st = c .before .before .before .before .before .before .before .before .before .before .before .before .before .before .before in
     (st .pre .1, st .pre .0 .size)
 
 -- src/propagate.rt:42:1
@@ -55,8 +52,8 @@ same-length-2 c = search needs
 -- src/propagate.rt:42:1
 returns : tie.Need-returns
 returns c =
-    let st = c .before .before .before .before .before .before .before .before .before .before .before .before
-    .before .before .before .before .before .before .before .before .before in
+    let st = c .before .before .before .before .before .before .before .before .before .before .before .before .before
+    .before .before .before .before .before in
     let load = c .before .before .before .before .before .before .before .before .before .before .before .load
     in
     let load2 = c .before .before .before .before .before .before .before .before .before .load2 in

@@ -13,7 +13,7 @@ use Rattle.record_check.proofs.fit.all_fit.Tie as tie
 use Rattle.record_check.proofs.fit.all_fit.Reads as reads
 use Rattle.record_check.proofs.fit.all_fit.Lts as lts
 use Rattle.records.proofs.bytes.value_in.Reads as value-in-reads
-use Rattle.records.proofs.shape.in_type.Reads as in-type-reads
+use Rattle.value_types.proofs.in_type.Reads as in-type-reads
 
 abbrev Inv-loop : tie.InvT-loop
 Inv-loop text p ty start count k₀ k = (k ≤ count) × (all (λ (j : ℕ). inTypeIn text ty (valueAt p (start + j))) k ≡ true)

@@ -5,7 +5,7 @@ use Rattle.record_check.proofs.outside.miss.Statement.{statement}
 use Rattle.record_check.proofs.outside.miss.Tie as tie
 use Rattle.record_check.proofs.outside.miss.Reads as reads
 use Rattle.record_check.proofs.outside.miss.Lts as lts
-use Rattle.records.proofs.shape.in_type.Reads as in-type-reads
+use Rattle.value_types.proofs.in_type.Reads as in-type-reads
 
 -- src/outside.rt:19:8
 in-type-requires : tie.Need-in-type-requires

@@ -8,7 +8,7 @@ use Rattle.record_check.proofs.step.list_step.Lts as lts
 use Rattle.record_check.proofs.fit.list_ok.Reads as list-ok-reads
 use Rattle.record_check.proofs.step.passed.Reads as passed-reads
 use Rattle.record_check.proofs.step.refused.Reads as refused-reads
-use Rattle.records.proofs.shape.known_type.Reads as known-type-reads
+use Rattle.value_types.proofs.known_type.Reads as known-type-reads
 
 -- src/step.rt:194:27
 known-type-requires : tie.Need-known-type-requires

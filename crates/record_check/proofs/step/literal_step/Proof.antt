@@ -7,8 +7,8 @@ use Rattle.record_check.proofs.step.literal_step.Reads as reads
 use Rattle.record_check.proofs.step.literal_step.Lts as lts
 use Rattle.record_check.proofs.step.passed.Reads as passed-reads
 use Rattle.record_check.proofs.step.refused.Reads as refused-reads
-use Rattle.records.proofs.shape.in_type.Reads as in-type-reads
-use Rattle.records.proofs.shape.known_type.Reads as known-type-reads
+use Rattle.value_types.proofs.in_type.Reads as in-type-reads
+use Rattle.value_types.proofs.known_type.Reads as known-type-reads
 
 -- src/step.rt:64:14
 cast-v : tie.Need-cast-v

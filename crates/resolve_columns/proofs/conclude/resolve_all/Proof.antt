@@ -23,29 +23,29 @@ use Rattle.column_table.proofs.Resolving.{resolved-none, resolved-stored, colum
 use borrow.Author.Needs.{needs}
 
 abbrev Inv-loop : tie.InvT-loop
-Inv-loop index kinds values starts counts pool cells₀ marks₀ order columns unsat₀ total₀ o₀ cells marks unsat total o =
-    (o ≤ columns) × (total ≤ o * 130) × ((T : ColumnTable) → Shows (conjuncts kinds values starts counts pool)
-    (columnsOf cells₀) marks₀ T → Resolved (conjuncts kinds values starts counts pool) (columnsOf cells) marks
+Inv-loop index told pool cells₀ marks₀ order columns unsat₀ total₀ o₀ cells marks unsat total o =
+    (o ≤ columns) × (total ≤ o * 130) × ((T : ColumnTable) → Shows (conjuncts told pool)
+    (columnsOf cells₀) marks₀ T → Resolved (conjuncts told pool) (columnsOf cells) marks
     (firstOf order o) false unsat total T) × Fits cells marks × (length marks ≡ length marks₀) × (length cells ≡
     length cells₀)
 
 abbrev μ-loop : tie.MeasureT-loop
-μ-loop index kinds values starts counts pool cells₀ marks₀ order columns unsat₀ total₀ o₀ cells marks unsat total o =
+μ-loop index told pool cells₀ marks₀ order columns unsat₀ total₀ o₀ cells marks unsat total o =
     columns - o
 
 -- src/conclude.rt:92:5
 loop-holds : tie.Need-loop-holds Inv-loop μ-loop
 loop-holds c =
-    let st = c .before .before .before .before .before .before .before .before .before in
+    let st = c .before .before .before .before .before .before in
     (omega arith, omega arith, (λ T S. resolved-none _ _ _ _ _ T S), st .pre .0 .0, refl, refl)
 
 -- src/conclude.rt:93:29
-mul-t18 : tie.Need-mul-t18 Inv-loop μ-loop
-mul-t18 c = search needs
+mul-t15 : tie.Need-mul-t15 Inv-loop μ-loop
+mul-t15 c = search needs
 
 -- src/conclude.rt:93:29
-shared-slice-read-t20 : tie.Need-shared-slice-read-t20 Inv-loop μ-loop
-shared-slice-read-t20 c = search needs
+shared-slice-read-t17 : tie.Need-shared-slice-read-t17 Inv-loop μ-loop
+shared-slice-read-t17 c = search needs
 
 -- src/conclude.rt:93:13
 slot-requires : tie.Need-slot-requires Inv-loop μ-loop
@@ -61,7 +61,7 @@ load-requires c κs =
 -- src/conclude.rt:95:13
 resolve-row-requires : tie.Need-resolve-row-requires Inv-loop μ-loop
 resolve-row-requires c κs =
-    let st = c .before .before .before .before .before .before .before .before .before .before .before .before .before .before .before .before in
+    let st = c .before .before .before .before .before .before .before .before .before .before .before .before .before in
     let l1 = c .before .before .before .before .before .before .loop in
     let slot = c .before .before .before .slot in
     let load = c .before .load in (
@@ -92,8 +92,8 @@ count-row-requires c κs =
 -- src/conclude.rt:98:17
 add-total : tie.Need-add-total Inv-loop μ-loop
 add-total c =
-    let st = c .before .before .before .before .before .before .before .before .before .before .before .before
-    .before .before .before .before .before .before .before .before .before .before .before .before .before .before
+    let st = c .before .before .before .before .before .before .before .before .before .before .before .before .before
+    .before .before .before .before .before .before .before .before .before .before
     in
     let l1 = c .before .before .before .before .before .before .before .before .before .before .before .before
     .before .before .before .before .loop in
@@ -104,9 +104,8 @@ add-total c =
     let resolve-row = c .before .before .before .before .before .before .before .before .before .resolve-row in
     let count-row = c .count-row in
     let z = resolve-row .ensures .1 .1 .size in
-    let m = resolve-row .last .1 .1 .1 .1 .1 .1 .0 in
-    let t = conjuncts (st .args .kinds .now) (st .args .values .now) (st .args .starts .now) (st .args .counts
-    .now) (st .args .pool .now) in
+    let m = resolve-row .last .1 .1 .1 .0 in
+    let t = conjuncts (st .args .told .now) (st .args .pool .now) in
     let f = column-few t (numbered (rowOf m (slot .result)) (resolve-row .result)) _ (resolve-row .ensures .1
     .0) (omega (arith, z, l1 .inv .3 .narrow)) in
     let g = count-row .ensures t refl in
@@ -115,8 +114,8 @@ add-total c =
 -- src/conclude.rt:99:9
 add-o : tie.Need-add-o Inv-loop μ-loop
 add-o c =
-    let st = c .before .before .before .before .before .before .before .before .before .before .before .before
-    .before .before .before .before .before .before .before .before .before .before .before .before .before .before
+    let st = c .before .before .before .before .before .before .before .before .before .before .before .before .before
+    .before .before .before .before .before .before .before .before .before .before
     in
     let t1 = c .before .before .before .before .before .before .before .before .before .before .before .before
     .before .before .before .loop-test in
@@ -132,8 +131,8 @@ loop-less c =
 -- src/conclude.rt:92:5
 loop-again : tie.Need-loop-again Inv-loop μ-loop
 loop-again c =
-    let st = c .before .before .before .before .before .before .before .before .before .before .before .before
-    .before .before .before .before .before .before .before .before .before .before .before .before .before .before
+    let st = c .before .before .before .before .before .before .before .before .before .before .before .before .before
+    .before .before .before .before .before .before .before .before .before .before
     in
     let l1 = c .before .before .before .before .before .before .before .before .before .before .before .before
     .before .before .before .before .loop in
@@ -147,9 +146,8 @@ loop-again c =
     let store = c .before .before .before .before .before .store in
     let count-row = c .count-row in
     let z = resolve-row .ensures .1 .1 .size in
-    let m = resolve-row .last .1 .1 .1 .1 .1 .1 .0 in
-    let t = conjuncts (st .args .kinds .now) (st .args .values .now) (st .args .starts .now) (st .args .counts
-    .now) (st .args .pool .now) in
+    let m = resolve-row .last .1 .1 .1 .0 in
+    let t = conjuncts (st .args .told .now) (st .args .pool .now) in
     let f = column-few t (numbered (rowOf m (slot .result)) (resolve-row .result)) _ (resolve-row .ensures .1
     .0) (omega (arith, z, l1 .inv .3 .narrow)) in
     let g = count-row .ensures t refl in (
@@ -181,7 +179,7 @@ same-length-2 c =
 -- src/conclude.rt:68:1
 returns : tie.Need-returns Inv-loop μ-loop
 returns c =
-    let st = c .before .before .before .before .before .before .before .before .before .before .before in
+    let st = c .before .before .before .before .before .before .before .before in
     let l1 = c .before .loop in
     let t1 = c .loop-test in
     let h : l1 .o ≡ st .args .columns = omega (arith, l1 .inv .0, t1 .left) in
@@ -194,8 +192,8 @@ resolve-all-spec =
     Inv-loop
     μ-loop
     loop-holds
-    mul-t18
-    shared-slice-read-t20
+    mul-t15
+    shared-slice-read-t17
     slot-requires
     load-requires
     resolve-row-requires

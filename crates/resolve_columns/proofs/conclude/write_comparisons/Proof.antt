@@ -11,21 +11,22 @@ use Prim.Native.Nat.{ℕ, _+_, _-_, _*_, _≤_, _<_}
 use native.Mathlib.Omega.{arith}
 use lib.ListN.{length}
 use Rattle.constraints.specs.Lined.{lined}
-use Rattle.column_constraints.specs.Abstraction.{Conjuncts, conjuncts}
+use Rattle.column_constraints.specs.Abstraction.{Conjuncts}
 use Rattle.merge.specs.Emit.{comparisons}
 use Rattle.read_operands.specs.Walk.{firstOf}
 use Rattle.column_table.specs.Words.{columnsOf}
 use Rattle.column_table.specs.State.{shown, Written}
 use Rattle.column_table.proofs.Resolving.{written-none, written-loaded, row-asked}
 use borrow.Author.Needs.{needs}
+use Rattle.column_constraints.specs.Abstraction.{kindsIn, valuesIn, conjunctsOf}
 
 abbrev Inv-loop : tie.InvT-loop
-Inv-loop t rs₀ used kinds values cells marks order columns u₀ w₀ rs u w =
-    (w ≤ columns) × ((s : Conjuncts) → s .kinds ≡ kinds → s .values ≡ values → Written t used rs₀ (comparisons
+Inv-loop t rs₀ used told cells marks order columns u₀ w₀ rs u w =
+    (w ≤ columns) × ((s : Conjuncts) → s .kinds ≡ (kindsIn told) → s .values ≡ (valuesIn told) → Written t used rs₀ (comparisons
     lined (firstOf order w) (shown s (columnsOf cells) marks)) u rs)
 
 abbrev μ-loop : tie.MeasureT-loop
-μ-loop t rs₀ used kinds values cells marks order columns u₀ w₀ rs u w =
+μ-loop t rs₀ used told cells marks order columns u₀ w₀ rs u w =
     columns - w
 
 -- src/conclude.rt:129:5
@@ -34,12 +35,12 @@ loop-holds c =
     (omega arith, λ s ek ev. written-none _ _ _ _ _)
 
 -- src/conclude.rt:130:24
-mul-t16 : tie.Need-mul-t16 Inv-loop μ-loop
-mul-t16 c = search needs
+mul-t15 : tie.Need-mul-t15 Inv-loop μ-loop
+mul-t15 c = search needs
 
 -- src/conclude.rt:130:24
-shared-slice-read-t18 : tie.Need-shared-slice-read-t18 Inv-loop μ-loop
-shared-slice-read-t18 c = search needs
+shared-slice-read-t17 : tie.Need-shared-slice-read-t17 Inv-loop μ-loop
+shared-slice-read-t17 c = search needs
 
 -- src/conclude.rt:131:13
 slot-requires : tie.Need-slot-requires Inv-loop μ-loop
@@ -48,20 +49,19 @@ slot-requires c κs = search needs
 -- src/conclude.rt:132:13
 load-requires : tie.Need-load-requires Inv-loop μ-loop
 load-requires c κs =
-    let st = c .before .before .before .before .before .before .before .before .before .before .before in
+    let st = c .before .before .before .before .before .before .before .before .before .before in
     let slot = c .slot in
     (omega (arith, slot .ensures), st .pre .0 .0 .size)
 
 -- src/conclude.rt:133:9
 write-row-requires : tie.Need-write-row-requires Inv-loop μ-loop
 write-row-requires c κs =
-    let st = c .before .before .before .before .before .before .before .before .before .before .before .before
-    .before in
+    let st = c .before .before .before .before .before .before .before .before .before .before .before .before in
     let l1 = c .before .before .before .before .before .loop in
     let t1 = c .before .before .before .before .loop-test in
     let slot = c .before .before .slot in
     let load = c .before .load in
-    let s = conjuncts (st .args .kinds .now) (st .args .values .now) [] [] [] in
+    let s = conjunctsOf (kindsIn (st .args .told .now)) (valuesIn (st .args .told .now)) [] [] [] in
     let r = row-asked (st .args .t .now) (st .args .used) (st .args .order .now) (l1 .w) (st .args .columns) s
     (columnsOf (st .args .cells .now)) (st .args .marks .now) (st .args .rs .now) (l1 .rs) (l1 .u) _ _ (t1
     .taken) (st .pre .1 .0 _ (t1 .taken)) (slot .ensures) (load .ensures) (l1 .inv .1 s refl refl) (st .pre
@@ -78,8 +78,7 @@ write-row-requires c κs =
 -- src/conclude.rt:134:9
 add-w : tie.Need-add-w Inv-loop μ-loop
 add-w c =
-    let st = c .before .before .before .before .before .before .before .before .before .before .before .before
-    .before .before .before .before in
+    let st = c .before .before .before .before .before .before .before .before .before .before .before .before .before .before .before in
     let t1 = c .before .before .before .before .before .before .before .loop-test in
     omega (arith, t1 .taken, st .pre .0 .2)
 
@@ -90,8 +89,7 @@ loop-less c = search needs
 -- src/conclude.rt:129:5
 loop-again : tie.Need-loop-again Inv-loop μ-loop
 loop-again c =
-    let st = c .before .before .before .before .before .before .before .before .before .before .before .before
-    .before .before .before .before in
+    let st = c .before .before .before .before .before .before .before .before .before .before .before .before .before .before .before in
     let l1 = c .before .before .before .before .before .before .before .before .loop in
     let t1 = c .before .before .before .before .before .before .before .loop-test in
     let slot = c .before .before .before .before .before .slot in
@@ -106,14 +104,14 @@ loop-again c =
 -- src/conclude.rt:105:1
 same-length : tie.Need-same-length Inv-loop μ-loop
 same-length c =
-    let st = c .before .before .before .before .before .before .before .before .before in
+    let st = c .before .before .before .before .before .before .before .before in
     let l1 = c .before .loop in
-    l1 .inv .1 (conjuncts (st .args .kinds .now) (st .args .values .now) [] [] []) refl refl .size
+    l1 .inv .1 (conjunctsOf (kindsIn (st .args .told .now)) (valuesIn (st .args .told .now)) [] [] []) refl refl .size
 
 -- src/conclude.rt:105:1
 returns : tie.Need-returns Inv-loop μ-loop
 returns c =
-    let st = c .before .before .before .before .before .before .before .before .before in
+    let st = c .before .before .before .before .before .before .before .before in
     let l1 = c .before .loop in
     let t1 = c .loop-test in
     let h : l1 .w ≡ st .args .columns = omega (arith, l1 .inv .0, t1 .left) in
@@ -126,8 +124,8 @@ write-comparisons-spec =
     Inv-loop
     μ-loop
     loop-holds
-    mul-t16
-    shared-slice-read-t18
+    mul-t15
+    shared-slice-read-t17
     slot-requires
     load-requires
     write-row-requires

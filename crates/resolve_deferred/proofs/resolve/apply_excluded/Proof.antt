@@ -40,7 +40,7 @@ open-upper-requires c κs = search needs
 
 returns : tie.Need-returns
 returns c =
-    let st = c .before .before .before .before .before .before .before in (
+    let st = c .before .before .before .before .before .before in (
       (λ t e f. applied Drop _ _ (columnOf t (numbered (st .args .own .now) (st .args .c))) _ _
           (c .before .before .classify-excluded .ensures t (st .args .own .now))
           (c .before .before .before .limit-at .ensures) (c .enum-told .given .1) refl),
@@ -52,7 +52,7 @@ same-length c = search needs
 
 returns-2 : tie.Need-returns-2
 returns-2 c =
-    let st = c .before .before .before .before .before .before .before .before .before .before .before in (
+    let st = c .before .before .before .before .before .before .before .before .before .before in (
       (λ t e f. applied Keep _ _ (columnOf t (numbered (st .args .own .now) (st .args .c))) _ _
           (c .before .before .before .before .before .before .classify-excluded .ensures t (st .args .own .now))
           (c .before .before .before .before .before .before .before .limit-at .ensures) (c .before .before .before .before .enum-told2 .given .1)
@@ -62,7 +62,7 @@ returns-2 c =
 
 returns-3 : tie.Need-returns-3
 returns-3 c =
-    let st = c .before .before .before .before .before .before .before .before in (
+    let st = c .before .before .before .before .before .before .before in (
       (λ t e f. applied TightenLower _ _ (columnOf t (numbered (st .args .own .now) (st .args .c))) _ _
           (c .before .before .before .classify-excluded .ensures t (st .args .own .now))
           (c .before .before .before .before .limit-at .ensures) (c .before .enum-told3 .given .1)
@@ -73,7 +73,7 @@ returns-3 c =
 
 returns-4 : tie.Need-returns-4
 returns-4 c =
-    let st = c .before .before .before .before .before .before .before .before in (
+    let st = c .before .before .before .before .before .before .before in (
       (λ t e f. applied TightenUpper _ _ (columnOf t (numbered (st .args .own .now) (st .args .c))) _ _
           (c .before .before .before .classify-excluded .ensures t (st .args .own .now))
           (c .before .before .before .before .limit-at .ensures) (c .before .enum-told4 .given .1)

@@ -18,13 +18,13 @@ disallows-requires c κs = search needs
 
 returns : tie.Need-returns
 returns c =
-    let st = c .before .before .before .before .before .before .before .before in
+    let st = c .before .before .before .before .before .before in
     λ t e. rw (← c .before .before .fixed-value .ensures t (st .args .marks .now), c .enum-told .given .1)
 
 returns-2 : tie.Need-returns-2
 unfolding lined payload
 returns-2 c =
-    let st = c .before .before .before .before .before .before .before .before .before .before in
+    let st = c .before .before .before .before .before .before .before .before in
     λ t e. rw (
       ← c .before .before .before .before .fixed-value .ensures t (st .args .marks .now),
       c .before .before .f .given .1,

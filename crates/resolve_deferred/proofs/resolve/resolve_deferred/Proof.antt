@@ -32,7 +32,7 @@ null-conflict-requires c κs = search needs
 
 copied-requires : tie.Need-copied-requires
 copied-requires c κs =
-    let st = c .before .before .before .before .before .before .before .before .before .before in
+    let st = c .before .before .before .before .before .before .before in
     let k : st .args .c .len ≤ length (st .args .own .now) = few _ _ _ (st .pre .0 .0) in
     (k, omega (arith, k, st .pre .0 .1))
 
@@ -44,16 +44,15 @@ slice-aggregate-step-marks c = search needs
 
 step-marks-requires : tie.Need-step-marks-requires
 step-marks-requires c κs =
-    let st = c .before .before .before .before .before .before .before .before .before .before .before .before
-    .before .before in
+    let st = c .before .before .before .before .before .before .before .before .before .before .before in
     let copied = c .before .before .before .copied in
     let begin-walk = c .before .before .begin-walk in
     (fine-zero _ _ _ (begin-walk .ensures .1), fine-same _ _ _ _ (copied .ensures) (st .pre .0 .0))
 
 with-lists-requires : tie.Need-with-lists-requires
 with-lists-requires c κs =
-    let st = c .before .before .before .before .before .before .before .before .before .before .before .before
-    .before .before .before .before .before .before .before .before in
+    let st = c .before .before .before .before .before .before .before .before .before .before .before .before .before
+    .before .before .before .before in
     let step-marks = c .before .before .before .before .before .step-marks in
     (st .pre .1, low-row _ _ _ (step-marks .ensures .1) (st .pre .0 .1))
 
@@ -62,18 +61,17 @@ same-length c = search needs
 
 returns : tie.Need-returns
 returns c =
-    let st = c .before .before .before .before .before .before .before .before .before .before .before .before
-    .before .before .before .before .before .before .before .before .before in
+    let st = c .before .before .before .before .before .before .before .before .before .before .before .before .before
+    .before .before .before .before .before in
     let null-conflict = c .before .before .before .before .before .before .before .before .before .before
     .before .before .null-conflict in
     let copied = c .before .before .before .before .before .before .before .before .before .before .copied in
     let begin-walk = c .before .before .before .before .before .before .before .before .before .begin-walk in
     let step-marks = c .before .before .before .before .before .before .step-marks in
     let with-lists = c .with-lists in
-    let tables = conjuncts (st .args .kinds .now) (st .args .values .now) (st .args .starts .now) (st .args
-    .counts .now) (st .args .pool .now) in (
+    let tables = conjuncts (st .args .told .now) (st .args .pool .now) in (
       with-lists .ensures .0 ∙ ap (λ (x : q.ColumnConstraints Lined). z.withLists lined x) (walk-law tables
-          (numbered (st .args .own .now) (st .args .c)) (columnOf tables (numbered (step-marks .last .1 .1 .0)
+          (numbered (st .args .own .now) (st .args .c)) (columnOf tables (numbered (step-marks .last .1 .0)
           (step-marks .result))) (null-conflict .result) (step-marks .ensures .0 tables refl refl ∙ steps-same tables
           (copied .result) (st .args .own .now) (st .args .c .len) (columnOf tables (numbered (st .args .own .now)
           (begin-walk .result))) (copied .ensures) ∙ ap (λ (x : q.ColumnConstraints Lined). stepMarks tables (st .args

@@ -4,12 +4,13 @@ use Rattle.resolve_deferred.proofs.Resolutions.{stepped, stopped}
 use borrow.Author.Needs.{needs}
 use Rattle.resolve_deferred.proofs.resolve.step_excluded.Statement.{statement}
 use Rattle.resolve_deferred.proofs.resolve.step_excluded.Tie as tie
+use Rattle.column_constraints.specs.Abstraction.{valuesIn}
 
 returns : tie.Need-returns
 returns c =
-    let st = c .before .before .before .before in (
+    let st = c .before .before .before in (
       (λ t e f. stopped (columnOf t (numbered (st .args .own .now) (st .args .c)))
-          (literalAt (st .args .values .now) (st .args .j)) (c .if1 .taken)),
+          (literalAt (valuesIn (st .args .told .now)) (st .args .j)) (c .if1 .taken)),
       st .pre .0,
     )
 
@@ -24,9 +25,9 @@ same-length c = search needs
 
 returns-2 : tie.Need-returns-2
 returns-2 c =
-    let st = c .before .before .before .before .before .before .before .before .before in (
+    let st = c .before .before .before .before .before .before .before .before in (
       (λ t e f. stepped _ _ (columnOf t (numbered (st .args .own .now) (st .args .c)))
-          (literalAt (st .args .values .now) (st .args .j)) (c .before .before .before .before .before .if1 .left)
+          (literalAt (valuesIn (st .args .told .now)) (st .args .j)) (c .before .before .before .before .before .if1 .left)
           (c .before .before .before .apply-excluded .ensures .0 t e f) (c .check-bound-consistency .ensures .0 t _)),
       rw (c .check-bound-consistency .ensures .1) (c .before .before .before .apply-excluded .ensures .1),
     )

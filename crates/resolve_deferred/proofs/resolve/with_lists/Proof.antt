@@ -7,16 +7,16 @@ use Rattle.resolve_deferred.proofs.resolve.with_lists.Tie as tie
 
 returns : tie.Need-returns
 returns c =
-    let st = c .before .before .before .before .before .before .before .before in
+    let st = c .before .before .before .before .before in
     let if1 = c .if1 in (
-      lists-dead (columnOf (conjuncts (st .args .kinds .now) (st .args .values .now) (st .args .starts .now) (st
-          .args .counts .now) (st .args .pool .now)) (numbered (st .args .marks .now) (st .args .c))) (if1 .taken),
+      lists-dead (columnOf (conjuncts (st .args .told .now) (st .args .pool .now)) (numbered (st .args .marks .now) (st
+          .args .c))) (if1 .taken),
       refl,
     )
 
 any-allowed-requires : tie.Need-any-allowed-requires
 any-allowed-requires c κs =
-    let st = c .before .before .before .before .before .before .before .before in
+    let st = c .before .before .before .before .before in
     st .pre
 
 fixed-disallowed-requires : tie.Need-fixed-disallowed-requires
@@ -24,12 +24,11 @@ fixed-disallowed-requires c κs = search needs
 
 returns-2 : tie.Need-returns-2
 returns-2 c =
-    let st = c .before .before .before .before .before .before .before .before .before .before in
+    let st = c .before .before .before .before .before .before .before in
     let any-allowed = c .before .any-allowed in
     let if1 = c .before .before .if1 in
     let fixed-disallowed = c .fixed-disallowed in
-    let tables = conjuncts (st .args .kinds .now) (st .args .values .now) (st .args .starts .now) (st .args
-    .counts .now) (st .args .pool .now) in (
+    let tables = conjuncts (st .args .told .now) (st .args .pool .now) in (
       lists-law (columnOf tables (numbered (st .args .marks .now) (st .args .c))) (any-allowed .result)
           (fixed-disallowed .result) (if1 .left) (any-allowed .ensures) (fixed-disallowed .ensures tables (
             refl,

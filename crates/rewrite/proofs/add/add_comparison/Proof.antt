@@ -29,7 +29,7 @@ enum-told-2 c = search needs
 -- src/add.rt:54:30
 add-excluded-requires : tie.Need-add-excluded-requires
 add-excluded-requires c κs =
-    let st = c .before .before .before .before .before .before in
+    let st = c .before .before .before .before .before in
     let enum-told2 = c .before .enum-told2 in
     let h = rw (enum-told2 .given .1) at (st .pre .2) in (st .pre .0, st .pre .1, h .0 .0)
 
@@ -68,7 +68,7 @@ with-lower-requires-2 c κs = search needs
 -- src/add.rt:37:1
 returns : tie.Need-returns
 returns c =
-    let st = c .before .before .before .before .before .before in
+    let st = c .before .before .before .before .before in
     let enum-told = c .before .enum-told in
     let add-equal = c .add-equal in (
       (λ t e f. rw (enum-told .given .1) (add-equal .ensures .0 t (st .args .marks .now))),
@@ -83,7 +83,7 @@ same-length c = search needs
 -- src/add.rt:37:1
 returns-2 : tie.Need-returns-2
 returns-2 c =
-    let st = c .before .before .before .before .before .before .before .before .before in
+    let st = c .before .before .before .before .before .before .before .before in
     let enum-told2 = c .before .before .before .before .enum-told2 in
     let add-excluded = c .before .before .add-excluded in
     let h = rw (enum-told2 .given .1) at (st .pre .2) in (
@@ -96,7 +96,7 @@ returns-2 c =
 -- src/add.rt:37:1
 returns-3 : tie.Need-returns-3
 returns-3 c =
-    let st = c .before .before .before .before .before .before in
+    let st = c .before .before .before .before .before in
     let enum-told3 = c .before .enum-told3 in
     let with-upper = c .with-upper in (
       (λ t e f. rw (enum-told3 .given .1) (with-upper .ensures .0 t (st .args .marks .now))),
@@ -107,7 +107,7 @@ returns-3 c =
 -- src/add.rt:37:1
 returns-4 : tie.Need-returns-4
 returns-4 c =
-    let st = c .before .before .before .before .before .before in
+    let st = c .before .before .before .before .before in
     let enum-told4 = c .before .enum-told4 in
     let with-upper2 = c .with-upper2 in (
       (λ t e f. rw (enum-told4 .given .1) (with-upper2 .ensures .0 t (st .args .marks .now))),
@@ -118,7 +118,7 @@ returns-4 c =
 -- src/add.rt:37:1
 returns-5 : tie.Need-returns-5
 returns-5 c =
-    let st = c .before .before .before .before .before .before in
+    let st = c .before .before .before .before .before in
     let enum-told5 = c .before .enum-told5 in
     let with-lower = c .with-lower in (
       (λ t e f. rw (enum-told5 .given .1) (with-lower .ensures .0 t (st .args .marks .now))),
@@ -129,7 +129,7 @@ returns-5 c =
 -- src/add.rt:37:1
 returns-6 : tie.Need-returns-6
 returns-6 c =
-    let st = c .before .before .before .before .before .before in
+    let st = c .before .before .before .before .before in
     let enum-told6 = c .before .enum-told6 in
     let with-lower2 = c .with-lower2 in (
       (λ t e f. rw (enum-told6 .given .1) (with-lower2 .ensures .0 t (st .args .marks .now))),

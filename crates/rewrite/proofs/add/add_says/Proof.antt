@@ -29,10 +29,9 @@ enum-known-s c = search needs
 -- src/add.rt:119:32
 add-comparison-requires : tie.Need-add-comparison-requires
 add-comparison-requires c κs =
-    let st = c .before .before .before .before .before .before .before .before .before .before in
+    let st = c .before .before .before .before .before .before .before in
     let s = c .before .before .s in
-    let tb = conjuncts (st .args .kinds .now) (st .args .values .now) (st .args .starts .now) (st .args .counts
-    .now) (st .args .pool .now) in
+    let tb = conjuncts (st .args .told .now) (st .args .pool .now) in
     let g = s .given in (
       st .pre .0,
       st .pre .1,
@@ -75,7 +74,7 @@ require-nullability-requires c κs = search needs
 -- src/add.rt:99:1
 returns : tie.Need-returns
 returns c =
-    let st = c .before .before .before .before .before .before .before .before in
+    let st = c .before .before .before .before .before in
     let enum-told = c .enum-told in
     (rw (enum-told .given .1), st .pre .0)
 
@@ -86,12 +85,10 @@ same-length c = search needs
 -- src/add.rt:99:1
 returns-2 : tie.Need-returns-2
 returns-2 c =
-    let st = c .before .before .before .before .before .before .before .before .before .before .before .before
-    .before in
+    let st = c .before .before .before .before .before .before .before .before .before .before in
     let s = c .before .before .before .before .before .s in
     let add-comparison = c .before .before .add-comparison in
-    let tb = conjuncts (st .args .kinds .now) (st .args .values .now) (st .args .starts .now) (st .args .counts
-    .now) (st .args .pool .now) in (
+    let tb = conjuncts (st .args .told .now) (st .args .pool .now) in (
       rw (s .given .1) (add-comparison .ensures .0 tb refl refl),
       add-comparison
           .ensures .1,
@@ -100,11 +97,10 @@ returns-2 c =
 -- src/add.rt:99:1
 returns-3 : tie.Need-returns-3
 returns-3 c =
-    let st = c .before .before .before .before .before .before .before .before .before .before in
+    let st = c .before .before .before .before .before .before .before in
     let s2 = c .before .before .s2 in
     let add-between = c .add-between in
-    let tb = conjuncts (st .args .kinds .now) (st .args .values .now) (st .args .starts .now) (st .args .counts
-    .now) (st .args .pool .now) in (
+    let tb = conjuncts (st .args .told .now) (st .args .pool .now) in (
       rw (s2 .given .1) (add-between .ensures .0 tb (st .args .marks .now)),
       fine-same _ _ _ _ (add-between .ensures .1) (st .pre .0),
     )
@@ -117,12 +113,11 @@ same-length-2 c = search needs
 returns-4 : tie.Need-returns-4
 unfolding valuesOf
 returns-4 c =
-    let st = c .before .before .before .before .before .before .before .before .before .before .before .before
+    let st = c .before .before .before .before .before .before .before .before .before
     in
     let enum-told2 = c .before .before .before .before .enum-told2 in
     let add-allowed = c .before .before .add-allowed in
-    let tb = conjuncts (st .args .kinds .now) (st .args .values .now) (st .args .starts .now) (st .args .counts
-    .now) (st .args .pool .now) in
+    let tb = conjuncts (st .args .told .now) (st .args .pool .now) in
     let h = rw (enum-told2 .given .1) at (st .pre .2) in (
       rw (enum-told2 .given .1) (add-allowed .ensures .0 tb
           (h .0 .0) ∙ ap (λ (l : List ℕ). q.addAllowed lined (map (onLine (st .args .j)) l) (columnOf tb (numbered (st .args .marks .now) (st
@@ -138,12 +133,10 @@ same-length-3 c = search needs
 returns-5 : tie.Need-returns-5
 unfolding valuesOf
 returns-5 c =
-    let st = c .before .before .before .before .before .before .before .before .before .before .before .before
-    .before in
+    let st = c .before .before .before .before .before .before .before .before .before .before in
     let s3 = c .before .before .before .before .before .s3 in
     let add-disallowed = c .before .before .add-disallowed in
-    let tb = conjuncts (st .args .kinds .now) (st .args .values .now) (st .args .starts .now) (st .args .counts
-    .now) (st .args .pool .now) in
+    let tb = conjuncts (st .args .told .now) (st .args .pool .now) in
     let g = s3 .given in
     let h = rw (g .1) at (st .pre .2) in (
       rw (g .1) (add-disallowed .ensures .0 tb refl (h .0 .0) ∙ ap (λ (l :
@@ -155,11 +148,10 @@ returns-5 c =
 -- src/add.rt:99:1
 returns-6 : tie.Need-returns-6
 returns-6 c =
-    let st = c .before .before .before .before .before .before .before .before .before .before in
+    let st = c .before .before .before .before .before .before .before in
     let require-nullability = c .require-nullability in
     let s4 = c .before .before .s4 in
-    let tb = conjuncts (st .args .kinds .now) (st .args .values .now) (st .args .starts .now) (st .args .counts
-    .now) (st .args .pool .now) in (
+    let tb = conjuncts (st .args .told .now) (st .args .pool .now) in (
       rw (s4 .given .1) (require-nullability .ensures .0 tb (st .args .marks
           .now)),
       fine-same _ _ _ _ (require-nullability .ensures .1) (st .pre .0),

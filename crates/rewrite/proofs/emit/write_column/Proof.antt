@@ -9,34 +9,35 @@ use Rattle.rewrite.proofs.Emitting.{bitsIn, place-room, placed-all}
 use Rattle.merge.specs.Write.{writeComparisons}
 use Rattle.column_constraints.proofs.Pigeon.{few}
 use Rattle.column_constraints.specs.Steps.{placedTo}
-use Rattle.column_constraints.specs.Abstraction.{Conjuncts, conjuncts, numbered, comparedOf}
+use Rattle.column_constraints.specs.Abstraction.{Conjuncts, numbered, comparedOf}
 use lib.ListN.{length}
 use Prim.Native.Nat.{_≤_, _+_, _*_, _-_}
 use mathlib.Core.List.{[]}
 use native.Mathlib.Omega.{arith}
 use mathlib.Core.Path.{_≡_, refl, _∙_, ap}
 use borrow.Author.Needs.{needs}
+use Rattle.column_constraints.specs.Abstraction.{kindsIn, valuesIn, conjunctsOf}
 
 abbrev Inv-loop : tie.InvT-loop
-Inv-loop t rs₀ u a kinds values marks c places at₀ p₀ rs at p =
-    (p ≤ places) × (at ≤ u + 3 * p) × (length rs ≡ length rs₀) × ((s : Conjuncts) → s .kinds ≡ kinds → s .values
-    ≡ values → at ≡ u + 3 * length (placedTo s (numbered marks c) p)) × ((s : Conjuncts) → s .kinds ≡ kinds → s
-    .values ≡ values → rs ≡ writeComparisons t u (bitsIn (a .0) (placedTo s (numbered marks c) p)) rs₀)
+Inv-loop t rs₀ u a told marks c places at₀ p₀ rs at p =
+    (p ≤ places) × (at ≤ u + 3 * p) × (length rs ≡ length rs₀) × ((s : Conjuncts) → s .kinds ≡ (kindsIn told) → s .values
+    ≡ (valuesIn told) → at ≡ u + 3 * length (placedTo s (numbered marks c) p)) × ((s : Conjuncts) → s .kinds ≡ (kindsIn told) → s
+    .values ≡ (valuesIn told) → rs ≡ writeComparisons t u (bitsIn (a .0) (placedTo s (numbered marks c) p)) rs₀)
 
 abbrev μ-loop : tie.MeasureT-loop
-μ-loop t rs₀ u a kinds values marks c places at₀ p₀ rs at p =
+μ-loop t rs₀ u a told marks c places at₀ p₀ rs at p =
     places - p
 
 -- src/emit.rt:84:18
 add-places : tie.Need-add-places Inv-loop μ-loop
 add-places c =
-    let st = c .before .before .before .before .before .before in
+    let st = c .before .before .before .before .before in
     let g : st .args .c .len ≤ 128 = few _ _ _ (st .pre .0) in omega (arith, g)
 
 -- src/emit.rt:87:5
 loop-holds : tie.Need-loop-holds Inv-loop μ-loop
 loop-holds c =
-    let st = c .before .before .before .before .before .before in (
+    let st = c .before .before .before .before .before in (
       search needs,
       search needs,
       refl,
@@ -51,12 +52,12 @@ comparison-at-requires c κs = search needs
 -- src/emit.rt:89:9
 write-place-requires : tie.Need-write-place-requires Inv-loop μ-loop
 write-place-requires c κs =
-    let st = c .before .before .before .before .before .before .before .before .before .before in
+    let st = c .before .before .before .before .before .before .before .before .before in
     let loop = c .before .before .before .loop in
     let loop-test = c .before .before .loop-test in
     let comparison-at = c .before .comparison-at in
     let g : st .args .c .len ≤ 128 = few _ _ _ (st .pre .0) in
-    let sj = conjuncts (st .args .kinds .now) (st .args .values .now) [] [] [] in
+    let sj = conjunctsOf (kindsIn (st .args .told .now)) (valuesIn (st .args .told .now)) [] [] [] in
     let r : 16 * (loop .at + 3 * length (comparedOf (comparison-at .result))) ≤ length (st .args .rs .now) =
     place-room sj (numbered (st .args .marks .now) (st .args .c)) _ _ _ _ (comparison-at .result) (comparison-at
     .ensures sj refl refl) (loop .inv .3 sj refl refl) (loop-test .taken) (st .pre .2 sj refl refl) in (
@@ -68,8 +69,7 @@ write-place-requires c κs =
 -- src/emit.rt:90:9
 add-p : tie.Need-add-p Inv-loop μ-loop
 add-p c =
-    let st = c .before .before .before .before .before .before .before .before .before .before .before .before
-    .before in
+    let st = c .before .before .before .before .before .before .before .before .before .before .before .before in
     let loop-test = c .before .before .before .before .before .loop-test in
     let g : st .args .c .len ≤ 128 = few _ _ _ (st .pre .0) in omega (arith, g, loop-test .taken)
 
@@ -80,8 +80,7 @@ loop-less c = search needs
 -- src/emit.rt:87:5
 loop-again : tie.Need-loop-again Inv-loop μ-loop
 loop-again c =
-    let st = c .before .before .before .before .before .before .before .before .before .before .before .before
-    .before in
+    let st = c .before .before .before .before .before .before .before .before .before .before .before .before in
     let loop = c .before .before .before .before .before .before .loop in
     let comparison-at = c .before .before .before .before .comparison-at in
     let write-place = c .before .before .write-place in (
@@ -102,7 +101,7 @@ same-length c = search needs
 -- src/emit.rt:65:1
 returns : tie.Need-returns Inv-loop μ-loop
 returns c =
-    let st = c .before .before .before .before .before .before .before .before in
+    let st = c .before .before .before .before .before .before .before in
     let loop = c .before .loop in
     let loop-test = c .loop-test in
     let h : loop .p ≡ st .args .c .len + 2 = omega (arith, loop .inv .0, loop-test .left) in (

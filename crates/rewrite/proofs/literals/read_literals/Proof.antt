@@ -3,186 +3,163 @@ use Rattle.rewrite.proofs.literals.read_literals.Tie as tie
 use Rattle.rewrite.proofs.literals.read_literals.Reads as reads
 use Rattle.rewrite.proofs.literals.read_literals.Lts as lts
 use Rattle.reading.proofs.classify.classify_by_record.Reads as classify-by-record-reads
-use Rattle.rewrite.proofs.literals.count_of.Reads as count-of-reads
 use Rattle.rewrite.proofs.literals.kind_of.Reads as kind-of-reads
-use Rattle.rewrite.proofs.literals.literal_of.Reads as literal-of-reads
 use Rattle.rewrite.proofs.literals.said_by.Reads as said-by-reads
-use Rattle.rewrite.proofs.literals.start_of.Reads as start-of-reads
 use Rattle.rewrite.proofs.literals.tells_nothing.Reads as tells-nothing-reads
+use Rattle.rewrite.proofs.literals.word_of.Reads as word-of-reads
 use mathlib.Core.Path.{_≡_, refl, _∙_}
-use Prim.Native.Nat.{_-_, _≤_, _<_}
+use Prim.Native.Nat.{ℕ, _+_, _*_, _-_, _≤_, _<_}
 use native.Mathlib.Omega.{arith}
-use lib.ListN.{length, length-set}
-use Rattle.rewrite.proofs.Telling.{Filled, filled-more, filled-skip}
+use lib.ListN.{length, getD, set, length-set}
+use Rattle.rewrite.proofs.Telling.{Filled, filled-more, filled-skip, kept-behind}
 use borrow.Author.Needs.{needs}
 
 abbrev Inv-loop : tie.InvT-loop
-Inv-loop rs nodes n kinds₀ values₀ starts₀ counts₀ i₀ kinds values starts counts i =
-    (i ≤ n) × (length kinds ≡ length kinds₀) × (length values ≡ length values₀) × (length starts ≡ length
-    starts₀) × (length counts ≡ length counts₀) × Filled rs nodes kinds values starts counts i
+Inv-loop rs nodes n told₀ i₀ told i =
+    (i ≤ n) × (length told ≡ length told₀) × Filled rs nodes told i × ((m : ℕ) → 2 * n ≤ m → getD told m 0 ≡
+    getD told₀ m 0)
 
 abbrev μ-loop : tie.MeasureT-loop
-μ-loop rs nodes n kinds₀ values₀ starts₀ counts₀ i₀ kinds values starts counts i =
+μ-loop rs nodes n told₀ i₀ told i =
     n - i
 
--- src/literals.rt:131:5
+-- src/literals.rt:103:5
 loop-holds : tie.Need-loop-holds Inv-loop μ-loop
 loop-holds c =
-    (search needs, refl, refl, refl, refl, λ p m h. absurd (omega arith))
+    (search needs, refl, (λ p m h. absurd (omega arith)), (λ m l. refl))
 
--- src/literals.rt:132:25
-mul-starts : tie.Need-mul-starts Inv-loop μ-loop
-mul-starts c = search needs
+-- src/literals.rt:104:25
+mul-t10 : tie.Need-mul-t10 Inv-loop μ-loop
+mul-t10 c = search needs
 
--- src/literals.rt:132:25
-shared-slice-read-starts : tie.Need-shared-slice-read-starts Inv-loop μ-loop
-shared-slice-read-starts c = search needs
+-- src/literals.rt:104:25
+shared-slice-read-t12 : tie.Need-shared-slice-read-t12 Inv-loop μ-loop
+shared-slice-read-t12 c = search needs
 
--- src/literals.rt:133:12
+-- src/literals.rt:105:12
 tells-nothing-requires : tie.Need-tells-nothing-requires Inv-loop μ-loop
 tells-nothing-requires c κs = search needs
 
--- src/literals.rt:134:13
+-- src/literals.rt:106:13
 add-i : tie.Need-add-i Inv-loop μ-loop
 add-i c = search needs
 
--- src/literals.rt:131:5
+-- src/literals.rt:103:5
 loop-less : tie.Need-loop-less Inv-loop μ-loop
 loop-less c = search needs
 
--- src/literals.rt:131:5
+-- src/literals.rt:103:5
 loop-again : tie.Need-loop-again Inv-loop μ-loop
 loop-again c =
-    let st = c .before .before .before .before .before .before .before .before .before .before .before in
+    let st = c .before .before .before .before .before .before .before .before in
     let loop = c .before .before .before .before .loop in
     let loop-test = c .before .before .before .loop-test in
     let tells-nothing = c .before .tells-nothing in
     let if1 = c .if1 in (
       omega (arith, loop-test .taken),
       loop .inv .1,
-      loop .inv .2,
+      filled-skip (st .args .rs .now) (st .args .nodes .now)
+          (loop .told) (loop .i) (tells-nothing .ensures (if1 .taken)) (loop .inv .2),
       loop .inv .3,
-      loop .inv .4,
-      filled-skip (st
-          .args .rs .now) (st .args .nodes .now) (loop .kinds) (loop .values) (loop .starts) (loop .counts) (loop .i)
-          (tells-nothing .ensures (if1 .taken)) (loop .inv .5),
     )
 
--- src/literals.rt:137:13
+-- src/literals.rt:109:13
 classify-by-record-requires : tie.Need-classify-by-record-requires Inv-loop μ-loop
 classify-by-record-requires c κs = search needs
 
--- src/literals.rt:138:13
+-- src/literals.rt:110:13
 said-by-requires : tie.Need-said-by-requires Inv-loop μ-loop
 said-by-requires c κs = search needs
 
--- src/literals.rt:139:20
+-- src/literals.rt:111:23
+word-of-requires : tie.Need-word-of-requires Inv-loop μ-loop
+word-of-requires c κs = search needs
+
+-- src/literals.rt:111:14
+mul-told : tie.Need-mul-told Inv-loop μ-loop
+mul-told c = search needs
+
+-- src/literals.rt:111:9
+mul-told-2 : tie.Need-mul-told-2 Inv-loop μ-loop
+mul-told-2 c = search needs
+
+-- src/literals.rt:111:9
+slice-write-told : tie.Need-slice-write-told Inv-loop μ-loop
+slice-write-told c = search needs
+
+-- src/literals.rt:112:27
 kind-of-requires : tie.Need-kind-of-requires Inv-loop μ-loop
 kind-of-requires c κs = search needs
 
--- src/literals.rt:139:9
-slice-write-kinds : tie.Need-slice-write-kinds Inv-loop μ-loop
-slice-write-kinds c = search needs
+-- src/literals.rt:112:14
+mul-told-3 : tie.Need-mul-told-3 Inv-loop μ-loop
+mul-told-3 c = search needs
 
--- src/literals.rt:140:21
-literal-of-requires : tie.Need-literal-of-requires Inv-loop μ-loop
-literal-of-requires c κs = search needs
+-- src/literals.rt:112:14
+add-told : tie.Need-add-told Inv-loop μ-loop
+add-told c = search needs
 
--- src/literals.rt:140:9
-mul-values : tie.Need-mul-values Inv-loop μ-loop
-mul-values c = search needs
+-- src/literals.rt:112:9
+mul-told-4 : tie.Need-mul-told-4 Inv-loop μ-loop
+mul-told-4 c = search needs
 
--- src/literals.rt:140:9
-slice-write-values : tie.Need-slice-write-values Inv-loop μ-loop
-slice-write-values c = search needs
+-- src/literals.rt:112:9
+slice-write-told-2 : tie.Need-slice-write-told-2 Inv-loop μ-loop
+slice-write-told-2 c =
+    let st = c .before .before .before .before .before .before .before .before .before .before .before .before
+    in
+    let loop = c .before .before .before .before .before .before .before .before .loop in
+    let loop-test = c .before .before .before .before .before .before .before .loop-test in
+    let word-of = c .before .word-of in
+    omega (
+      arith,
+      loop-test .taken,
+      loop .inv .1,
+      st .pre .1,
+      length-set (loop .told) (2 * loop .i) (word-of
+          .result),
+    )
 
--- src/literals.rt:141:21
-start-of-requires : tie.Need-start-of-requires Inv-loop μ-loop
-start-of-requires c κs = search needs
-
--- src/literals.rt:141:9
-mul-starts-2 : tie.Need-mul-starts-2 Inv-loop μ-loop
-mul-starts-2 c = search needs
-
--- src/literals.rt:141:9
-slice-write-starts : tie.Need-slice-write-starts Inv-loop μ-loop
-slice-write-starts c = search needs
-
--- src/literals.rt:142:21
-count-of-requires : tie.Need-count-of-requires Inv-loop μ-loop
-count-of-requires c κs = search needs
-
--- src/literals.rt:142:9
-mul-counts : tie.Need-mul-counts Inv-loop μ-loop
-mul-counts c = search needs
-
--- src/literals.rt:142:9
-slice-write-counts : tie.Need-slice-write-counts Inv-loop μ-loop
-slice-write-counts c = search needs
-
--- src/literals.rt:143:9
+-- src/literals.rt:113:9
 add-i-2 : tie.Need-add-i-2 Inv-loop μ-loop
 add-i-2 c = search needs
 
--- src/literals.rt:131:5
+-- src/literals.rt:103:5
 loop-less-2 : tie.Need-loop-less-2 Inv-loop μ-loop
 loop-less-2 c = search needs
 
--- src/literals.rt:131:5
+-- src/literals.rt:103:5
 loop-again-2 : tie.Need-loop-again-2 Inv-loop μ-loop
 loop-again-2 c =
     let st = c .before .before .before .before .before .before .before .before .before .before .before .before
-    .before .before .before .before .before in
-    let loop = c .before .before .before .before .before .before .before .before .before .before .loop in
-    let loop-test = c .before .before .before .before .before .before .before .before .before .loop-test in
-    let classify-by-record = c .before .before .before .before .before .classify-by-record in
-    let said-by = c .before .before .before .before .said-by in
-    let kind-of = c .before .before .before .kind-of in
-    let literal-of = c .before .before .literal-of in
-    let start-of = c .before .start-of in
-    let count-of = c .count-of in
+    in
+    let loop = c .before .before .before .before .before .before .before .before .loop in
+    let loop-test = c .before .before .before .before .before .before .before .loop-test in
+    let classify-by-record = c .before .before .before .classify-by-record in
+    let said-by = c .before .before .said-by in
+    let word-of = c .before .word-of in
+    let kind-of = c .kind-of in
     let h : loop .i < st .args .n = loop-test .taken in (
       omega (arith, h),
-      length-set (loop .kinds) (loop .i) _ ∙ loop .inv .1,
-      length-set (loop .values) (loop .i)
-          _ ∙ loop .inv .2,
-      length-set (loop .starts) (loop .i) _ ∙ loop .inv .3,
-      length-set (loop .counts) (loop .i)
-          _ ∙ loop .inv .4,
-      filled-more (st .args .rs .now) (st .args .nodes .now) (loop .kinds) (loop .values) (loop
-          .starts) (loop .counts) (loop .i) (classify-by-record .result) (said-by .result) (kind-of .result) (literal-of
-          .result) (start-of .result) (count-of .result) (omega (arith, h, loop .inv .1, st .pre .1 .0)) (omega
-          (arith, h, loop .inv .2, st .pre .1 .1)) (omega (arith, h, loop .inv .3, st .pre .1 .2)) (omega (
-            arith,
-            h,
-            loop .inv .4,
-            st .pre .1 .3,
-          )) (classify-by-record .ensures) (said-by .ensures) (kind-of .ensures) (literal-of
-          .ensures) (start-of .ensures) (count-of .ensures) (loop .inv .5),
+      length-set (set (loop .told) (2 * loop .i) (word-of .result)) (2 * loop .i + 1) (kind-of .result)
+          ∙ length-set (loop .told) (2 * loop .i) (word-of .result) ∙ loop .inv .1,
+      filled-more (st .args .rs
+          .now) (st .args .nodes .now) (loop .told) (loop .i) (classify-by-record .result) (said-by .result) (word-of
+          .result) (kind-of .result) (omega (arith, h, loop .inv .1, st .pre .1)) (classify-by-record .ensures)
+          (said-by .ensures) (word-of .ensures) (kind-of .ensures) (loop .inv .2),
+      kept-behind (loop .told) (st .args .told .now) (loop .i) (st .args .n) (word-of .result) (kind-of .result) h (loop .inv .3),
     )
 
--- src/literals.rt:114:1
+-- src/literals.rt:96:1
 same-length : tie.Need-same-length Inv-loop μ-loop
 same-length c = search needs
 
--- src/literals.rt:114:1
-same-length-2 : tie.Need-same-length-2 Inv-loop μ-loop
-same-length-2 c = search needs
-
--- src/literals.rt:114:1
-same-length-3 : tie.Need-same-length-3 Inv-loop μ-loop
-same-length-3 c = search needs
-
--- src/literals.rt:114:1
-same-length-4 : tie.Need-same-length-4 Inv-loop μ-loop
-same-length-4 c = search needs
-
--- src/literals.rt:114:1
+-- src/literals.rt:96:1
 returns : tie.Need-returns Inv-loop μ-loop
 returns c =
     let loop = c .before .loop in
     let loop-test = c .loop-test in
-    λ p i h. loop .inv .5 p i (omega (arith, h, loop .inv .0, loop-test .left))
+    ((λ p i h. loop .inv .2 p i (omega (arith, h, loop .inv .0, loop-test .left))), loop .inv .3)
 
 pub read-literals-spec : {M : Type 1} → statement M
 read-literals-spec =
@@ -191,30 +168,25 @@ read-literals-spec =
     Inv-loop
     μ-loop
     loop-holds
-    mul-starts
-    shared-slice-read-starts
+    mul-t10
+    shared-slice-read-t12
     tells-nothing-requires
     add-i
     loop-less
     loop-again
     classify-by-record-requires
     said-by-requires
+    word-of-requires
+    mul-told
+    mul-told-2
+    slice-write-told
     kind-of-requires
-    slice-write-kinds
-    literal-of-requires
-    mul-values
-    slice-write-values
-    start-of-requires
-    mul-starts-2
-    slice-write-starts
-    count-of-requires
-    mul-counts
-    slice-write-counts
+    mul-told-3
+    add-told
+    mul-told-4
+    slice-write-told-2
     add-i-2
     loop-less-2
     loop-again-2
     same-length
-    same-length-2
-    same-length-3
-    same-length-4
     returns)

@@ -3,7 +3,7 @@ use Rattle.row_blocks.proofs.lines.between_line.Statement.{statement}
 use Rattle.row_blocks.proofs.lines.between_line.Tie as tie
 use Rattle.row_blocks.proofs.lines.between_line.Reads as reads
 use Rattle.row_blocks.proofs.lines.between_line.Lts as lts
-use Rattle.masks.proofs.literal.between_literals.Reads as between-literals-reads
+use Rattle.literal_masks.proofs.between_literals.Reads as between-literals-reads
 use Rattle.records.proofs.record.fields_in.Reads as fields-in-reads
 use Rattle.row_blocks.proofs.operand.join.Reads as join-reads
 use native.Mathlib.Omega.{arith}

@@ -3,7 +3,7 @@ use Rattle.row_blocks.proofs.lines.compare_line.Statement.{statement}
 use Rattle.row_blocks.proofs.lines.compare_line.Tie as tie
 use Rattle.row_blocks.proofs.lines.compare_line.Reads as reads
 use Rattle.row_blocks.proofs.lines.compare_line.Lts as lts
-use Rattle.masks.proofs.literal.compare_literal.Reads as compare-literal-reads
+use Rattle.literal_masks.proofs.compare_literal.Reads as compare-literal-reads
 use Rattle.records.proofs.record.fields_in.Reads as fields-in-reads
 use Rattle.row_blocks.proofs.operand.join.Reads as join-reads
 use native.Mathlib.Omega.{arith}

@@ -3,7 +3,7 @@ use Rattle.row_blocks.proofs.lines.null_line.Statement.{statement}
 use Rattle.row_blocks.proofs.lines.null_line.Tie as tie
 use Rattle.row_blocks.proofs.lines.null_line.Reads as reads
 use Rattle.row_blocks.proofs.lines.null_line.Lts as lts
-use Rattle.masks.proofs.literal.null_masks.Reads as null-masks-reads
+use Rattle.literal_masks.proofs.null_masks.Reads as null-masks-reads
 use Rattle.masks.proofs.not_masks.Reads as not-masks-reads
 use Rattle.records.proofs.record.fields_in.Reads as fields-in-reads
 use native.Mathlib.Omega.{arith}

@@ -3,7 +3,7 @@ use Rattle.row_blocks.proofs.record.between_record.Statement.{statement
 use Rattle.row_blocks.proofs.record.between_record.Tie as tie
 use Rattle.row_blocks.proofs.record.between_record.Reads as reads
 use Rattle.row_blocks.proofs.record.between_record.Lts as lts
-use Rattle.masks.proofs.compare.between_truths.Reads as between-truths-reads
+use Rattle.compare_masks.proofs.between_truths.Reads as between-truths-reads
 use Rattle.masks.proofs.reach.is_kept.Reads as is-kept-reads
 use Rattle.records.proofs.record.fields_in.Reads as fields-in-reads
 use Rattle.row_blocks.proofs.record.between_values.Reads as between-values-reads

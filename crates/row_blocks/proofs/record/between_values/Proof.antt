@@ -3,7 +3,7 @@ use Rattle.row_blocks.proofs.record.between_values.Statement.{statement
 use Rattle.row_blocks.proofs.record.between_values.Tie as tie
 use Rattle.row_blocks.proofs.record.between_values.Reads as reads
 use Rattle.row_blocks.proofs.record.between_values.Lts as lts
-use Rattle.masks.proofs.compare.between_columns.Reads as between-columns-reads
+use Rattle.compare_masks.proofs.between_columns.Reads as between-columns-reads
 use Rattle.row_blocks.proofs.operand.operand.Reads as operand-reads
 use native.Mathlib.Omega.{arith}
 use Rattle.masks.proofs.Comparing.{shown-kept}

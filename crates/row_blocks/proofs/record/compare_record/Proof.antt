@@ -3,7 +3,7 @@ use Rattle.row_blocks.proofs.record.compare_record.Statement.{statement
 use Rattle.row_blocks.proofs.record.compare_record.Tie as tie
 use Rattle.row_blocks.proofs.record.compare_record.Reads as reads
 use Rattle.row_blocks.proofs.record.compare_record.Lts as lts
-use Rattle.masks.proofs.compare.compare_columns.Reads as compare-columns-reads
+use Rattle.compare_masks.proofs.compare_columns.Reads as compare-columns-reads
 use Rattle.row_blocks.proofs.operand.operand.Reads as operand-reads
 use native.Mathlib.Omega.{arith}
 use Rattle.masks.proofs.Comparing.{shown-kept}

@@ -3,7 +3,7 @@ use Rattle.row_blocks.proofs.record.connect_record.Statement.{statement
 use Rattle.row_blocks.proofs.record.connect_record.Tie as tie
 use Rattle.row_blocks.proofs.record.connect_record.Reads as reads
 use Rattle.row_blocks.proofs.record.connect_record.Lts as lts
-use Rattle.masks.proofs.compare.connect_masks.Reads as connect-masks-reads
+use Rattle.compare_masks.proofs.connect_masks.Reads as connect-masks-reads
 use Rattle.row_blocks.proofs.operand.truth_input.Reads as truth-input-reads
 use native.Mathlib.Omega.{arith}
 use Rattle.row_blocks.proofs.Turns.{binary-a, binary-b, connect-kind}

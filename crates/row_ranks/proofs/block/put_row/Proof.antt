@@ -10,101 +10,71 @@ use native.Mathlib.Omega.{arith}
 use lib.ListN.{length}
 use Rattle.row_ranks.proofs.Rows.{part-row, part-length, row-back, rows-before}
 
--- src/block.rt:37:16
+-- src/block.rt:26:16
 mul-wide : tie.Need-mul-wide
 mul-wide c = search needs
 
--- src/block.rt:38:17
+-- src/block.rt:27:17
 mul-start : tie.Need-mul-start
 mul-start c = search needs
 
--- src/block.rt:39:15
+-- src/block.rt:28:15
 add-end : tie.Need-add-end
 add-end c = search needs
 
--- src/block.rt:40:14
+-- src/block.rt:29:14
 mul-at : tie.Need-mul-at
 mul-at c = search needs
 
--- src/block.rt:41:16
+-- src/block.rt:30:16
 add-till : tie.Need-add-till
 add-till c = search needs
 
--- src/block.rt:47:9
+-- src/block.rt:31:29
 sub-row-ranks : tie.Need-sub-row-ranks
 sub-row-ranks c = search needs
 
--- src/block.rt:47:9
+-- src/block.rt:31:29
 part-row-ranks-start : tie.Need-part-row-ranks-start
 part-row-ranks-start c = search needs
 
--- src/block.rt:47:9
+-- src/block.rt:31:29
 part-row-ranks-end : tie.Need-part-row-ranks-end
 part-row-ranks-end c = search needs
 
--- src/block.rt:52:9
+-- src/block.rt:31:57
 sub-row-ranks-2 : tie.Need-sub-row-ranks-2
 sub-row-ranks-2 c = search needs
 
--- src/block.rt:52:9
+-- src/block.rt:31:57
 part-row-ranks-start-2 : tie.Need-part-row-ranks-start-2
 part-row-ranks-start-2 c = search needs
 
--- src/block.rt:52:9
+-- src/block.rt:31:57
 part-row-ranks-end-2 : tie.Need-part-row-ranks-end-2
 part-row-ranks-end-2 c = search needs
 
--- src/block.rt:42:5
+-- src/block.rt:31:5
 row-ranks-requires : tie.Need-row-ranks-requires
-row-ranks-requires c κs =
-    let st = c .before .before .before .before .before .before .before .before .before .before .before .before
-    .before in
-    let t = st .args .table .now in (
-      st .pre .0,
-      (
-        st .pre .1 .0,
-        (
-          rw (part-row (length t) (st .args .values .now) (st .args .r)) (st .pre .1 .1
-              .0),
-          (
-            st .pre .1 .1 .1 .0,
-            part-length (length t) (st .args .block .now) (st .args .i) (st .pre .1 .1 .1 .1
-                .1 .1),
-          ),
-        ),
-      ),
-    )
+row-ranks-requires c κs = search needs
 
--- src/block.rt:12:1
+-- src/block.rt:10:1
 same-length : tie.Need-same-length
 same-length c = search needs
 
--- src/block.rt:12:1
-same-length-2 : tie.Need-same-length-2
-same-length-2 c = search needs
-
--- src/block.rt:12:1
-same-length-3 : tie.Need-same-length-3
-same-length-3 c = search needs
-
--- src/block.rt:12:1
-same-length-4 : tie.Need-same-length-4
-same-length-4 c = search needs
-
--- src/block.rt:12:1
+-- src/block.rt:10:1
 returns : tie.Need-returns
 returns c =
-    let st = c .before .before .before .before .before .before .before .before .before .before .before .before
-    .before .before .before .before .before .before .before .before .before .before in
-    let row-ranks = c .before .before .before .before .before .before .before .before .row-ranks in
+    let st = c .before .before .before .before .before .before .before .before .before in
+    let row-ranks = c .before .before .row-ranks in
     let t = st .args .table .now in
-    let ys = row-ranks .last .1 .1 .1 .1 .1 .1 .1 .1 .1 .0 in
-    let p = part-length (length t) (st .args .block .now) (st .args .i) (st .pre .1 .1 .1 .1 .1 .1) in
+    let ys = row-ranks .last .1 .1 .1 .1 .0 in
+    let p = part-length (length t) (st .args .block .now) (st .args .i) (st .pre .1 .1 .1) in
     let l : length ys ≡ 8 * length t = search (needs, p) in (
-      rw (row-back (length t) (st .args .block .now) (st .args .i) ys (st .pre .1 .1 .1 .1 .1 .1) l) (rw
-          (part-row (length t) (st .args .values .now) (st .args .r)) at (row-ranks .ensures)),
-      rows-before (length t)
-          (st .args .block .now) (st .args .i) ys (st .pre .1 .1 .1 .1 .1 .1) l,
+      rw (row-back (length t) (st .args .block .now) (st .args .i) ys (st .pre .1 .1 .1) l) (rw (part-row
+          (length t) (st .args .values .now) (st .args .r)) at (row-ranks .ensures)),
+      rows-before (length t) (st .args
+          .block .now) (st .args .i) ys (st .pre .1 .1 .1) l,
     )
 
 pub put-row-spec : {M : Type 1} → statement M
@@ -124,7 +94,4 @@ put-row-spec =
     part-row-ranks-end-2
     row-ranks-requires
     same-length
-    same-length-2
-    same-length-3
-    same-length-4
     returns)

@@ -1,120 +1,154 @@
-use borrow.Author.Needs.{needs}
 use Rattle.row_ranks.proofs.row.row_ranks.Statement.{statement}
 use Rattle.row_ranks.proofs.row.row_ranks.Tie as tie
 use Rattle.row_ranks.proofs.row.row_ranks.Reads as reads
 use Rattle.row_ranks.proofs.row.row_ranks.Lts as lts
-use Rattle.row_ranks.proofs.row.gather.Reads as gather-reads
-use Rattle.row_ranks.proofs.row.rank_found.Reads as rank-found-reads
-use Rattle.row_ranks.proofs.row.write_row.Reads as write-row-reads
-use mathlib.Core.Path.{_≡_, sym, _∙_}
-use Prim.Native.Nat.{_≤_}
+use Rattle.ranked_screen.proofs.pool.put_value.Reads as put-value-reads
+use Rattle.records.proofs.bytes.value_in.Reads as value-in-reads
+use Rattle.row_ranks.proofs.row.holds_symbol.Reads as holds-symbol-reads
+use Rattle.text_order.proofs.number.number.Reads as number-reads
+use mathlib.Core.Path.{_≡_, refl, sym, _∙_, ap}
+use Prim.Native.Nat.{_+_, _-_, _<_, _≤_}
 use native.Mathlib.Omega.{arith}
 use lib.ListN.{length}
-use Rattle.symbol_reduction.proofs.TextLeaves.{row-long}
-use Rattle.row_ranks.specs.Between.{symbolsBefore}
-use Rattle.row_ranks.proofs.Gathering.{before-few, gathered-pooled}
-use Rattle.row_ranks.proofs.Numbering.{fit-pooled, ranks-within, row-numbered}
+use Rattle.text_order.specs.Codes.{codeOf}
+use Rattle.row_ranks.specs.RowRanks.{RowRanks}
+use Rattle.row_ranks.proofs.Numbering.{numbered-none, symbol-more, value-more}
+use borrow.Author.Needs.{needs}
 
--- src/row.rt:110:9
-gather-requires : tie.Need-gather-requires
-gather-requires c κs =
-    let st = c .before .before .before .before .before .before .before .before .before in
-    (st .pre .1 .0 .2, row-long _ _ _ _ (st .pre .1 .1 .0), st .pre .1 .1 .1 .0 .0)
+abbrev Inv-loop : tie.InvT-loop
+Inv-loop table codes row nulls out₀ c₀ out c =
+    (c ≤ length table) × (length out ≡ length out₀) × RowRanks table codes row nulls c out
 
--- src/row.rt:111:5
-rank-found-requires : tie.Need-rank-found-requires
-rank-found-requires c κs =
+abbrev μ-loop : tie.MeasureT-loop
+μ-loop table codes row nulls out₀ c₀ out c =
+    length table - c
+
+-- src/row.rt:26:5
+loop-holds : tie.Need-loop-holds Inv-loop μ-loop
+loop-holds c =
+    (omega arith, refl, numbered-none)
+
+-- src/row.rt:27:13
+value-in-requires : tie.Need-value-in-requires Inv-loop μ-loop
+value-in-requires c κs = search needs
+
+-- src/row.rt:28:12
+holds-symbol-requires : tie.Need-holds-symbol-requires Inv-loop μ-loop
+holds-symbol-requires c κs = search needs
+
+-- src/row.rt:29:31
+number-requires : tie.Need-number-requires Inv-loop μ-loop
+number-requires c κs = search needs
+
+-- src/row.rt:29:13
+put-value-requires : tie.Need-put-value-requires Inv-loop μ-loop
+put-value-requires c κs =
+    let l1 = c .before .before .before .before .before .before .loop in
+    let v = l1 .inv .1 in
+    omega arith
+
+-- src/row.rt:30:13
+add-c : tie.Need-add-c Inv-loop μ-loop
+add-c c = search needs
+
+-- src/row.rt:26:5
+loop-less : tie.Need-loop-less Inv-loop μ-loop
+loop-less c = search needs
+
+-- src/row.rt:26:5
+loop-again : tie.Need-loop-again Inv-loop μ-loop
+loop-again c =
     let st = c .before .before .before .before .before .before .before .before .before .before .before .before
-    .before .before .before in
-    let gather = c .before .before .before .before .before .gather in
-    let w = before-few (st .args .table .now) (st .args .nulls) (length (st .args .table .now)) in
-    let u = st .pre .1 .0 .2 in
-    let e = gather .ensures .0 in (
-      rw e (gathered-pooled (omega (arith, w, u, gather .kept .1 .1 .1 .0, st .pre .1 .1 .1 .0 .0)) (fit-pooled _
-          _ _ _ (st .pre .1 .1 .0)) (gather .ensures .1)),
-      (omega (arith, w, u, e), search needs, search needs),
+    .before .before in
+    let l1 = c .before .before .before .before .before .before .before .before .before .loop in
+    let t1 = c .before .before .before .before .before .before .before .before .loop-test in
+    let value-in = c .before .before .before .before .before .before .before .value-in in
+    let holds-symbol = c .before .before .before .before .before .before .holds-symbol in
+    let if1 = c .before .before .before .before .before .if1 in
+    let number = c .before .before .before .number in
+    let put-value = c .before .before .put-value in
+    let k = sym (holds-symbol .ensures) ∙ if1 .taken in
+    let v = l1 .inv .1 in
+    let o = st .pre .1 .1 in
+    let h = t1 .taken in (
+      omega (arith, h),
+      put-value .kept .0 ∙ l1 .inv .1,
+      symbol-more _ (omega (arith, v, o, h)) (omega (
+        arith,
+        number .ok,
+      )) (put-value .ensures) (l1 .inv .2) k (number .ensures ∙ ap (codeOf (st .args .codes .now))
+          (value-in .ensures)),
     )
 
--- src/row.rt:112:5
-write-row-requires : tie.Need-write-row-requires
-write-row-requires c κs =
+-- src/row.rt:33:9
+put-value-requires-2 : tie.Need-put-value-requires-2 Inv-loop μ-loop
+put-value-requires-2 c κs =
+    let l1 = c .before .before .before .before .before .loop in
+    let v = l1 .inv .1 in
+    omega arith
+
+-- src/row.rt:34:9
+add-c-2 : tie.Need-add-c-2 Inv-loop μ-loop
+add-c-2 c = search needs
+
+-- src/row.rt:26:5
+loop-less-2 : tie.Need-loop-less-2 Inv-loop μ-loop
+loop-less-2 c = search needs
+
+-- src/row.rt:26:5
+loop-again-2 : tie.Need-loop-again-2 Inv-loop μ-loop
+loop-again-2 c =
     let st = c .before .before .before .before .before .before .before .before .before .before .before .before
-    .before .before .before .before .before .before .before .before .before .before in
-    let gather = c .before .before .before .before .before .before .before .before .before .before .before
-    .before .gather in
-    let rank-found = c .before .before .before .before .before .before .rank-found in
-    let w = before-few (st .args .table .now) (st .args .nulls) (length (st .args .table .now)) in
-    let u = st .pre .1 .0 .2 in
-    let e = gather .ensures .0 in (
-      st .pre .0,
-      (
-        (st .pre .1 .0 .0, st .pre .1 .0 .1),
-        (
-          fit-pooled _ _ _ _ (st .pre .1 .1 .0),
-          (
-            (
-              st .pre .1 .0
-                  .2,
-              row-long _ _ _ _ (st .pre .1 .1 .0),
-              st .pre .1 .1 .1 .1,
-            ),
-            (
-              search needs,
-              ranks-within (omega (
-                arith,
-                w,
-                u,
-              )) (rw e at (rank-found .ensures)),
-            ),
-          ),
-        ),
-      ),
+    .before in
+    let l1 = c .before .before .before .before .before .before .before .before .loop in
+    let t1 = c .before .before .before .before .before .before .before .loop-test in
+    let value-in = c .before .before .before .before .before .before .value-in in
+    let holds-symbol = c .before .before .before .before .before .holds-symbol in
+    let if1 = c .before .before .before .before .if1 in
+    let put-value2 = c .before .before .put-value2 in
+    let k = sym (holds-symbol .ensures) ∙ if1 .left in
+    let v = l1 .inv .1 in
+    let o = st .pre .1 .1 in
+    let h = t1 .taken in (
+      omega (arith, h),
+      put-value2 .kept .0 ∙ l1 .inv .1,
+      value-more _ (omega (arith, v, o, h)) (omega (
+        arith,
+        value-in .ok,
+      )) (put-value2 .ensures) (l1 .inv .2) k (value-in .ensures),
     )
 
--- src/row.rt:90:1
-same-length : tie.Need-same-length
-same-length c = search needs
+-- src/row.rt:19:1
+same-length : tie.Need-same-length Inv-loop μ-loop
+same-length c =
+    let l1 = c .before .loop in
+    l1 .inv .1
 
--- src/row.rt:90:1
-same-length-2 : tie.Need-same-length-2
-same-length-2 c = search needs
-
--- src/row.rt:90:1
-same-length-3 : tie.Need-same-length-3
-same-length-3 c = search needs
-
--- src/row.rt:90:1
-same-length-4 : tie.Need-same-length-4
-same-length-4 c = search needs
-
--- src/row.rt:90:1
-returns : tie.Need-returns
+-- src/row.rt:19:1
+returns : tie.Need-returns Inv-loop μ-loop
 returns c =
-    let shared-slice-known = c .before .before .before .before .before .before .before .before .before .before
-    .before .before .before .before .before .before .before .before .before .before .before .before .before
-    .before .shared-slice-known in
-    let st = c .before .before .before .before .before .before .before .before .before .before .before .before
-    .before .before .before .before .before .before .before .before .before .before .before .before .before
-    in
-    let gather = c .before .before .before .before .before .before .before .before .before .before .before
-    .before .before .before .before .gather in
-    let rank-found = c .before .before .before .before .before .before .before .before .before .rank-found in
-    let write-row = c .before .before .write-row in
-    let w = before-few (st .args .table .now) (st .args .nulls) (length (st .args .table .now)) in
-    let u = st .pre .1 .0 .2 in
-    let e = gather .ensures .0 in
-    row-numbered (λ q. omega (arith, shared-slice-known .given q)) (st .pre .0) (fit-pooled _ _ _ _ (st .pre .1
-    .1 .0)) (gather .ensures .1) (rw e at (rank-found .ensures)) (omega (arith, w, u)) (write-row .ensures)
+    let st = c .before .before .before .before .before .before in
+    let l1 = c .before .loop in
+    let w : l1 .c ≡ length (st .args .table .now) = omega arith in
+    rw w at (l1 .inv .2)
 
 pub row-ranks-spec : {M : Type 1} → statement M
 row-ranks-spec =
     tie.close
     (tie.spec
-    gather-requires
-    rank-found-requires
-    write-row-requires
+    Inv-loop
+    μ-loop
+    loop-holds
+    value-in-requires
+    holds-symbol-requires
+    number-requires
+    put-value-requires
+    add-c
+    loop-less
+    loop-again
+    put-value-requires-2
+    add-c-2
+    loop-less-2
+    loop-again-2
     same-length
-    same-length-2
-    same-length-3
-    same-length-4
     returns)

@@ -2,7 +2,8 @@ use Rattle.row_shown.proofs.place.smallest_listed.Statement.{statement}
 use Rattle.row_shown.proofs.place.smallest_listed.Tie as tie
 use Rattle.row_shown.proofs.place.smallest_listed.Reads as reads
 use Rattle.row_shown.proofs.place.smallest_listed.Lts as lts
-use Rattle.column_sets.proofs.marks.number_at.Reads as number-at-reads
+use Rattle.column_sets.proofs.told.start_at.Reads as start-at-reads
+use Rattle.column_sets.proofs.told.count_at.Reads as count-at-reads
 use Rattle.records.proofs.bytes.value_at.Reads as value-at-reads
 use Rattle.row_shown.proofs.place.is_possible.Reads as is-possible-reads
 use Rattle.row_shown.proofs.place.smaller.Reads as smaller-reads
@@ -20,25 +21,25 @@ use Rattle.row_shown.proofs.Smallest.{walk-none, walk-more, walk-end}
 use borrow.Author.Needs.{needs}
 
 abbrev Inv-loop : tie.InvT-loop
-Inv-loop kinds values starts counts pool marks c f s m best₀ i₀ best i =
-    (i ≤ m) × (smallestOf best ≡ smallest (isFeasible lined (columnOf (conjuncts kinds values starts counts
+Inv-loop told pool marks c f s m best₀ i₀ best i =
+    (i ≤ m) × (smallestOf best ≡ smallest (isFeasible lined (columnOf (conjuncts told
     pool) (numbered marks c))) (valuesFrom pool (s + i) (m - i)))
 
 abbrev μ-loop : tie.MeasureT-loop
-μ-loop kinds values starts counts pool marks c f s m best₀ i₀ best i =
+μ-loop told pool marks c f s m best₀ i₀ best i =
     i
 
 -- src/place.rt:188:13
-number-at-requires : tie.Need-number-at-requires Inv-loop μ-loop
-number-at-requires c κs = search needs
+start-at-requires : tie.Need-start-at-requires Inv-loop μ-loop
+start-at-requires c κs = search needs
 
 -- src/place.rt:188:13
 cast-s : tie.Need-cast-s Inv-loop μ-loop
 cast-s c = search needs
 
 -- src/place.rt:189:13
-number-at-requires-2 : tie.Need-number-at-requires-2 Inv-loop μ-loop
-number-at-requires-2 c κs = search needs
+count-at-requires : tie.Need-count-at-requires Inv-loop μ-loop
+count-at-requires c κs = search needs
 
 -- src/place.rt:189:13
 cast-m : tie.Need-cast-m Inv-loop μ-loop
@@ -89,11 +90,11 @@ loop-again c =
 -- src/place.rt:174:1
 returns : tie.Need-returns Inv-loop μ-loop
 returns c =
-    let number-at = c .before .before .before .number-at in
-    let number-at2 = c .before .before .number-at2 in
+    let start-at = c .before .before .before .start-at in
+    let count-at = c .before .before .count-at in
     let loop = c .before .loop in
     let loop-test = c .loop-test in
-    walk-end _ _ _ _ _ _ _ _ _ (loop-test .left) (loop .inv .1) (number-at .ensures) (number-at2 .ensures)
+    walk-end _ _ _ _ _ _ _ _ _ (loop-test .left) (loop .inv .1) (start-at .ensures) (count-at .ensures)
 
 pub smallest-listed-spec : {M : Type 1} → statement M
 smallest-listed-spec =
@@ -101,9 +102,9 @@ smallest-listed-spec =
     (tie.spec
     Inv-loop
     μ-loop
-    number-at-requires
+    start-at-requires
     cast-s
-    number-at-requires-2
+    count-at-requires
     cast-m
     loop-holds
     sub-i

@@ -15,13 +15,14 @@ use Rattle.column_constraints.specs.Abstraction.{conjuncts, numbered, allowedBy
 use Rattle.column_sets.proofs.Lists.{skip-allowed, none-allowed}
 use Rattle.row_shown.proofs.Smallest.{place-bounds, place-listed}
 use borrow.Author.Needs.{needs}
+use Rattle.column_constraints.specs.Abstraction.{kindsIn, startsIn, countsIn}
 
 abbrev Inv-loop : tie.InvT-loop
-Inv-loop kinds values starts counts pool marks c n i₀ i =
-    (i ≤ n) × (allowedBy kinds starts counts pool marks i ≡ none)
+Inv-loop told pool marks c n i₀ i =
+    (i ≤ n) × (allowedBy (kindsIn told) (startsIn told) (countsIn told) pool marks i ≡ none)
 
 abbrev μ-loop : tie.MeasureT-loop
-μ-loop kinds values starts counts pool marks c n i₀ i =
+μ-loop told pool marks c n i₀ i =
     n - i
 
 -- src/place.rt:228:5
@@ -34,12 +35,12 @@ byte-requires : tie.Need-byte-requires Inv-loop μ-loop
 byte-requires c κs = search needs
 
 -- src/place.rt:230:24
-cast-byte : tie.Need-cast-byte Inv-loop μ-loop
-cast-byte c = search needs
+cast-kind-at : tie.Need-cast-kind-at Inv-loop μ-loop
+cast-kind-at c = search needs
 
 -- src/place.rt:230:12
-byte-requires-2 : tie.Need-byte-requires-2 Inv-loop μ-loop
-byte-requires-2 c κs = search needs
+kind-at-requires : tie.Need-kind-at-requires Inv-loop μ-loop
+kind-at-requires c κs = search needs
 
 -- src/place.rt:231:17
 smallest-listed-requires : tie.Need-smallest-listed-requires Inv-loop μ-loop
@@ -52,18 +53,17 @@ list-place-requires c κs = search needs
 -- src/place.rt:232:13
 returns : tie.Need-returns Inv-loop μ-loop
 returns c =
-    let st = c .before .before .before .before .before .before .before .before .before .before .before .before
-    .before in
+    let st = c .before .before .before .before .before .before .before .before .before .before in
     let loop = c .before .before .before .before .before .before .loop in
     let loop-test = c .before .before .before .before .before .loop-test in
     let byte = c .before .before .before .before .byte in
-    let byte2 = c .before .before .before .byte2 in
+    let kind-at = c .before .before .before .kind-at in
     let smallest-listed = c .before .smallest-listed in
     let if1 = c .before .before .if1 in
     let list-place = c .list-place in
-    place-listed (conjuncts (st .args .kinds .now) (st .args .values .now) (st .args .starts .now) (st .args
-    .counts .now) (st .args .pool .now)) (numbered (st .args .marks .now) (st .args .c)) (loop .i) (loop-test
-    .taken) (loop .inv .1) _ (byte .ensures) (sym (byte2 .ensures) ∙ if1 .taken) (smallest-listed .result) (smallest-listed .ensures) _
+    place-listed (conjuncts (st .args .told .now) (st .args .pool .now)) (numbered (st .args .marks .now) (st .args .c))
+    (loop .i) (loop-test
+    .taken) (loop .inv .1) _ (byte .ensures) (sym (kind-at .ensures) ∙ if1 .taken) (smallest-listed .result) (smallest-listed .ensures) _
     (list-place .ensures)
 
 -- src/place.rt:234:9
@@ -77,15 +77,15 @@ loop-less c = search needs
 -- src/place.rt:228:5
 loop-again : tie.Need-loop-again Inv-loop μ-loop
 loop-again c =
-    let st = c .before .before .before .before .before .before .before .before .before .before .before in
+    let st = c .before .before .before .before .before .before .before .before in
     let loop = c .before .before .before .before .loop in
     let byte = c .before .before .byte in
-    let byte2 = c .before .byte2 in
+    let kind-at = c .before .kind-at in
     let if1 = c .if1 in (
       search needs,
-      skip-allowed (st .args .kinds .now) (st .args .starts .now) (st .args .counts .now) (st .args
-          .pool .now) (st .args .marks .now) (loop .i) (loop .inv .1) (λ e. if1 .left (byte2 .ensures ∙ ap (λ (m : ℕ).
-          getD (st .args .kinds .now) m 0) (byte .ensures) ∙ e)),
+      skip-allowed (kindsIn (st .args .told .now)) (startsIn (st .args .told .now)) (countsIn (st .args .told .now)) (st .args
+          .pool .now) (st .args .marks .now) (loop .i) (loop .inv .1) (λ e. if1 .left (kind-at .ensures ∙ ap (λ (m : ℕ).
+          getD (kindsIn (st .args .told .now)) m 0) (byte .ensures) ∙ e)),
     )
 
 -- src/place.rt:236:5
@@ -95,14 +95,15 @@ fixed-place-requires c κs = search needs
 -- src/place.rt:214:1
 returns-2 : tie.Need-returns-2 Inv-loop μ-loop
 returns-2 c =
-    let st = c .before .before .before .before .before .before .before .before .before in
+    let st = c .before .before .before .before .before .before in
     let loop = c .before .before .loop in
     let loop-test = c .before .loop-test in
     let fixed-place = c .fixed-place in
     let e : loop .i ≡ st .args .c .len = omega (arith, loop .inv .0, loop-test .left) in
-    place-bounds (conjuncts (st .args .kinds .now) (st .args .values .now) (st .args .starts .now) (st .args
-    .counts .now) (st .args .pool .now)) (numbered (st .args .marks .now) (st .args .c)) _ (fixed-place .ensures (conjuncts (st .args .kinds .now) (st .args .values .now) (st .args .starts .now)
-    (st .args .counts .now) (st .args .pool .now)) (st .args .marks .now)) (ap (λ (m : ℕ). allowedBy (st .args .kinds .now) (st .args .starts .now) (st .args .counts .now) (st
+    place-bounds (conjuncts (st .args .told .now) (st .args .pool .now)) (numbered (st .args .marks .now) (st .args .c))
+    _ (fixed-place .ensures (conjuncts (st .args .told .now) (st .args .pool .now)) (st .args .marks .now)) (ap (λ
+    (m : ℕ). allowedBy (kindsIn (st .args .told .now)) (startsIn (st .args .told .now)) (countsIn (st .args .told
+    .now)) (st
     .args .pool .now) (st .args .marks .now) m) (sym e) ∙ loop .inv .1)
 
 pub value-place-spec : {M : Type 1} → statement M
@@ -113,8 +114,8 @@ value-place-spec =
     μ-loop
     loop-holds
     byte-requires
-    cast-byte
-    byte-requires-2
+    cast-kind-at
+    kind-at-requires
     smallest-listed-requires
     list-place-requires
     returns

@@ -5,7 +5,7 @@ use Rattle.row_test.proofs.row.column_ok.Statement.{statement}
 use Rattle.row_test.proofs.row.column_ok.Tie as tie
 use Rattle.row_test.proofs.row.column_ok.Reads as reads
 use Rattle.row_test.proofs.row.column_ok.Lts as lts
-use Rattle.records.proofs.shape.in_type.Reads as in-type-reads
+use Rattle.value_types.proofs.in_type.Reads as in-type-reads
 
 -- src/row.rt:15:9
 returns : tie.Need-returns

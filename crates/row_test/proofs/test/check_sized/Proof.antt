@@ -3,9 +3,10 @@ use Rattle.row_test.proofs.test.check_sized.Statement.{statement}
 use Rattle.row_test.proofs.test.check_sized.Tie as tie
 use Rattle.row_test.proofs.test.check_sized.Reads as reads
 use Rattle.row_test.proofs.test.check_sized.Lts as lts
-use Rattle.checking.proofs.check.check_counted.Reads as check-counted-reads
 use Rattle.checking.proofs.check.check_few_counted.Reads as check-few-counted-reads
+use Rattle.checking.proofs.check.check_with_text.Reads as check-with-text-reads
 use native.Mathlib.Omega.{arith}
+use mathlib.Core.Path.{refl}
 
 -- src/test.rt:66:9
 check-few-counted-requires : tie.Need-check-few-counted-requires
@@ -27,8 +28,8 @@ returns : tie.Need-returns
 returns c = search needs
 
 -- src/test.rt:68:5
-check-counted-requires : tie.Need-check-counted-requires
-check-counted-requires c κs = search needs
+check-with-text-requires : tie.Need-check-with-text-requires
+check-with-text-requires c κs = search needs
 
 -- src/test.rt:51:1
 same-length-3 : tie.Need-same-length-3
@@ -40,7 +41,9 @@ same-length-4 c = search needs
 
 -- src/test.rt:51:1
 returns-2 : tie.Need-returns-2
-returns-2 c = search needs
+returns-2 c =
+    let check-with-text = c .before .before .before .before .check-with-text in
+    (check-with-text .ensures .0, (check-with-text .ensures .1 .0, check-with-text .ensures .1 .1 refl))
 
 pub check-sized-spec : {M : Type 1} → statement M
 check-sized-spec =
@@ -50,7 +53,7 @@ check-sized-spec =
     same-length
     same-length-2
     returns
-    check-counted-requires
+    check-with-text-requires
     same-length-3
     same-length-4
     returns-2)

@@ -16,7 +16,7 @@ slice-aggregate-make-index c = search needs
 -- src/indexed.rt:45:5
 make-index-requires : tie.Need-make-index-requires
 make-index-requires c κs =
-    let st = c .before .before .before .before .before .before .before .before .before .before in
+    let st = c .before .before .before .before .before .before .before in
     ((st .pre .0 .3, length-replicate {A = ℕ} 24576 0), λ q. zero-array 24576 q)
 
 -- src/indexed.rt:55:9

@@ -43,8 +43,7 @@ slice-aggregate-collect-6 c = search needs
 -- src/merged.rt:119:9
 collect-requires : tie.Need-collect-requires
 collect-requires c κs =
-    let st = c .before .before .before .before .before .before .before .before .before .before .before .before
-    .before .before .before .before .before in (
+    let st = c .before .before .before .before .before .before .before .before .before .before .before .before .before .before in (
       (
         st .pre .0 .0,
         st .pre .0 .1,
@@ -85,9 +84,8 @@ same-length c = search needs
 -- src/merged.rt:137:9
 returns : tie.Need-returns
 returns c =
-    let st = c .before .before .before .before .before .before .before .before .before .before .before .before
-    .before .before .before .before .before .before .before .before .before .before .before .before .before
-    .before .before in
+    let st = c .before .before .before .before .before .before .before .before .before .before .before .before .before
+    .before .before .before .before .before .before .before .before .before .before .before in
     let collect = c .before .before .before .before .before .before .before .before .before .collect in
     let if1 = c .if1 in (
       no-row (aexprOf (st .args .rs .now) (st .args .p .now)) (firstOf (st .args .nodes .now) (st .args .n)) (st
@@ -115,14 +113,14 @@ slice-aggregate-propagate-and-resolve-4 c = search needs
 -- src/merged.rt:139:9
 propagate-and-resolve-requires : tie.Need-propagate-and-resolve-requires
 propagate-and-resolve-requires c κs =
-    let st = c .before .before .before .before .before .before .before .before .before .before .before .before
-    .before .before .before .before .before .before .before .before .before .before .before .before .before
-    .before .before .before .before .before .before .before in
+    let st = c .before .before .before .before .before .before .before .before .before .before .before .before .before
+    .before .before .before .before .before .before .before .before .before .before .before .before .before .before
+    .before .before in
     let collect = c .before .before .before .before .before .before .before .before .before .before .before
     .before .before .before .collect in
-    let zl = collect .kept .1 .1 .1 .1 .1 .1 .1 .1 .1 .1 .1 .1 .0 ∙ length-replicate {A = ℕ} 128 0 in
-    let zr = collect .kept .1 .1 .1 .1 .1 .1 .1 .1 .1 .1 .1 .1 .1 .0 ∙ length-replicate {A = ℕ} 128 0 in
-    let zo = collect .kept .1 .1 .1 .1 .1 .1 .1 .1 .1 .1 .0 ∙ length-replicate {A = ℕ} 256 0 in (
+    let zl = collect .kept .1 .1 .1 .1 .1 .1 .1 .1 .1 .0 ∙ length-replicate {A = ℕ} 128 0 in
+    let zr = collect .kept .1 .1 .1 .1 .1 .1 .1 .1 .1 .1 .0 ∙ length-replicate {A = ℕ} 128 0 in
+    let zo = collect .kept .1 .1 .1 .1 .1 .1 .1 .0 ∙ length-replicate {A = ℕ} 256 0 in (
       (
         record {
           size = collect .ensures .1 .3;
@@ -196,16 +194,15 @@ slice-aggregate-write-places-2 c = search needs
 -- src/merged.rt:157:9
 write-places-requires : tie.Need-write-places-requires
 write-places-requires c κs =
-    let st = c .before .before .before .before .before .before .before .before .before .before .before .before
-    .before .before .before .before .before .before .before .before .before .before .before .before .before
-    .before .before .before .before .before .before .before .before .before .before .before .before .before
-    .before .before .before in
+    let st = c .before .before .before .before .before .before .before .before .before .before .before .before .before
+    .before .before .before .before .before .before .before .before .before .before .before .before .before .before
+    .before .before .before .before .before .before .before .before .before .before .before in
     let collect = c .before .before .before .before .before .before .before .before .before .before .before
     .before .before .before .before .before .before .before .before .before .before .before .before .collect
     in
     let propagate-and-resolve = c .before .before .before .before .before .before .before .before
     .propagate-and-resolve in
-    let zo = collect .kept .1 .1 .1 .1 .1 .1 .1 .1 .1 .1 .0 ∙ length-replicate {A = ℕ} 256 0 in (
+    let zo = collect .kept .1 .1 .1 .1 .1 .1 .1 .0 ∙ length-replicate {A = ℕ} 256 0 in (
       propagate-and-resolve .ensures .1,
       omega (
         arith,

@@ -7,25 +7,26 @@ use Prim.Native.Nat.{ℕ, _+_, _*_, _≤_, _<_, _-_}
 use native.Mathlib.Omega.{arith}
 use lib.ListN.{getD}
 use Rattle.far_lists.proofs.Sizes.{ends-more, work-bound}
+use Rattle.column_constraints.specs.Abstraction.{startsIn, countsIn}
 
 abbrev Inv-loop : tie.InvT-loop
-Inv-loop starts counts n total₀ j₀ total j =
-    (j ≤ 128) × (total ≤ j * 8192) × ((i : ℕ) → i < j → getD starts i 0 + getD counts i 0 ≤ 8192)
+Inv-loop told n total₀ j₀ total j =
+    (j ≤ 128) × (total ≤ j * 8192) × ((i : ℕ) → i < j → getD (startsIn told) i 0 + getD (countsIn told) i 0 ≤ 8192)
 
 abbrev μ-loop : tie.MeasureT-loop
-μ-loop starts counts n total₀ j₀ total j = 128 - j
+μ-loop told n total₀ j₀ total j = 128 - j
 
 loop-holds : tie.Need-loop-holds Inv-loop μ-loop
 loop-holds c = (search needs, search needs, λ i l. absurd (omega (arith, l)))
 
-number-at-requires : tie.Need-number-at-requires Inv-loop μ-loop
-number-at-requires c κs = search needs
+start-at-requires : tie.Need-start-at-requires Inv-loop μ-loop
+start-at-requires c κs = search needs
 
 cast-start : tie.Need-cast-start Inv-loop μ-loop
 cast-start c = search needs
 
-number-at-requires-2 : tie.Need-number-at-requires-2 Inv-loop μ-loop
-number-at-requires-2 c κs = search needs
+count-at-requires : tie.Need-count-at-requires Inv-loop μ-loop
+count-at-requires c κs = search needs
 
 cast-count : tie.Need-cast-count Inv-loop μ-loop
 cast-count c = search needs
@@ -50,20 +51,20 @@ loop-less c = search needs
 
 loop-again : tie.Need-loop-again Inv-loop μ-loop
 loop-again c =
-    let st = c .before .before .before .before .before .before .before in
+    let st = c .before .before .before .before .before .before in
     let loop = c .before .before .before .before .loop in
-    let number-at = c .before .before .number-at in
-    let number-at2 = c .before .number-at2 in
+    let start-at = c .before .before .start-at in
+    let count-at = c .before .count-at in
     let if1 = c .if1 in (
       search needs,
       omega (arith, loop .inv .1, if1 .left),
-      ends-more (st .args .starts .now) (st .args .counts .now) (loop .j) _ _ (number-at .ensures) (number-at2
+      ends-more (startsIn (st .args .told .now)) (countsIn (st .args .told .now)) 8192 (loop .j) _ _ (start-at .ensures) (count-at
           .ensures) (if1 .left) (loop .inv .2),
     )
 
 mul-result : tie.Need-mul-result Inv-loop μ-loop
 mul-result c =
-    let st = c .before .before .before .before in
+    let st = c .before .before .before in
     let loop = c .before .loop in
     let b = work-bound (st .args .n) (loop .total) (st .pre) (omega (arith, loop .inv .1, loop .inv .0)) .1 in
     omega (arith, b)
@@ -81,9 +82,9 @@ looks-often-spec =
     Inv-loop
     μ-loop
     loop-holds
-    number-at-requires
+    start-at-requires
     cast-start
-    number-at-requires-2
+    count-at-requires
     cast-count
     add-if1
     returns
