@@ -63,14 +63,14 @@
  *
  * Each call checks every used record first, whether the root reaches it or not, so its time grows with `used`: a
  * screen that is kept for many calls should hold no record that its root does not reach. Checking a short screen
- * takes some 50 ns, a full one 15 to 30 us, whatever its lists. The slowest screen known to rewrite, 65 lists
- * carried from column to column by 63 equalities, takes some 4 ms. A hedge list checks the screen once for all
- * rows and takes them 64 at a time: 1,024 rows of 10 lines take some 0.02 ms, of a full screen of comparisons 0.7
- * ms; the slowest known, 743 lists of divisions, takes some 15 ms. A screen with symbols takes longer. Where it is
- * rewritten its symbols are put in order first, which of a full text pool takes some 2 ms; the slowest of its lists
- * along equalities take some 4 ms too, but lists of numbers beside symbols, of over 4,096 values together, some 60.
- * In a hedge list its symbols become numbers first: 1,024 rows of 10 lines take some 0.04 ms, of 1,022 lines 1 ms,
- * the slowest found, 1,021 lists over 63 columns of symbols, some 25 to 30 ms.
+ * takes some 50 ns, a full one 15 to 30 us, whatever its lists. The slowest screens known to rewrite, 64 to 84 lists
+ * carried from column to column by equalities, take some 4 ms, beside symbols some 5. A hedge list checks the screen
+ * once for all rows and takes them 64 at a time: 1,024 rows of 10 lines take some 0.02 ms, of a full screen of
+ * comparisons 0.7 ms; the slowest known, 743 lists of divisions, takes some 15 ms. A screen with symbols takes longer.
+ * Where it is rewritten its symbols are put in order first, which of a full text pool takes some 2 ms. In a hedge
+ * list they become numbers first, which takes some 0.13 us for each byte of the text pool: with a full one 1,024 rows
+ * of 10 lines take some 0.2 ms, of 1,022 lines 1.8 ms; the slowest found, 1,169 lists over 64 columns of symbols,
+ * some 15 ms, of some shapes of pool and text up to 22.
  *
  * PLATFORM
  *
