@@ -1,6 +1,12 @@
-// Runs the recorded screens of standard input and writes the answers, one line a screen; `rt check` holds them to the file
+// Runs the recorded screens of standard input and writes the answers, one line a screen; `rt ci` holds them to the file
 // stdout beside src/. tools/record wrote both and says in which format: six lines of hex a screen, in blocks of 65,536 bytes.
-ghost use Rattle.std.specs.Prelude.{◌+◌, ◌*◌, ◌<◌, ◌≤◌, length};
+// A read or a write that fails ends the program with its error.
+#![tactic(auto)]
+
+ghost use Rattle.std.specs.Prelude.{◌+◌, ◌<◌, ◌≤◌, length, IfOk};
+
+use std::io;
+use std::io::{BufWriter, Read, Write};
 
 #[derive(Drop)]
 pub struct Line {
@@ -101,13 +107,20 @@ fn wide(x: u32) -> u64
     x as u64
 }
 
-fn print_number(x: u64) {
-    io::print_decimal(1, x);
-    io::write_all(1, b" ");
+fn print_number<W: Write>(out: &mut W, x: u64) -> io::Result<()> {
+    write!(out, "{x} ")
 }
 
 // Checking and columns read, whose out-parameters stand at 7 and 9 before the call.
-fn check_and_columns(table: &[u8], records: &[u8], pool: &[u8], text: &[u8], used: u64, root: u64) {
+fn check_and_columns<W: Write>(
+    out: &mut W,
+    table: &[u8],
+    records: &[u8],
+    pool: &[u8],
+    text: &[u8],
+    used: u64,
+    root: u64,
+) -> io::Result<()> {
     let mut columns: u64 = 7;
     let mut count: u64 = 9;
     let checked = screen_rows::screen_check(table, records, pool, text, used, root);
@@ -121,20 +134,26 @@ fn check_and_columns(table: &[u8], records: &[u8], pool: &[u8], text: &[u8], use
         &mut columns,
         &mut count,
     );
-    print_number(wide(checked));
-    print_number(wide(read));
-    print_number(columns);
-    io::print_decimal(1, count);
-    io::write_all(1, b"\n");
+    print_number(out, wide(checked))?;
+    print_number(out, wide(read))?;
+    print_number(out, columns)?;
+    writeln!(out, "{count}")
 }
 
-fn test_row(table: &[u8], records: &[u8], pool: &[u8], text: &[u8], row: &[u8], head: &[u8]) {
+fn test_row<W: Write>(
+    out: &mut W,
+    table: &[u8],
+    records: &[u8],
+    pool: &[u8],
+    text: &[u8],
+    row: &[u8],
+    head: &[u8],
+) -> io::Result<()> {
     let used = number_at(head, 1);
     let root = number_at(head, 9);
     let nulls = number_at(head, 17);
     let answer = screen_rows::screen_test_row(table, records, pool, text, used, root, row, nulls);
-    io::print_decimal(1, wide(answer));
-    io::write_all(1, b"\n");
+    writeln!(out, "{answer}")
 }
 
 // Where a record starts, or the end of all records that a screen can use.
@@ -150,17 +169,27 @@ fn byte_of(s: &[u8], i: usize) -> u64 {
 }
 
 // The bytes from `from` up to `to` in hex; 00 for one past the end.
-fn print_bytes(s: &[u8], from: usize, to: usize) {
+fn print_bytes<W: Write>(out: &mut W, s: &[u8], from: usize, to: usize) -> io::Result<()> {
     let mut i = from;
     while i < to {
-        io::print_hex(1, byte_of(s, i), 2);
+        let b = byte_of(s, i);
+        write!(out, "{b:02x}")?;
         i += 1;
     }
+    Ok(())
 }
 
 // Rewriting, whose out-parameters stand at 7, 9, 11 and 13 before the call; then the records that were added. There is room
 // for every text of reasons, which is held to a model elsewhere (tools/compare).
-fn rewrite(table: &[u8], records: &mut [u8], pool: &[u8], text: &[u8], used: u64, root: u64) {
+fn rewrite<W: Write>(
+    out: &mut W,
+    table: &[u8],
+    records: &mut [u8],
+    pool: &[u8],
+    text: &[u8],
+    used: u64,
+    root: u64,
+) -> io::Result<()> {
     let mut new_root: u64 = 7;
     let mut new_used: u64 = 9;
     let mut passes: u64 = 11;
@@ -179,22 +208,31 @@ fn rewrite(table: &[u8], records: &mut [u8], pool: &[u8], text: &[u8], used: u64
         &mut reasons_used,
         &mut passes,
     );
-    print_number(wide(answer));
-    print_number(new_root);
-    print_number(new_used);
-    io::print_decimal(1, passes);
+    print_number(out, wide(answer))?;
+    print_number(out, new_root)?;
+    print_number(out, new_used)?;
+    write!(out, "{passes}")?;
     if answer > 256 {
-        io::write_all(1, b" ");
-        print_bytes(records, place(used), place(new_used));
+        write!(out, " ")?;
+        print_bytes(out, records, place(used), place(new_used))?;
     }
-    io::write_all(1, b"\n");
+    writeln!(out)
 }
 
 // The call that the first byte of head names: 1 checking and columns read, 2 the row test, 3 rewriting.
-fn call(table: &[u8], records: &mut [u8], pool: &[u8], text: &[u8], row: &[u8], head: &[u8]) {
+fn call<W: Write>(
+    out: &mut W,
+    table: &[u8],
+    records: &mut [u8],
+    pool: &[u8],
+    text: &[u8],
+    row: &[u8],
+    head: &[u8],
+) -> io::Result<()> {
     let name = records::bytes::byte(head, 0);
     if name == 1 {
-        check_and_columns(
+        return check_and_columns(
+            out,
             table,
             records,
             pool,
@@ -202,26 +240,25 @@ fn call(table: &[u8], records: &mut [u8], pool: &[u8], text: &[u8], row: &[u8], 
             number_at(head, 1),
             number_at(head, 9),
         );
-        return;
     }
     if name == 2 {
-        test_row(table, records, pool, text, row, head);
-        return;
+        return test_row(out, table, records, pool, text, row, head);
     }
     rewrite(
+        out,
         table,
         records,
         pool,
         text,
         number_at(head, 1),
         number_at(head, 9),
-    );
+    )
 }
 
 // One screen, whose first line is in head: its answers are written. Answers where the next screen starts.
-fn replay(src: &[u8], from: usize, head: &[u8]) -> usize
+fn replay<W: Write>(out: &mut W, src: &[u8], from: usize, head: &[u8]) -> io::Result<usize>
     requires { from ≤ length src.now }
-    ensures { result ≤ length src.now }
+    ensures { IfOk result (λ next. next ≤ length src.now) }
 {
     let mut table = [0u8; 80];
     let mut records = [0u8; 2048];
@@ -239,40 +276,60 @@ fn replay(src: &[u8], from: usize, head: &[u8]) -> usize
     let xn = x.len;
     let wn = w.len;
     call(
+        out,
         &table[..tn],
         &mut records[..rn],
         &pool[..pn],
         &text[..xn],
         &row[..wn],
         head,
-    );
-    w.next
+    )?;
+    Ok(w.next)
 }
 
 // The screens of a block; an empty first line ends it.
-fn block(src: &[u8]) {
+fn block<W: Write>(out: &mut W, src: &[u8]) -> io::Result<()> {
     let mut at = 0;
     let mut turns: u64 = 100000;
     while turns > 0 && at < src.len() {
         let mut head = [0u8; 32];
         let h = read_line(src, at, &mut head);
         if h.len == 0 {
-            return;
+            return Ok(());
         }
-        at = replay(src, h.next, &head);
+        at = replay(out, src, h.next, &head)?;
         turns -= 1;
     }
+    Ok(())
 }
 
-fn main() {
-    let mut buf = io::large_buffer();
+// Reads until buf is full or the input ends; answers how many bytes it put at the start of buf.
+fn read_full<R: Read>(input: &mut R, buf: &mut [u8]) -> io::Result<usize>
+    ensures { IfOk result (λ n. n ≤ length buf.new) }
+{
+    let mut done = 0;
+    while done < buf.len() {
+        let n = input.read(&mut buf[done..])?;
+        if n == 0 {
+            return Ok(done);
+        }
+        done += n;
+    }
+    Ok(done)
+}
+
+fn main(rt: HostRuntime) -> io::Result<()> {
+    let mut input = rt.stdin();
+    let mut out = BufWriter::new(rt.alloc(), io::writer(&rt))?;
+    let mut buf = [0u8; 65536];
     let mut blocks: u64 = 1000;
     while blocks > 0 {
-        let n = io::read_full(0, &mut buf);
+        let n = read_full(&mut input, &mut buf)?;
         if n == 0 {
-            return;
+            return out.flush();
         }
-        block(&buf[..n]);
+        block(&mut out, &buf[..n])?;
         blocks -= 1;
     }
+    out.flush()
 }
