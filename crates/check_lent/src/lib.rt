@@ -1,4 +1,6 @@
 // Checking a screen with a text pool lent beside it, of which checking asks the length alone.
+#![tactic(auto)]
+
 ghost use Rattle.std.specs.Prelude.{◌≡◌, cond, suc, ◌≤◌, ltb, length};
 ghost use Rattle.checking.specs.Check.{check_answer_in};
 ghost use Rattle.checking.specs.Fault.{answer_of};

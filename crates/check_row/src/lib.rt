@@ -1,6 +1,8 @@
 // The check of a proposed row (02, 2.7): the checks in their order, 8, 9, 17 and 18 among them, then each line of the plain
 // screen on the row. A row passes if every line is true of it; a line that is unknown is not. All of a screen without symbols: the
 // C call stands in crate `check_symbols`.
+#![tactic(auto)]
+
 ghost use Rattle.std.specs.Prelude.{◌≡◌, true, ℕ, ◌<◌, ◌≤◌, length, get_or};
 ghost use Rattle.truth.specs.FromBytes.{aexpr_of};
 ghost use Rattle.merge.specs.Classify.{classify};

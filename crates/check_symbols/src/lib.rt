@@ -1,5 +1,7 @@
 // The check of a proposed row (02, 2.7) of a screen beside which a text pool is lent (02, 2.10): what the screen's numbers answer. A
 // Text column takes any whole part: a plain screen does not read it.
+#![tactic(auto)]
+
 ghost use Rattle.std.specs.Prelude.{◌≡◌, true, ◌*◌, ◌≤◌, length};
 ghost use Rattle.check_row.specs.Answer.{row_listed};
 ghost use Rattle.check_symbols.specs.Answer.{check_row_answer_with};

@@ -1,6 +1,6 @@
 -- Bits of a word: those of a disjunction, those of a power of two; and that columns read marks exactly the columns reached.
-use mathlib.Core.Path.{◌≡◌, refl, sym, ◌∙◌, ap, subst}
-use mathlib.Core.Bool.{Bool, true, false, cond, ◌||◌, or-false}
+use mathlib.Core.Path.{◌≡◌, refl, ◌∙◌}
+use mathlib.Core.Bool.{Bool, true, false, ◌||◌}
 use mathlib.Core.List.{List, [], ◌∷◌}
 use mathlib.Core.Logic.{◌⊎◌, inl, inr, ⊎_elim}
 use Prim.Native.Nat.{ℕ, zero, suc, ◌+◌, ◌-◌, ◌*◌, ◌/◌, ◌%◌, ◌^◌, ◌≤◌, ◌<◌, max}
@@ -9,7 +9,7 @@ use lib.Pow.{shl_exact, pow-lt, pow_pos, pow-add}
 use native.Mathlib.Nat.{one-mul, zero-div, mul-div_right, pow-suc, div_self, div-eq_of_lt}
 use native.Mathlib.Omega.{arith}
 use lib.Dec.{ltb, eqb}
-use borrow.Author.Tests.{ltb-true, ltb-false, lt-ltb, eq-eqb, ne_eqb}
+use borrow.Author.Tests.{ltb-true, ltb-false, eq-eqb, ne_eqb}
 use Rattle.checking.specs.Columns.{bit, is_column, any_at, reaches, column_bit, own_column, or_at, columns_step, columns_word}
 use Rattle.records.specs.Record.{node, record_at, inputs}
 use Rattle.records.specs.declared.record.Record.{Record}

@@ -1,8 +1,8 @@
 -- Screens and their answers, computed by the definitions: 01's limits and refusals, one row a screen.
-use Prim.Native.Nat.{ℕ, zero, suc, ◌+◌, ◌*◌}
+use Prim.Native.Nat.{ℕ}
 use mathlib.Core.Path.{◌≡◌, refl}
 use mathlib.Core.List.{List, [], ◌∷◌, ◌++◌}
-use mathlib.Core.Bool.{Bool, true, false, ◌&&◌}
+use mathlib.Core.Bool.{Bool, true, ◌&&◌}
 use lib.Dec.{eqb}
 use Rattle.records.specs.Bytes.{word, value_at, all, first}
 use Rattle.records.specs.Course.{up_to, course}

@@ -2,7 +2,7 @@
 -- what is checked before the fault is known without one, so it is no Text; and to what is no Text a text pool says nothing.
 -- Assumes nothing.
 use mathlib.Core.Path.{◌≡◌, refl, sym, ◌∙◌, ap, subst}
-use mathlib.Core.Bool.{Bool, true, false, cond, ◌&&◌, ◌||◌, true≢false}
+use mathlib.Core.Bool.{Bool, true, false, cond, ◌&&◌, ◌||◌}
 use mathlib.Core.List.{List}
 use Prim.Native.Nat.{ℕ, zero, suc, ◌+◌, ◌-◌, ◌*◌, ◌/◌, ◌%◌, ◌≤◌, ◌<◌}
 use native.Mathlib.Omega.{arith}
@@ -21,7 +21,6 @@ use Rattle.record_check.specs.Fit.{all_fit_in, list_ok_in, reach_ok_in, served_o
 use Rattle.checking.specs.Check.{types_known_in, table_ok_in, sizes_ok_in, meaning_fault_in, record_fault_in, first_fault_in, records_answer_in}
 use Rattle.checking.specs.Check.{check_answer_in}
 use Rattle.checking.specs.Fault.{answer_of, FaultStands, RecordsStand, Stands}
-use Rattle.checking.specs.declared.check.CheckAnswer.{CheckAnswer}
 use Rattle.checking.specs.declared.check.CheckAnswer.TheVariants as check
 use Rattle.checking.proofs.Accepted.{no_fault, only, within-limits, not-accepted}
 use Rattle.checking.proofs.Sizes.{table-known_in}

@@ -1,10 +1,9 @@
 -- Tables with one entry a record, filled from record 0 up: of tree counts, and of columns reached.
 use mathlib.Core.Path.{◌≡◌, refl, sym, ◌∙◌, ap}
-use mathlib.Core.Bool.{Bool, true, false, cond}
+use mathlib.Core.Bool.{true, false}
 use mathlib.Core.List.{List, [], ◌∷◌}
-use Prim.Native.Nat.{ℕ, zero, suc, ◌+◌, ◌≤◌, ◌<◌, min}
+use Prim.Native.Nat.{ℕ, ◌+◌, min}
 use native.Mathlib.Omega.{arith}
-use lib.ListN.{length, get_or}
 use lib.Dec.{ltb}
 use lib.Bits.{bit_or}
 use borrow.Author.Tests.{ltb-true, ltb-false}
@@ -13,7 +12,6 @@ use Rattle.records.specs.Record.{node, record_at, inputs}
 use Rattle.checking.specs.Table.{below}
 use Rattle.checking.specs.Tree.{sum_at, tree_step, tree_count}
 use Rattle.checking.specs.Columns.{or_at, own_column, columns_step, columns_word}
-use Rattle.records.specs.declared.record.Record.{Record}
 use Rattle.records.proofs.Courses.{course-top, up_to-below, up_to-off}
 use Rattle.records.proofs.Laws.{by-test}
 use Rattle.record_check.proofs.Filling.{Filled}

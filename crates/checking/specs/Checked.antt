@@ -1,5 +1,5 @@
 -- What checking establishes: the one fact that the layers above cite.
-use Rattle.std.specs.Prelude.{ℕ, ◌*◌, ◌≤◌, ◌<◌, List, true, ◌≡◌, length}
+use Rattle.std.specs.Prelude.{ℕ, ◌<◌, List, true, ◌≡◌}
 use Rattle.records.specs.Record.{node, fields_at, record_at}
 use Rattle.records.specs.Shape.{shape_ok_in}
 use Rattle.record_check.specs.Fit.{reach_ok_in, served_ok, types_ok, type_at}

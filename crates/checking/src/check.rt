@@ -16,7 +16,7 @@ use value_types::known_type;
 
 // What checking answers: a refusal with its number, 1 to 7, or that the screen is accepted. Inside it is a fault: the number,
 // 0 for none, and 8 more where what is refused says the type Text. Where no text pool was lent, one might know it.
-#[derive(Drop)]
+#[derive(Clone, Copy)]
 pub enum CheckAnswer {
     Refused(u32),
     Accepted,

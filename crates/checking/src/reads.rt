@@ -8,7 +8,7 @@ use limits::{FEW_RECORDS, RECORDS};
 use records::record::{Column, Inputs, Node, Record, inputs_of, record_at};
 
 // What columns read answers: a refusal with its number, or the word and the number of ones in it.
-#[derive(Drop)]
+#[derive(Clone, Copy)]
 pub enum ColumnsAnswer {
     Refused(u32),
     Read(u64, u64),

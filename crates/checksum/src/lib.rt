@@ -1,6 +1,8 @@
 // The Internet checksum of a block, RFC 1071, by words of eight bytes: document 02, 2.4.
 // One's complement addition may take the words in the order of the machine's bytes, and several at a time: the sums differ
 // by a multiple of 65,535 and by a factor of 256, which is a swap of the bytes at the end.
+#![tactic(auto)]
+
 ghost use Rattle.std.specs.Prelude.{◌≡◌, ◌+◌, ◌*◌, ◌≤◌, length};
 ghost use Rattle.checksum.specs.Checksum.{checksum, cleared};
 ghost use Rattle.checksum.specs.Words.{halves, word_sum, fold, swap_bytes};

@@ -1,5 +1,7 @@
 // The checksum for bench/checksum_bench.c alone, which calls these two entries: the library's form, by words of eight bytes, and
 // the form before 02's 2.4, a pair of bytes at a time with its carry. Both are the checksum of the block.
+#![tactic(auto)]
+
 ghost use Rattle.std.specs.Prelude.{◌≡◌, ◌+◌, ◌*◌, ◌≤◌, length};
 ghost use Rattle.checksum.specs.Checksum.{ones_add, checksum, cleared};
 

@@ -26,7 +26,7 @@ use records::record::{Column, Node};
 
 /// How many columns entered, nodes are kept, equalities there are, conjuncts were bounds; whether one of these was a
 /// negation; whether a conjunct made its column impossible.
-#[derive(Drop)]
+#[derive(Clone, Copy)]
 pub struct Collection {
     pub columns: usize,
     pub keeps: usize,

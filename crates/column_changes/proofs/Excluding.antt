@@ -4,7 +4,6 @@ use mathlib.Core.Bool.{Bool, true, false, not, true≢false}
 use mathlib.Core.List.{List, [], ◌∷◌}
 use Prim.Native.Nat.{ℕ}
 use lib.IntN.{ℤ}
-use borrow.Author.Tests.{not-true}
 use Rattle.constraints.specs.Lined.{Lined, lined}
 use Rattle.constraints.specs.Values.{contains, is_empty}
 use Rattle.column_constraints.specs.Abstraction.{excluded_by}

@@ -14,7 +14,7 @@ use truth::scalar::{Ordering, Scalar, scalar_cmp};
 
 /// A value with the number of the conjunct that gave it. `opener` is 0, or one more than the number of the conjunct whose
 /// excluded value opened the bound.
-#[derive(Drop)]
+#[derive(Clone, Copy)]
 pub struct Limit {
     pub value: Scalar,
     pub line: u8,
@@ -22,7 +22,7 @@ pub struct Limit {
 }
 
 /// `Closed` is `>=` or `<=`, `Open` is `>` or `<`.
-#[derive(Drop)]
+#[derive(Clone, Copy)]
 pub enum Bound {
     Absent,
     Open(Limit),
@@ -30,7 +30,7 @@ pub enum Bound {
 }
 
 /// A bound, and what became of it.
-#[derive(Drop)]
+#[derive(Clone, Copy)]
 pub struct Tightened {
     pub bound: Bound,
     pub change: BoundChange,

@@ -15,7 +15,7 @@ use constraints::column::{BoundChange, Nullability};
 /// three sets its values belong to. One row serves all three: a conjunct gives to one only. `strict`: some negated is_in
 /// that drops nulls gave a value. `since` is the conjunct that first required null or not null, where something is
 /// required. `unsat` stays: an impossible column takes nothing.
-#[derive(Drop)]
+#[derive(Clone, Copy)]
 pub struct ColumnConstraints {
     pub lower: Bound,
     pub upper: Bound,
@@ -27,7 +27,7 @@ pub struct ColumnConstraints {
 }
 
 /// A column that took a bound in, and what became of the one it had.
-#[derive(Drop)]
+#[derive(Clone, Copy)]
 pub struct Bounded {
     pub column: ColumnConstraints,
     pub change: BoundChange,
@@ -198,14 +198,14 @@ fn is_non_null(n: Nullability) -> bool
 }
 
 /// The single value of a closed range that is a point, if the range is one.
-#[derive(Drop)]
+#[derive(Clone, Copy)]
 pub enum FixedValue {
     Nothing,
     At(Limit),
 }
 
 /// One place of a column.
-#[derive(Drop)]
+#[derive(Clone, Copy)]
 pub enum Compared {
     Vacant,
     Eq(Limit),
@@ -217,7 +217,7 @@ pub enum Compared {
 }
 
 /// A column after a merge. `emitted`: something that is written out again changed; `any`: something changed.
-#[derive(Drop)]
+#[derive(Clone, Copy)]
 pub struct Merged {
     pub column: ColumnConstraints,
     pub emitted: bool,

@@ -1,6 +1,8 @@
 // The reasons of one column's comparisons as text: document 02, 2.6. Its places are gone through as where the comparisons
 // are written out (crate rewrite, emit); how long the text is comes before its first byte. t is the column table, `text` the
 // text pool.
+#![tactic(auto)]
+
 ghost use Rattle.std.specs.Prelude.{◌≡◌, List, ℕ, ◌+◌, ◌≤◌, length};
 ghost use Rattle.constraints.specs.Comparisons.{collect_column_comparisons};
 ghost use Rattle.constraints.specs.Lined.{lined};

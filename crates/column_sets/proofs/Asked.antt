@@ -20,7 +20,6 @@ use Rattle.constraints.proofs.Sets.{subset-contains}
 use Rattle.sorted.specs.BitSets.{member, Put, Common, Missing, Meets, Within}
 use Rattle.column_constraints.specs.Abstraction.{of_kind, list_of, values_of, allowed_by, disallowed_by, marked, Fine}
 use Rattle.column_sets.specs.Index.{Low, NumberSet, KindSet}
-use Rattle.column_constraints.proofs.Pigeon.{Eq, yes, no, eq-view}
 use Rattle.column_constraints.proofs.Lines.{contains-values}
 use Rattle.column_sets.proofs.Numbers.{marked_step, marked-none, mk_found}
 use Rattle.column_sets.proofs.Insertions.{within, all_within, any-within, all_none, all_more, any_none, any-more}

@@ -13,7 +13,6 @@ use lib.Dec.{eqb}
 use Rattle.truth.specs.Order.{is_equal}
 use Rattle.constraints.specs.Scalars.{scalar_cmp}
 use Rattle.constraints.specs.Values.{contains}
-use Rattle.constraints.specs.Column as q
 use Rattle.constraints.specs.Payload.{payload}
 use Rattle.constraints.specs.Lined.{Lined, lined}
 use Rattle.column_constraints.specs.Abstraction.{gather, of_kind, literal_at, excluded_by, marked, Fine}

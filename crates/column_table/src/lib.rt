@@ -4,6 +4,8 @@
 // rows: the calls of the merging that a column's row of numbers is lent to;
 // fields: a column's place in the table, and the next length of a list.
 // specs/State.antt says what the slices of each stage hold, proofs/ what a turn of a stage's loop keeps of it.
+#![tactic(auto)]
+
 pub mod cells;
 pub mod fields;
 pub mod rows;

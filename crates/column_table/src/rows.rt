@@ -64,11 +64,11 @@ pub fn merge_rows(
         × Indexed told.now pool.now index.now }
     requires fine { Fine (stride marks.old) (row_of marks.old x) c.len }
     requires fine_2 { Fine (stride marks.old) (row_of marks.old y) d.len }
-    ensures fact { let t = conjuncts told.now pool.now in let cc = column_of t (numbered (row_of
+    ensures fact { let t = conjuncts told.now pool.now in let left = column_of t (numbered (row_of
         marks.old x) c) in
         let dd = column_of t (numbered (row_of marks.old y) d) in
-        (column_of t (numbered (row_of marks.new x) result.column) ≡ q.merge_from lined cc dd) ×
-        (result.emitted ≡ q.merge_emitted lined cc dd) × (result.any ≡ q.merge_any lined cc dd) }
+        (column_of t (numbered (row_of marks.new x) result.column) ≡ q.merge_from lined left dd) ×
+        (result.emitted ≡ q.merge_emitted lined left dd) × (result.any ≡ q.merge_any lined left dd) }
     ensures fine_3 { Fine (stride marks.new) (row_of marks.new x) result.column.len }
     ensures rows_kept { RowsKept marks.old marks.new x }
 {

@@ -6,6 +6,8 @@
 //! A set holds numbers of conjuncts, never values; what a number stands for is read from the conjuncts' tables, which
 //! are lent. `Abstraction` of crate `column_constraints` says which column of values a struct stands for; every contract
 //! is that the result stands for what the definition gives.
+#![tactic(auto)]
+
 pub mod comparisons;
 pub mod index;
 pub mod merging;

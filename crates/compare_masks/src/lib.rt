@@ -1,4 +1,6 @@
 // The operators that compare and those of logic, by their codes, on 64 rows.
+#![tactic(auto)]
+
 ghost use Rattle.std.specs.Prelude.{◌≡◌, ℕ, ◌+◌, ◌≤◌, ◌<◌, ℤ, length};
 ghost use Rattle.std.proofs.Math.Option.{Option};
 ghost use Rattle.three_valued.specs.declared.logic.Truth.{Truth};

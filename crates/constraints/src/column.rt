@@ -1,5 +1,5 @@
 /// What `is_null` and `is_not_null` require of the rows that pass.
-#[derive(Drop)]
+#[derive(Clone, Copy)]
 pub enum Nullability {
     Unconstrained,
     Null,
@@ -7,7 +7,7 @@ pub enum Nullability {
 }
 
 /// What became of a bound that was to be tightened.
-#[derive(Drop)]
+#[derive(Clone, Copy)]
 pub enum BoundChange {
     /// Another value, or the first.
     NewValue,
@@ -17,7 +17,7 @@ pub enum BoundChange {
 }
 
 /// How a `!= value` resolves once the bounds are known.
-#[derive(Drop)]
+#[derive(Clone, Copy)]
 pub enum ExcludedResolution {
     /// Outside the range: it says nothing new.
     Drop,

@@ -3,6 +3,8 @@
 // are made. It says the same of whether a row is left:
 // labels: one label for columns that equalities make equal;
 // told: what the lines say, told to the columns' cells by their labels.
+#![tactic(auto)]
+
 ghost use Rattle.std.specs.Prelude.{◌≡◌, ℕ, ◌<◌, ◌≤◌, length, get_or};
 ghost use Rattle.truth.specs.FromBytes.{aexpr_of};
 ghost use Rattle.constraints.specs.Lined.{lined};

@@ -1,19 +1,18 @@
 -- The code's bits as numbers: one law for each way that it ends.
 -- Assumes nothing.
 use mathlib.Core.Path.{◌≡◌, refl, sym, ◌∙◌, ap, subst}
-use mathlib.Core.Bool.{Bool, true, false, cond, not, ◌||◌}
-use mathlib.Core.Logic.{◌⊎◌, inl, inr}
-use Prim.Native.Nat.{ℕ, zero, suc, ◌+◌, ◌*◌, ◌-◌, ◌/◌, ◌%◌, ◌<◌, ◌≤◌, ◌^◌}
+use mathlib.Core.Bool.{Bool, true, false, not, ◌||◌}
+use mathlib.Core.Logic.{inl, inr}
+use Prim.Native.Nat.{ℕ, zero, suc, ◌+◌, ◌-◌, ◌/◌, ◌%◌, ◌<◌, ◌≤◌}
 use native.Mathlib.Nat.{mod-lt, div-le_self, zero-div, zero-mod}
 use native.Mathlib.Omega.{arith}
-use lib.Dec.{ltb, eqb}
+use lib.Dec.{ltb}
 use lib.IntN.{ℤ, pos, negsuc, neg_ℤ, pos-ne-negsuc}
 use mir.Syntax.{w64}
 use mir.Val.{to_z, sel}
 use borrow.Author.Tests.{lt-ltb, le-ltb, ne_eqb, ltb-false}
-use Rattle.division.specs.declared.divide.Division.{Division}
 use Rattle.division.specs.declared.divide.Division.TheVariants.{Null, Exact}
-use Rattle.division.specs.Division.{IsDivision, Beyond, Divides, fits, quotient_by, remainder_by, quotient}
+use Rattle.division.specs.Division.{IsDivision, Divides, fits, quotient}
 use Rattle.division.specs.Division.{remainder, minus_of, is_zero, is_none}
 use Rattle.division.proofs.Divisions.{division-is, unique, none-by_zero}
 

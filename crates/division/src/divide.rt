@@ -5,7 +5,7 @@ ghost use Rattle.std.proofs.Common.{to_z};
 ghost use Rattle.division.specs.Division.{Divides, minus_of};
 
 // Quotient and remainder, or null: for a zero divisor, and for a quotient beyond 64 bits.
-#[derive(Drop)]
+#[derive(Clone, Copy)]
 pub enum Division {
     Null,
     Exact(u64, u64),

@@ -1,2 +1,4 @@
 // The text of the comparisons' reasons.
+#![tactic(auto)]
+
 pub mod explain;

@@ -1,4 +1,6 @@
 // Number 15: is this a file as saving writes it. Block by block, then each block beside the next, then the two ends and used.
+#![tactic(auto)]
+
 ghost use Rattle.std.specs.Prelude.{◌≡◌, ℕ, ◌+◌, ◌-◌, ◌*◌, ◌/◌, ◌≤◌, ◌<◌, true, eqb, length, get_or};
 ghost use Rattle.records.specs.Bytes.{word};
 ghost use Rattle.file_blocks.specs.Format.{item_size, capacity, repeats, place};

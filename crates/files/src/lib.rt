@@ -2,6 +2,8 @@
 // Read in the order of the data's way: what saving answers (save; the function is crate `save_screen`); then what a file holds
 // (held), a screen loaded (load). The blocks of a file are crate `file_blocks`, their structure crate `file_structure`.
 // Nothing is written before everything that can refuse was looked at.
+#![tactic(auto)]
+
 pub mod held;
 pub mod load;
 pub mod save;

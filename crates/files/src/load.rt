@@ -13,7 +13,7 @@ use file_structure::{end_word, structure_ok, total_of};
 use limits::{COLUMNS, FEW_RECORDS, RECORD, RECORDS, VALUE, VALUES};
 
 // What loading answers: a refusal with its number, or the root and the totals of columns, records, values and bytes of text.
-#[derive(Drop)]
+#[derive(Clone, Copy)]
 pub enum LoadAnswer {
     Refused(u32),
     Loaded(u64, u64, u64, u64, u64),

@@ -1,5 +1,5 @@
 // What saving answers: a refusal with its number, or the file's length.
-#[derive(Drop)]
+#[derive(Clone, Copy)]
 pub enum SaveAnswer {
     Refused(u32),
     Saved(u64),

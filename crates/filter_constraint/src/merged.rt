@@ -22,7 +22,7 @@ use resolve_columns::conclude::{keep_equalities, resolve_all};
 
 /// Whether no row can pass; else whether the screen stays as it is; else the chain's kept nodes, columns and comparisons are
 /// counted.
-#[derive(Drop)]
+#[derive(Clone, Copy)]
 pub struct MergedColumns {
     pub unsat: bool,
     pub unchanged: bool,

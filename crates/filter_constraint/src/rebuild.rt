@@ -21,7 +21,7 @@ use resolve_columns::conclude::write_comparisons;
 use rewrite::write::write_ands;
 
 /// The answer for a rebuilt chain, and how many bytes the text of its reasons has.
-#[derive(Drop)]
+#[derive(Clone, Copy)]
 pub struct Rebuilding {
     pub answer: RewriteAnswer,
     pub length: usize,

@@ -19,7 +19,7 @@ use row_list::{count_class, write_list};
 use tally::{Tally, sums_fit};
 
 // A refusal with its number, or how many rows passed, were false, were unknown.
-#[derive(Drop)]
+#[derive(Clone, Copy)]
 pub enum HedgeAnswer {
     Refused(u32),
     Listed(u64, u64, u64),

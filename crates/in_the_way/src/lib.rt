@@ -1,4 +1,6 @@
 // The one line in the way (02, 2.9) of a screen without symbols, as the C call of crate `way_symbols` gives it.
+#![tactic(auto)]
+
 ghost use Rattle.std.specs.Prelude.{◌≡◌, true};
 ghost use Rattle.way_answer.specs.Answer.{way_answer};
 ghost use Rattle.in_the_way.specs.Calls.{way_number, line_out, way_listed, WayPromise};

@@ -1,4 +1,5 @@
 // The limits of document 01, by which tables are as long as they are. Contracts say the numbers themselves.
+#![tactic(auto)]
 
 /// The columns of a table, at most.
 pub const COLUMNS: usize = 64;

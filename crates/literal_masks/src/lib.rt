@@ -1,4 +1,6 @@
 // A column of a block against a literal. Its values are read where they stand, so no keys are filled for it.
+#![tactic(auto)]
+
 ghost use Rattle.std.specs.Prelude.{◌≡◌, cond, List, ℕ, ◌+◌, ◌*◌, ◌^◌, ◌≤◌, ◌<◌, ltb, eqb, length};
 ghost use Rattle.std.proofs.Math.Option.{some};
 ghost use Rattle.truth.specs.Comparison.{Eq, Lt};

@@ -1,10 +1,10 @@
 -- A column against a literal: the order of 64 bits' keys is the order of the numbers that the loop compares.
 -- Assumes nothing.
-use mathlib.Core.Path.{◌≡◌, refl, sym, ◌∙◌, ap}
+use mathlib.Core.Path.{◌≡◌, refl, ◌∙◌, ap}
 use mathlib.Core.Bool.{Bool, true, false, not, ◌&&◌, ◌||◌, and-false}
 use mathlib.Core.List.{List}
-use mathlib.Core.Option.{Option, none, some}
-use Prim.Native.Nat.{ℕ, ◌+◌, ◌^◌, ◌≤◌, ◌<◌}
+use mathlib.Core.Option.{Option, some}
+use Prim.Native.Nat.{ℕ, ◌+◌, ◌^◌, ◌<◌}
 use native.Mathlib.Omega.{arith}
 use lib.Bits.{bit_and, bit_or}
 use lib.Dec.{ltb, eqb}
@@ -14,10 +14,8 @@ use borrow.Author.Tests.{ltb-true, ltb-false, eqb-true, eqb-false, ne_eqb}
 use Rattle.records.proofs.Laws.{by-test}
 use Rattle.checking.specs.Columns.{bit}
 use Rattle.checking.proofs.Bits.{bit-or}
-use Rattle.three_valued.specs.declared.logic.Truth.{Truth}
 use Rattle.truth.specs.declared.scalar.Ordering.{Ordering}
-use Rattle.truth.specs.declared.scalar.Ordering.TheVariants.{Less, Equal, Greater}
-use Rattle.truth.specs.Order.{Order, is_less, is_equal}
+use Rattle.truth.specs.Order.{is_less, is_equal}
 use Rattle.truth.specs.Comparison.{Eq, Lt}
 use Rattle.truth.specs.Halves.{ord_z, key, bias_of}
 use Rattle.truth.specs.Evaluate.{comparing}

@@ -4,10 +4,10 @@ use mathlib.Core.Path.{◌≡◌, refl, sym, ◌∙◌, ap, subst}
 use mathlib.Core.Bool.{Bool, true, false, cond, not, ◌&&◌, ◌||◌, and-false}
 use mathlib.Core.List.{List}
 use mathlib.Core.Option.{Option, none, some}
-use Prim.Native.Nat.{ℕ, ◌+◌, ◌^◌, ◌≤◌, ◌<◌}
+use Prim.Native.Nat.{ℕ, ◌+◌, ◌≤◌, ◌<◌}
 use native.Mathlib.Omega.{arith}
 use lib.Bits.{bit_and, bit_or}
-use lib.Dec.{ltb, leb, eqb}
+use lib.Dec.{leb, eqb}
 use lib.IntN.{ℤ}
 use lib.ListN.{get_or}
 use borrow.Author.Tests.{ne_eqb}
@@ -15,9 +15,9 @@ use Rattle.checking.specs.Columns.{bit}
 use Rattle.checking.proofs.Bits.{bit-or, bit-zero}
 use Rattle.three_valued.specs.declared.logic.Truth.{Truth}
 use Rattle.truth.specs.declared.scalar.Ordering.{Ordering}
-use Rattle.truth.specs.Order.{Order, View, less_view, equal_view, greater_view, is_less, is_equal, is_greater}
-use Rattle.truth.specs.Comparison.{Comparison, Eq, NotEq, Lt, LtEq, Gt, GtEq}
-use Rattle.truth.specs.Halves.{ord_z, key, bias_of}
+use Rattle.truth.specs.Order.{View, less_view, equal_view, greater_view, is_less, is_equal, is_greater}
+use Rattle.truth.specs.Comparison.{Eq, Lt, Gt}
+use Rattle.truth.specs.Halves.{ord_z, key}
 use Rattle.truth.specs.Evaluate.{comparing, same, null_test, comparison_at, compared_of, connected_of, between_of, low_code, high_code}
 use Rattle.truth.specs.Evaluate.{to_truth}
 use Rattle.truth.specs.FromBytes.{truth_keys}

@@ -1,27 +1,21 @@
 -- What is read of an input: its rows, its keys, and when its truth and its value are each other's.
 -- Assumes nothing.
-use mathlib.Core.Path.{◌≡◌, refl, sym, ◌∙◌, ap, subst}
-use mathlib.Core.Bool.{Bool, true, false, cond, not, ◌&&◌, ◌||◌, true≢false}
+use mathlib.Core.Path.{◌≡◌, sym, ◌∙◌, subst}
+use mathlib.Core.Bool.{true, false}
 use mathlib.Core.List.{List}
-use mathlib.Core.Logic.{◌⊎◌, inl, inr, ⊎_elim}
-use mathlib.Core.Option.{Option, none, some}
-use Prim.Native.Nat.{ℕ, zero, suc, ◌+◌, ◌-◌, ◌*◌, ◌^◌, ◌≤◌, ◌<◌}
+use mathlib.Core.Option.{Option}
+use Prim.Native.Nat.{ℕ, suc, ◌+◌, ◌-◌, ◌*◌, ◌≤◌, ◌<◌}
 use native.Mathlib.Omega.{arith}
 use native.Mathlib.Nat.{mul-le-mul}
-use lib.Dec.{ltb, leb, eqb}
+use lib.Dec.{eqb}
 use lib.IntN.{ℤ}
 use lib.ListN.{length, get_or, set, take, drop}
 use lib.Seq.{get_or-set_same, get_or-set_other}
 use borrow.Author.Tests.{eqb-true, eqb-false}
-use Rattle.records.specs.Record.{fields_at, node}
-use Rattle.records.specs.declared.record.Fields.{Fields}
-use Rattle.records.specs.declared.record.Node.{Node}
 use Rattle.records.proofs.Laws.{by-test}
-use Rattle.truth.specs.declared.value.Value.{Value}
-use Rattle.truth.specs.Evaluate.{row_value, keyed, null_test, Evaluable}
-use Rattle.masks.specs.declared.Masks.{Masks}
+use Rattle.truth.specs.Evaluate.{row_value, null_test, Evaluable}
 use Rattle.masks.specs.Masks.{KeyAt}
-use Rattle.masks.specs.Block.{chain_row, chain_truth, chain_worth, Ready}
+use Rattle.masks.specs.Block.{chain_row, chain_worth, Ready}
 
 -- ---- keys that are filled
 unfoldable pub KeysTo : (ℕ → ℕ) → List ℕ → ℕ → ℕ → Type 0

@@ -1,8 +1,8 @@
 -- Logic on masks is the logic of truths, row by row.
 -- Assumes nothing.
-use mathlib.Core.Path.{◌≡◌, refl, sym, ◌∙◌, ap}
-use mathlib.Core.Bool.{Bool, true, false, not, ◌&&◌, ◌||◌}
-use Prim.Native.Nat.{ℕ, ◌<◌}
+use mathlib.Core.Path.{◌≡◌, refl, ◌∙◌, ap}
+use mathlib.Core.Bool.{not, ◌&&◌, ◌||◌}
+use Prim.Native.Nat.{ℕ}
 use lib.Bits.{bit_and, bit_or, bit_xor}
 use Rattle.checking.specs.Columns.{bit}
 use Rattle.checking.proofs.Bits.{bit-or}

@@ -1,5 +1,7 @@
 // The truths of 64 rows at once: two words, a bit a row. One word says of which rows a record is true, the other of which it
 // is unknown. Logic on them is a few operations on words; a comparison of 64 values is one loop.
+#![tactic(auto)]
+
 ghost use Rattle.std.specs.Prelude.{◌≡◌, cond, ℕ, ◌+◌, ◌^◌, ◌≤◌, ◌<◌, ltb, eqb, length, get_or, ℤ};
 ghost use Rattle.std.specs.Int.Bits.{bit_or};
 ghost use Rattle.three_valued.specs.declared.logic.Truth.{Truth};
@@ -14,7 +16,7 @@ pub mod block;
 pub mod reach;
 
 /// Bit i of `truths`: true of row i. Bit i of `unknowns`: unknown of row i. Neither: false.
-#[derive(Drop)]
+#[derive(Clone, Copy)]
 pub struct Masks {
     pub truths: u64,
     pub unknowns: u64,

@@ -1,5 +1,5 @@
 /// What rewriting answers: a refusal with its number, that nothing changes, or the new root and used count.
-#[derive(Drop)]
+#[derive(Clone, Copy)]
 pub enum RewriteAnswer {
     Refused(u32),
     Unchanged,
@@ -11,7 +11,7 @@ pub enum RewriteAnswer {
 
 /// What rewriting gives: the answer, how many passes over the equalities it made, and how many bytes the text of the
 /// reasons has. A refusal says nothing of the passes.
-#[derive(Drop)]
+#[derive(Clone, Copy)]
 pub struct Rewriting {
     pub answer: RewriteAnswer,
     pub passes: u64,

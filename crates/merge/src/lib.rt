@@ -3,4 +3,6 @@
 //! table of columns), Propagate (the passes over the equalities), Emit (what is decided), Rebuild and Write (the records added),
 //! Rewrite (refusals, answer, bytes at exit). Demand, Plain and Passes state what is promised; the worked
 //! cases of 01 are crate `merge_cases`.
+#![tactic(auto)]
+
 pub mod answer;

@@ -1,6 +1,8 @@
 // `MintermIter` as the Rust has it: a struct with the lent records and the nodes still to visit. Its methods are thin:
 // the work is done by `rooted` and `next_minterm` (crate next_minterm), on plain slices and stacks. `minterms` has all conjuncts of
 // a root from the struct, and serves every other caller.
+#![tactic(auto)]
+
 ghost use Rattle.std.specs.Prelude.{◌≡◌, [], ◌∷◌, ℕ, ◌≤◌, min, length};
 ghost use Rattle.truth.specs.AExpr.{Inputs};
 ghost use Rattle.merge.specs.Minterms.{minterms};

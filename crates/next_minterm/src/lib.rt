@@ -1,5 +1,7 @@
 // The walk of `MintermIter` (crate minterm_iter) on plain slices and stacks: its first stack, a step, and what a step gives taken
 // into an array.
+#![tactic(auto)]
+
 ghost use Rattle.std.specs.Prelude.{◌≡◌, [], ◌∷◌, ◌≤◌, length};
 ghost use Rattle.read_operands.specs.Walk.{walked, stack_of, InputsBelow};
 ghost use Rattle.next_minterm.specs.Iter.{stack_in, Next, Taken};
@@ -9,7 +11,7 @@ use read_operands::minterms::{Sides, sides_at};
 use records::record::Node;
 
 /// `Option<Node>`; `Over` if the stack's 128 places do not suffice.
-#[derive(Drop)]
+#[derive(Clone, Copy)]
 pub enum Item {
     None,
     Some(Node),
@@ -17,7 +19,7 @@ pub enum Item {
 }
 
 /// What one step gives, and how many nodes of the stack are left.
-#[derive(Drop)]
+#[derive(Clone, Copy)]
 pub struct Minterm {
     pub item: Item,
     pub depth: usize,
@@ -85,7 +87,7 @@ pub fn rooted(root: Node) -> Stack
 }
 
 /// How many conjuncts are found, and whether there may be more. 129 stands for more than 128.
-#[derive(Drop)]
+#[derive(Clone, Copy)]
 pub struct Found {
     pub len: usize,
     pub more: bool,

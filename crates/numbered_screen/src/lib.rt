@@ -1,5 +1,7 @@
 // A screen with symbols told as one of numbers (02, 2.10): each Text column, literal, null and list becomes one of type Int and
 // keeps its bits, since every 64 bits are an Int. Whatever does not ask for types reads the same of both.
+#![tactic(auto)]
+
 ghost use Rattle.std.specs.Prelude.{◌≡◌, ℕ, ◌≤◌, ◌<◌, length, get_or};
 ghost use Rattle.numbered_screen.specs.Numbered.{number_type, number_byte};
 

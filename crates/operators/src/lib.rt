@@ -1,4 +1,6 @@
 // Methods of `Operator` (crate records) that reading a conjunct needs, as src/dsl/expr/mod.rs has them.
+#![tactic(auto)]
+
 ghost use Rattle.std.specs.Prelude.{◌≡◌};
 ghost use Rattle.records.specs.Operator.{is_null_propagating_comparison, swap_operands};
 ghost use Rattle.records.specs.Operator as operator;

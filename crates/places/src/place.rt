@@ -11,14 +11,14 @@ use truth::read::null_marked;
 use truth::scalar::Scalar;
 
 /// The half part: -1, 0 or +1.
-#[derive(Drop)]
+#[derive(Clone, Copy)]
 pub enum Half {
     Minus,
     Zero,
     Plus,
 }
 
-#[derive(Drop)]
+#[derive(Clone, Copy)]
 pub enum Place {
     Null,
     Known(Scalar, Half),

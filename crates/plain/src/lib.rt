@@ -1,5 +1,7 @@
 // Whether a screen is plain (01, 'Records'): each conjunct is one of the forms listed there, and no column but Int and Day
 // ones is read. A conjunct's form is told by how the merging reads it.
+#![tactic(auto)]
+
 ghost use Rattle.std.specs.Prelude.{◌≡◌, not, ◌||◌, List, ℕ, ◌<◌, ◌≤◌, eqb, length, get_or};
 ghost use Rattle.records.specs.Bytes.{all};
 ghost use Rattle.checking.specs.Checked.{Checked};

@@ -1,5 +1,7 @@
 // What the calls that go through a plain screen line by line do first: the checks in their order, 8, 9 and 17 among them, then
 // the lines, that is the conjuncts counted from 0.
+#![tactic(auto)]
+
 ghost use Rattle.std.specs.Prelude.{◌≡◌, ℕ, ◌≤◌, ◌<◌, min, length, get_or};
 ghost use Rattle.checking.specs.Check.{check_answer};
 ghost use Rattle.checking.specs.Tree.{tree_count};
@@ -13,7 +15,7 @@ use plain::is_plain;
 use records::record::Node;
 
 /// The number of a refusal, or how many lines there are.
-#[derive(Drop)]
+#[derive(Clone, Copy)]
 pub enum PlainLines {
     Refused(u32),
     Lines(u32),

@@ -1,6 +1,8 @@
 // What the calls that go through a plain screen do first where a text pool is lent (02, 2.10): the checks in their order, 8, 9 and 17
 // among them; then the screen's numbers, of which everything else is told. Text columns make no screen plain, but records of
 // type Text that the root does not reach are allowed, and so are Text columns that it does not read.
+#![tactic(auto)]
+
 ghost use Rattle.std.specs.Prelude.{◌≡◌, not, ◌||◌, ℕ, ◌*◌, ◌<◌, ◌≤◌, eqb, length, get_or, take};
 ghost use Rattle.records.specs.Bytes.{all};
 ghost use Rattle.checking.specs.Checked.{Checked};

@@ -17,21 +17,21 @@ use column_table::rows::merge_rows;
 use records::record::Column;
 
 /// Whether anything that is written out was propagated, and whether anything was.
-#[derive(Drop)]
+#[derive(Clone, Copy)]
 pub struct Moved {
     pub emitted: bool,
     pub any: bool,
 }
 
 /// The same, and a bit for each column that may tell its neighbours something new.
-#[derive(Drop)]
+#[derive(Clone, Copy)]
 pub struct Swept {
     pub emitted: bool,
     pub any: bool,
     pub word: u64,
 }
 
-#[derive(Drop)]
+#[derive(Clone, Copy)]
 pub struct Propagated {
     pub emitted: bool,
     pub passes: usize,

@@ -10,7 +10,7 @@ use records::operator::Operator;
 use records::record::{Node, Record, record_at};
 
 /// Whether a record is an And, and of what.
-#[derive(Drop)]
+#[derive(Clone, Copy)]
 pub enum Sides {
     One,
     Both(Node, Node),

@@ -10,7 +10,7 @@ use records::record::{ClosedInterval, Column, Node, Record, record_at};
 use truth::scalar::Scalar;
 
 /// The six comparisons that give bounds and excluded values.
-#[derive(Drop)]
+#[derive(Clone, Copy)]
 pub enum Comparison {
     Eq,
     NotEq,
@@ -21,14 +21,14 @@ pub enum Comparison {
 }
 
 /// The ordinary comparison that an operator is, if it is one of the six.
-#[derive(Drop)]
+#[derive(Clone, Copy)]
 pub enum Ordinary {
     Nothing,
     To(Comparison),
 }
 
 /// `List`: at most 100 values and no null; its start and count in the pool.
-#[derive(Drop)]
+#[derive(Clone, Copy)]
 pub enum Operand {
     Column(Column),
     Literal(Scalar),
@@ -37,14 +37,14 @@ pub enum Operand {
 }
 
 /// is_in, or its negation; whether the negation drops nulls.
-#[derive(Drop)]
+#[derive(Clone, Copy)]
 pub enum Listing {
     Allow,
     Disallow(bool),
 }
 
 /// What a conjunct says of its column.
-#[derive(Drop)]
+#[derive(Clone, Copy)]
 pub enum Says {
     /// The column only enters the table.
     Nothing,
@@ -56,7 +56,7 @@ pub enum Says {
 }
 
 /// What a conjunct is to the merging.
-#[derive(Drop)]
+#[derive(Clone, Copy)]
 pub enum Conjunct {
     /// Written anew from the merged constraints, so its node is dropped.
     Bounds(Column, Says),

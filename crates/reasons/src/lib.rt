@@ -3,6 +3,8 @@
 // Read in the order of the data's way: numbers and symbols (crates decimals, symbol_text), operators (operator), values (value), a
 // line (reason). How long a line is comes
 // before its first byte is written: nothing is written that a lent buffer cannot hold.
+#![tactic(auto)]
+
 pub mod operator;
 pub mod reason;
 pub mod value;

@@ -1,2 +1,4 @@
 // Number 11 and the answer, reckoned before a byte is written.
+#![tactic(auto)]
+
 pub mod reckon;

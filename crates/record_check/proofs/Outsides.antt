@@ -2,7 +2,7 @@
 use Prim.Native.Nat.{ℕ, zero, suc, ◌+◌, ◌/◌, ◌≤◌, ◌<◌}
 use mathlib.Core.List.{List}
 use mathlib.Core.Bool.{Bool, true, false, cond, ◌&&◌, and-false}
-use mathlib.Core.Path.{◌≡◌, refl, sym, ◌∙◌, ap, subst}
+use mathlib.Core.Path.{◌≡◌, refl, sym, ◌∙◌, ap}
 use native.Mathlib.Omega.{arith}
 use native.Mathlib.Numerals.{add-one}
 use lib.ListN.{length, get_or, set}
@@ -10,7 +10,6 @@ use lib.Dec.{eqb}
 use borrow.Author.Tests.{eq-eqb, ne_eqb}
 use Rattle.records.specs.Bytes.{value_at, all}
 use Rattle.records.specs.Shape.{in_type_in}
-use Rattle.records.proofs.Laws.{by-test}
 use Rattle.record_check.specs.Fit.{all_fit_in}
 use Rattle.record_check.specs.Outside.{misses, outside, Outside}
 use Rattle.record_check.proofs.Filling.{Filled, filled_more}

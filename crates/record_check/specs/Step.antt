@@ -1,10 +1,10 @@
 -- One record's answer in one pass, kind by kind, from the entries and tree counts of the records below it.
 -- An entry says what later records ask of a record: 1 Int, 2 Day, 3 Truth, 4 Text, 8 ty a list of ty. So an entry's remainder
 -- by 8 is `type_of`, 0 for a list. (`Entry` ties it to the definitions of Fit.)
-use Rattle.std.specs.Prelude.{ℕ, ◌+◌, ◌*◌, ◌%◌, ◌<◌, List, Bool, true, false, cond, not, ◌&&◌, ◌≡◌, length, get_or, ltb, leb, eqb}
+use Rattle.std.specs.Prelude.{ℕ, ◌+◌, ◌*◌, ◌%◌, ◌<◌, List, Bool, true, cond, not, ◌&&◌, ◌≡◌, length, get_or, ltb, leb, eqb}
 use Rattle.records.specs.Record.{node, record_at}
 use Rattle.records.specs.Shape.{known_type_in, in_type_in}
-use Rattle.record_check.specs.Fit.{list_ok_in, type_of, same_type, between_fits, member_fits}
+use Rattle.record_check.specs.Fit.{list_ok_in, type_of, between_fits, member_fits}
 use Rattle.records.specs.declared.record.Fields.{Fields}
 use Rattle.records.specs.declared.record.Record.{Record}
 use Rattle.record_check.specs.declared.step.Step.{Step}

@@ -10,7 +10,7 @@ use records::record::{Fields, Node};
 use value_types::{in_type, known_type};
 
 // A record's fault, 0 for none; its entry in the table; its tree count, one more than those of its inputs.
-#[derive(Drop)]
+#[derive(Clone, Copy)]
 pub struct Step {
     pub fault: u32,
     pub entry: u8,

@@ -1,22 +1,21 @@
 -- The round trips of specs/RoundTrip.
 use Prim.Native.Nat.{ℕ, zero, suc, ◌+◌, ◌*◌, ◌/◌, ◌%◌, ◌≤◌, ◌<◌}
-use mathlib.Core.Bool.{Bool, true, false, cond, ◌&&◌, ◌||◌, and-true, true≢false}
-use mathlib.Core.Path.{◌≡◌, refl, sym, ◌∙◌, ap, subst}
+use mathlib.Core.Bool.{Bool, true, false, cond, ◌&&◌, and-true}
+use mathlib.Core.Path.{◌≡◌, refl, sym, ap}
 use native.Mathlib.Omega.{arith}
 use lib.Dec.{eqb, leb}
-use borrow.Author.Tests.{eqb-true, eqb-false, leb-true}
+use borrow.Author.Tests.{eqb-true, leb-true}
 use Rattle.records.specs.Operator.{operator_at, code_of}
-use Rattle.records.specs.Record.{node, column_number, closed_at, closed_code, flag_code, fields, decode, encode}
-use Rattle.records.specs.Shape.{Ty, A, B, C, known_type_in, in_type_in, max_code, uses, known_ok_in, zero_or, unused_ok, literal_ok_in, shape_ok_in}
+use Rattle.records.specs.Record.{closed_at, closed_code, flag_code, fields, decode, encode}
+use Rattle.records.specs.Shape.{Ty, A, B, C, known_type_in, max_code, uses, known_ok_in, zero_or, unused_ok, literal_ok_in, shape_ok_in}
 use Rattle.records.specs.RoundTrip.{DecodeOfEncode, EncodeOfDecode, ShapeOfEncode}
 use Rattle.records.specs.declared.operator.Operator.{Operator}
 use Rattle.records.specs.declared.operator.Operator.TheVariants.{Eq, EqValidity, NotEq, NotEqValidity, Lt, LtEq, Gt, GtEq, Plus, Minus, Multiply, RustDivide, TrueDivide, FloorDivide, Modulus, And, Or, Xor, LogicalAnd, LogicalOr}
 use Rattle.records.specs.declared.record.Fields.{Fields}
 use Rattle.records.specs.declared.record.ClosedInterval.{ClosedInterval}
 use Rattle.records.specs.declared.record.ClosedInterval.TheVariants as closed
-use Rattle.records.specs.declared.record.Record.{Record}
 use Rattle.records.specs.declared.record.Record.TheVariants as kind
-use Rattle.records.proofs.Laws.{by-test, and_left, and_right}
+use Rattle.records.proofs.Laws.{and_left, and_right}
 use Rattle.records.proofs.Loops.{all_holds}
 use Rattle.records.specs.Bytes.{all}
 

@@ -3,7 +3,7 @@
 ghost use Rattle.std.specs.Prelude.{◌≡◌, ◌<◌};
 ghost use Rattle.records.specs.Operator.{code_of, operator_at, is_comparison, is_left_out};
 
-#[derive(Drop)]
+#[derive(Clone, Copy)]
 pub enum Operator {
     Eq,
     EqValidity,
@@ -28,14 +28,14 @@ pub enum Operator {
 }
 
 // What `swap_operands` answers: arithmetic that does not commute has no such operator.
-#[derive(Drop)]
+#[derive(Clone, Copy)]
 pub enum Swapped {
     Nothing,
     To(Operator),
 }
 
 // What `negate` answers: only a comparison has a complement.
-#[derive(Drop)]
+#[derive(Clone, Copy)]
 pub enum Negated {
     Nothing,
     To(Operator),

@@ -7,15 +7,15 @@ use crate::bytes::{byte, word_at, word_in};
 use crate::operator::{Operator, operator_at, operator_code};
 
 // The number of a record, as the Rust's `Node`.
-#[derive(Drop)]
+#[derive(Clone, Copy)]
 pub struct Node(pub u32);
 
 // The number of a column in the table; the Rust has a name there.
-#[derive(Drop)]
+#[derive(Clone, Copy)]
 pub struct Column(pub u32);
 
 // Byte 0 kind, 1 code, 2 type, 3 zero; A, B and C.
-#[derive(Drop)]
+#[derive(Clone, Copy)]
 pub struct Fields {
     pub kind: u8,
     pub code: u8,
@@ -27,7 +27,7 @@ pub struct Fields {
 }
 
 // The closed ends of is_between, as polars' `ClosedInterval`.
-#[derive(Drop)]
+#[derive(Clone, Copy)]
 pub enum ClosedInterval {
     Both,
     Left,
@@ -35,7 +35,7 @@ pub enum ClosedInterval {
     None,
 }
 
-#[derive(Drop)]
+#[derive(Clone, Copy)]
 pub enum Record {
     // No kind of 01: only unchecked bytes give it.
     Invalid,
@@ -57,7 +57,7 @@ pub enum Record {
 }
 
 // The nodes that a record names.
-#[derive(Drop)]
+#[derive(Clone, Copy)]
 pub enum Inputs {
     Zero,
     One(Node),

@@ -16,13 +16,13 @@ use column_table::rows::{count_row, resolve_row, write_row};
 use records::record::Column;
 use rewrite::emit::is_fixed;
 
-#[derive(Drop)]
+#[derive(Clone, Copy)]
 pub struct KeptNodes {
     pub keeps: usize,
     pub dropped: bool,
 }
 
-#[derive(Drop)]
+#[derive(Clone, Copy)]
 pub struct ResolvedColumns {
     pub unsat: bool,
     pub total: usize,

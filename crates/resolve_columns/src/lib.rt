@@ -1,2 +1,4 @@
 // The stages behind the propagation: the kept equalities, the resolved columns, the comparisons written out.
+#![tactic(auto)]
+
 pub mod conclude;

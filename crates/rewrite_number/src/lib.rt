@@ -1,4 +1,6 @@
 //! What rewriting answered, as the number and the out-parameters of its call (crate `screen`).
+#![tactic(auto)]
+
 ghost use Rattle.std.specs.Prelude.{◌≡◌};
 ghost use Rattle.rewrite_number.specs.Answers.{rewrite_number, new_root_out, new_used_out, passes_out};
 

@@ -1,4 +1,6 @@
 // The merging of an accepted screen with symbols (02, 2.10), by its screen of ranks.
+#![tactic(auto)]
+
 ghost use Rattle.std.specs.Prelude.{◌≡◌, ℕ, ◌*◌, ◌≤◌, min, length, get_or};
 ghost use Rattle.checking.specs.Check.{check_answer_in};
 ghost use Rattle.checking.specs.Tree.{tree_count};

@@ -1,5 +1,7 @@
 // The classes of the rows, some rows at a time: their numbers into a lent block, which is then judged as a chain of numbers.
 // The records are marked and the pool's parts are put in order once for all rows.
+#![tactic(auto)]
+
 ghost use Rattle.std.specs.Prelude.{◌≡◌, true, ℕ, ◌+◌, ◌*◌, ◌≤◌, ◌<◌, length, get_or};
 ghost use Rattle.three_valued.specs.declared.logic.Truth.{Truth};
 ghost use Rattle.masks.specs.Block.{Closed};

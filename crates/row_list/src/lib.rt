@@ -1,4 +1,6 @@
 // Counting the classes of the rows, and writing the numbers of those that pass.
+#![tactic(auto)]
+
 ghost use Rattle.std.specs.Prelude.{◌≡◌, cond, ℕ, ◌+◌, ◌*◌, ◌/◌, ◌%◌, ◌≤◌, ◌<◌, List, [], ◌∷◌, eqb, length, get_or};
 ghost use Rattle.file_blocks.specs.Format.{overwrite};
 ghost use Rattle.row_list.specs.Numbers.{count, numbers, bytes_of};

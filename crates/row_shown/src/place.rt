@@ -19,14 +19,14 @@ use resolve_deferred::resolve::fixed_value;
 use truth::scalar::{Ordering, Scalar, scalar_cmp};
 
 /// A whole part and a half part, 64 bits each in two's complement.
-#[derive(Drop)]
+#[derive(Clone, Copy)]
 pub struct Place {
     pub whole: u64,
     pub half: u64,
 }
 
 /// The smallest value found so far, if one is found.
-#[derive(Drop)]
+#[derive(Clone, Copy)]
 pub struct Smallest {
     pub found: bool,
     pub value: u64,

@@ -1,18 +1,17 @@
 -- The answer of the row test for a checked screen, one law for each way it ends.
 -- Assumes nothing.
 use mathlib.Core.Path.{◌≡◌, refl, sym, ◌∙◌, ap}
-use mathlib.Core.Bool.{Bool, true, false, cond, ◌&&◌, true≢false}
+use mathlib.Core.Bool.{Bool, true, false, cond, ◌&&◌}
 use mathlib.Core.List.{List}
 use Prim.Native.Nat.{ℕ, ◌*◌, ◌<◌, ◌≤◌, min}
 use native.Mathlib.Omega.{arith}
-use lib.Dec.{ltb, eqb}
+use lib.Dec.{eqb}
 use lib.ListN.{length}
-use borrow.Author.Tests.{lt-ltb, le-ltb, eq-eqb, ne_eqb, eqb-true}
+use borrow.Author.Tests.{lt-ltb, le-ltb, ne_eqb, eqb-true}
 use Rattle.checking.specs.Check.{check_answer}
 use Rattle.checking.specs.Fault.{answer_of}
 use Rattle.checking.specs.Tree.{tree_count}
 use Rattle.checking.specs.Checked.{Checked}
-use Rattle.checking.proofs.Accepted.{checked-used}
 use Rattle.checking.proofs.Standing.{refused-of, accepted-of}
 use Rattle.three_valued.specs.declared.logic.Truth.{Truth}
 use Rattle.row_test.specs.declared.test.RowAnswer.{RowAnswer}

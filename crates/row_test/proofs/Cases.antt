@@ -8,13 +8,13 @@ use Rattle.records.specs.Bytes.{word, value_at, all, first}
 use Rattle.records.specs.Course.{up_to, course}
 use Rattle.records.specs.Operator.{operator_at}
 use Rattle.records.specs.Record.{fields_at, closed_at, decode, record_at}
-use Rattle.records.specs.Shape.{known_type, known_type_in, in_type, in_type_in, max_code, uses, known_ok_in, zero_or, unused_ok}
+use Rattle.records.specs.Shape.{known_type_in, in_type_in, max_code, uses, known_ok_in, zero_or, unused_ok}
 use Rattle.records.specs.Shape.{literal_ok_in}
-use Rattle.records.specs.Shape.{shape_ok, shape_ok_in}
-use Rattle.record_check.specs.Fit.{all_fit, all_fit_in, list_ok, list_ok_in, reach_ok, reach_ok_in, served_ok, type_of, type_at, same_type, binary_fits, between_fits}
+use Rattle.records.specs.Shape.{shape_ok_in}
+use Rattle.record_check.specs.Fit.{all_fit_in, list_ok_in, reach_ok_in, served_ok, type_of, type_at, same_type, binary_fits, between_fits}
 use Rattle.record_check.specs.Fit.{member_fits, types_ok}
-use Rattle.checking.specs.Check.{types_known, types_known_in, table_ok, table_ok_in, sizes_ok, sizes_ok_in, meaning_fault_in, record_fault, record_fault_in, first_fault_in, records_answer_in}
-use Rattle.checking.specs.Check.{check_answer, check_answer_in}
+use Rattle.checking.specs.Check.{types_known_in, table_ok_in, sizes_ok_in, meaning_fault_in, record_fault_in, first_fault_in, records_answer_in}
+use Rattle.checking.specs.Check.{check_answer_in}
 use Rattle.three_valued.specs.declared.logic.Truth.TheVariants.{False, Unknown, True}
 use Rattle.row_test.specs.declared.test.RowAnswer.{RowAnswer}
 use Rattle.row_test.specs.declared.test.RowAnswer.TheVariants.{Refused, Tested}

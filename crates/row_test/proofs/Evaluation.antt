@@ -3,8 +3,8 @@
 -- Assumes nothing.
 use mathlib.Core.Path.{◌≡◌, refl, sym, ◌∙◌, ap, subst}
 use mathlib.Core.Bool.{Bool, true, false, cond, not, true≢false}
-use mathlib.Core.List.{List, [], ◌∷◌}
-use mathlib.Core.Logic.{◌⊎◌, inl, inr, ⊎_elim}
+use mathlib.Core.List.{List}
+use mathlib.Core.Logic.{◌⊎◌, ⊎_elim}
 use mathlib.Core.Option.{Option, none, some}
 use Prim.Native.Nat.{ℕ, zero, suc, ◌+◌, ◌*◌, ◌-◌, ◌<◌, ◌≤◌}
 use native.Mathlib.Omega.{arith}
@@ -23,12 +23,12 @@ use Rattle.records.specs.declared.record.Record.TheVariants as kind
 use Rattle.three_valued.specs.declared.logic.Truth.{Truth}
 use Rattle.truth.specs.Halves.{ord_z, key}
 use Rattle.three_valued.specs.Logic.{not3, of_bool}
-use Rattle.truth.specs.AExpr.{AExpr, BinaryExpr, Not, IsNull, IsNotNull, IsBetween, ListLiteral, IsIn, Inputs}
+use Rattle.truth.specs.AExpr.{AExpr, Not, IsNull, IsNotNull, IsBetween, ListLiteral, IsIn, Inputs}
 use Rattle.truth.specs.Cell.{Cell, step, cell_at}
 use Rattle.truth.specs.FromBytes.{binary_expr, closes_low, closes_high, values_from, to_aexpr, aexpr_of, row_keys}
 use Rattle.truth.specs.FromBytes.{truth_keys, truth_in, value_in}
 use Rattle.truth.specs.Evaluate.{comparison_at, compared_of, divided_of, connected_of, low_code, high_code, between_of}
-use Rattle.truth.specs.Evaluate.{member_of, leaf_of, null_test, of_truth, to_truth, Served, ColumnThere, Fit}
+use Rattle.truth.specs.Evaluate.{member_of, leaf_of, null_test, of_truth, to_truth, Served, Fit}
 use Rattle.truth.specs.Evaluate.{Evaluable}
 use Rattle.truth.proofs.Cells.{cell_law}
 use Rattle.truth.proofs.Keys.{lt-or_le}

@@ -1,28 +1,28 @@
 -- What checking has shown is what evaluating needs.
 -- Assumes nothing.
-use mathlib.Core.Path.{◌≡◌, refl, sym, ◌∙◌, ap, subst}
+use mathlib.Core.Path.{◌≡◌, refl, sym, subst}
 use mathlib.Core.Bool.{Bool, true, false, cond, not, ◌&&◌, true≢false}
-use mathlib.Core.List.{List, [], ◌∷◌}
-use mathlib.Core.Logic.{◌⊎◌, inl, inr}
-use Prim.Native.Nat.{ℕ, zero, suc, ◌+◌, ◌*◌, ◌/◌, ◌<◌, ◌≤◌}
+use mathlib.Core.List.{List}
+use mathlib.Core.Logic.{inl, inr}
+use Prim.Native.Nat.{ℕ, ◌+◌, ◌*◌, ◌/◌, ◌<◌, ◌≤◌}
 use native.Mathlib.Omega.{arith}
 use lib.Dec.{ltb, leb, eqb}
 use lib.ListN.{length}
-use borrow.Author.Tests.{ltb-true, leb-true, eqb-true, lt-ltb}
-use Rattle.records.specs.Operator.{operator_at, code_of, is_left_out}
-use Rattle.records.specs.Record.{fields_at, decode, record_at, node, column_number, closed_at, inputs}
+use borrow.Author.Tests.{ltb-true, leb-true, eqb-true}
+use Rattle.records.specs.Operator.{operator_at, is_left_out}
+use Rattle.records.specs.Record.{fields_at, decode, record_at, node, column_number, inputs}
 use Rattle.records.specs.Shape.{shape_ok, shape_ok_in, known_ok_in, unused_ok, literal_ok_in, max_code, Ty, uses, known_type}
-use Rattle.record_check.specs.Fit.{reach_ok, reach_ok_in, served_ok, types_ok, type_at, list_ok, list_ok_in, all_fit, all_fit_in, member_fits}
-use Rattle.checking.specs.Check.{table_ok, table_ok_in, types_known}
-use Rattle.checking.specs.Checked.{CheckedRecord, Checked}
+use Rattle.record_check.specs.Fit.{reach_ok, reach_ok_in, served_ok, types_ok, type_at, list_ok_in, all_fit, all_fit_in, member_fits}
+use Rattle.checking.specs.Check.{table_ok_in, types_known}
+use Rattle.checking.specs.Checked.{Checked}
 use Rattle.records.specs.declared.operator.Operator.{Operator}
 use Rattle.records.specs.declared.operator.Operator.TheVariants as operator
 use Rattle.records.specs.declared.record.Fields.{Fields}
 use Rattle.records.specs.declared.record.Record.{Record}
 use Rattle.records.specs.declared.record.Record.TheVariants as kind
-use Rattle.records.proofs.Laws.{and_left, and_right, by-test}
+use Rattle.records.proofs.Laws.{and_left}
 use Rattle.checking.proofs.Accepted.{Below, inputs-below, checked-lent}
-use Rattle.truth.specs.AExpr.{AExpr, Missing, Inputs, WF}
+use Rattle.truth.specs.AExpr.{Missing, Inputs, WF}
 use Rattle.truth.specs.FromBytes.{binary_expr, to_aexpr, aexpr_of, aexpr_at}
 use Rattle.truth.specs.Evaluate.{Served, ColumnThere, Fit, Evaluable}
 use Rattle.row_test.proofs.Evaluation.{Each, each_at}

@@ -1,9 +1,9 @@
 -- A row that the row test accepts holds values of its columns' types.
 -- Assumes nothing.
-use mathlib.Core.Path.{◌≡◌, refl, sym, ◌∙◌, ap, subst}
+use mathlib.Core.Path.{◌≡◌, refl, subst}
 use mathlib.Core.Bool.{Bool, true, false, cond, ◌&&◌}
 use mathlib.Core.List.{List}
-use mathlib.Core.Logic.{◌⊎◌, inl, inr, ⊎_elim}
+use mathlib.Core.Logic.{◌⊎◌, inl, inr}
 use mathlib.Core.Option.{Option, none, some}
 use Prim.Native.Nat.{ℕ, zero, suc, ◌*◌, ◌<◌, ◌≤◌}
 use native.Mathlib.Omega.{arith}
@@ -11,14 +11,12 @@ use lib.Dec.{eqb, leb}
 use lib.IntN.{ℤ}
 use lib.ListN.{length, get_or}
 use borrow.Author.Tests.{leb-true}
-use Rattle.records.specs.Bytes.{value_at, all}
+use Rattle.records.specs.Bytes.{value_at}
 use Rattle.records.specs.Shape.{in_type, in_type_in}
 use Rattle.records.proofs.Loops.{all_holds}
 use Rattle.truth.specs.Halves.{key}
-use Rattle.truth.specs.Cell.{TruthKeys}
 use Rattle.truth.specs.FromBytes.{null_marked, row_keys, truth_keys}
 use Rattle.row_test.specs.RowTest.{column_ok, columns_ok, marks_ok, row_fault}
-use Rattle.truth.proofs.Keys.{lt-or_le}
 
 columns-ok_of : (t row : List ℕ) (nulls : ℕ) → row_fault t row nulls ≡ 0 → columns_ok t row nulls ≡ true
 unfolding row_fault

@@ -16,7 +16,7 @@ use records::record::Node;
 use three_valued::logic::Truth;
 
 // A refusal with its number, or what the row makes of the screen.
-#[derive(Drop)]
+#[derive(Clone, Copy)]
 pub enum RowAnswer {
     Refused(u32),
     Tested(Truth),

@@ -1,5 +1,7 @@
 // Rewriting a screen: the checks in 01's order, 8 and 9 among them, then the merging. A screen with symbols goes the same way up
 // to the merging, so that each step has one caller. Checking takes every screen as one without symbols first, as most are.
+#![tactic(auto)]
+
 ghost use Rattle.std.specs.Prelude.{◌≡◌, false, ℕ, ◌≤◌, ◌<◌, min, length, get_or};
 ghost use Rattle.checking.specs.Check.{check_answer_in};
 ghost use Rattle.checking.specs.Tree.{tree_count};

@@ -1,4 +1,6 @@
 // A screen saved: the checks of a screen, then 14, then the blocks in their order.
+#![tactic(auto)]
+
 ghost use Rattle.std.specs.Prelude.{◌≡◌, ◌+◌, ◌*◌, ◌/◌, ◌%◌, ◌≤◌, ◌<◌, ◌++◌, length};
 ghost use Rattle.file_blocks.specs.Format.{file_of, file_length, word_bytes, overwrite};
 ghost use Rattle.files.specs.Answers.{save_answer, save_bytes};

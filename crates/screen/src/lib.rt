@@ -1,6 +1,8 @@
 // Two calls of the C interface (include/screen.h) and nothing else: rewriting a screen, and the slowest one to rewrite. Each
 // turns the answer of a layer below into its number and into the values of its out-parameters. No call asks anything of its
 // arguments. The merging has no other caller here, so that it is inlined in rewriting; the other calls are crates of their own.
+#![tactic(auto)]
+
 ghost use Rattle.std.specs.Prelude.{◌≡◌, true, length};
 ghost use Rattle.rewrite_number.specs.Answers.{rewrite_number, new_root_out, new_used_out, passes_out, reasons_used_out};
 ghost use Rattle.reasons.specs.Explained.{text_if};

@@ -1,5 +1,7 @@
 // Two calls of the C interface (include/screen.h) and nothing else: saving a screen and loading it. Each turns the answer of
 // crate `files` into its number and into the values of its out-parameters. No call asks anything of its arguments.
+#![tactic(auto)]
+
 ghost use Rattle.std.specs.Prelude.{◌≡◌, true, length};
 ghost use Rattle.file_structure.specs.Read.{held};
 ghost use Rattle.files.specs.Answers.{save_answer, save_bytes, load_answer, loaded_bytes};

@@ -1,5 +1,7 @@
 // The hedge list (02, 2.10 and 2.14) as calls of the C interface (include/screen.h): the list itself, and the tally as a trader
 // and as risk see it. What is listed is `symbol_hedge`'s, whatever text pool is lent.
+#![tactic(auto)]
+
 ghost use Rattle.std.specs.Prelude.{◌≡◌, length};
 ghost use Rattle.tally.specs.Views.{TraderView, RiskView};
 ghost use Rattle.symbol_hedge.specs.HedgeWith.{hedge_answer_with, hedge_bytes_with};
@@ -10,7 +12,7 @@ use symbol_hedge::hedge_list_with;
 use tally::{Tally, add, risk_view, trader_view};
 
 /// The answer's number, and the rows in each class that the tally grows by.
-#[derive(Drop)]
+#[derive(Clone, Copy)]
 pub struct Hedged {
     pub number: u32,
     pub passed: u64,

@@ -1,6 +1,8 @@
 // Three calls of the C interface (include/screen.h) and nothing else: checking a screen, the columns it reads, testing a row.
 // Each turns the answer of a layer below into its number and into the values of its out-parameters. No call asks anything of
 // its arguments.
+#![tactic(auto)]
+
 ghost use Rattle.std.specs.Prelude.{◌≡◌, true};
 ghost use Rattle.checking.specs.Check.{check_answer_in};
 ghost use Rattle.symbol_screens.specs.Rewriting.{lent};

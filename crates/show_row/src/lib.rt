@@ -1,5 +1,7 @@
 // Show me a row (02, 2.7): the checks in their order, 8, 9, 17 and 14 among them, then the row that the resolved columns
 // give. All of a screen without symbols: the C call stands in crate `show_symbols`.
+#![tactic(auto)]
+
 ghost use Rattle.std.specs.Prelude.{◌≡◌, true, ℕ, ◌/◌, ◌≤◌, ◌<◌, min, length, get_or};
 ghost use Rattle.checking.specs.Check.{check_answer};
 ghost use Rattle.checking.specs.Tree.{tree_count};

@@ -1,5 +1,7 @@
 // Show me a row (02, 2.7) of a screen beside which a text pool is lent (02, 2.10): what the screen's numbers show.
 // The call stands in an object of its own, as the line in the way does.
+#![tactic(auto)]
+
 ghost use Rattle.std.specs.Prelude.{◌≡◌, true, ◌*◌, ◌≤◌, length};
 ghost use Rattle.show_row.specs.Calls.{show_number, show_listed, row_out, nulls_out, screen_bytes};
 ghost use Rattle.show_symbols.specs.Answer.{show_answer_with};

@@ -9,7 +9,7 @@ use records::record::{Column, Node, Record};
 use rewrite::write::put_record;
 
 /// A refusal with its number, or the root and the used count of the screen built.
-#[derive(Drop)]
+#[derive(Clone, Copy)]
 pub enum SlowestAnswer {
     Refused(u32),
     Built(u64, u64),

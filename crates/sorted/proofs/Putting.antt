@@ -1,22 +1,17 @@
 -- Sets of places as bits: one place more. Assumes nothing.
-use mathlib.Core.Path.{◌≡◌, refl, sym, ◌∙◌, ap}
-use mathlib.Core.Logic.{inl, inr}
-use mathlib.Core.Bool.{Bool, not, ◌||◌, or-false}
+use mathlib.Core.Path.{◌≡◌, sym, ◌∙◌, ap}
+use mathlib.Core.Bool.{◌||◌, or-false}
 use mathlib.Core.List.{List}
-use Prim.Native.Nat.{ℕ, ◌+◌, ◌*◌, ◌/◌, ◌%◌, ◌^◌, ◌≤◌, ◌<◌}
+use Prim.Native.Nat.{ℕ, ◌+◌, ◌/◌, ◌%◌, ◌^◌, ◌<◌}
 use native.Mathlib.Omega.{arith}
 use lib.Dec.{eqb}
-use lib.Bits.{bit_or, bit_xor, xor_self, or_zero_l}
-use lib.ListN.{length, get_or, set, length-set}
+use lib.Bits.{bit_or}
+use lib.ListN.{length, get_or, set}
 use lib.Seq.{get_or-set_same, get_or-set_other}
-use borrow.Author.Tests.{eqb-true, eqb-false, eq-eqb, ne_eqb, not-true, not-false}
+use borrow.Author.Tests.{eqb-true, eqb-false, eq-eqb, ne_eqb}
 use Rattle.records.proofs.Laws.{by-test}
-use Rattle.checking.specs.Columns.{bit}
 use Rattle.checking.proofs.Bits.{bit-or, bit-pow}
-use Rattle.sorted.specs.Rising.{Kept}
 use Rattle.sorted.specs.BitSets.{member, Put}
-use Rattle.sorted.proofs.Parts.{last, kept_refl, kept-wider, grown-kept}
-use Rattle.sorted.proofs.Words.{or_nothing, xor_nothing, differ}
 
 same_test : (a b c d : ℕ) → (a ≡ b → c ≡ d) → (c ≡ d → a ≡ b) → eqb a b ≡ eqb c d
 same_test a b c d f g =

@@ -1,5 +1,7 @@
 //! The class of each row of a chain, of a screen with symbols (02, 2.10 and 2.14). The screen was checked once. Rows
 //! under a short screen are tested one by one (each) where lists ask for few values, others by the numbers of their symbols (ranked).
+#![tactic(auto)]
+
 ghost use Rattle.std.specs.Prelude.{◌≡◌, true, false, [], ℕ, ◌+◌, ◌*◌, ◌≤◌, ◌<◌, length};
 ghost use Rattle.records.specs.Bytes.{all};
 ghost use Rattle.checking.specs.Checked.{CheckedIn};

@@ -2,5 +2,7 @@
 // that the kept value had; for a bound opened by an excluded value the excluded one's".
 // literals: the literal behind a limit, in the records sent;
 // convert: the columns of the table.
+#![tactic(auto)]
+
 pub mod convert;
 pub mod literals;

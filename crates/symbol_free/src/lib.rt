@@ -1,5 +1,7 @@
 //! Whether a screen has symbols (02, 2.10), by its bytes alone. One that has none is checked, tested and merged as ever,
 //! whatever text pool is lent.
+#![tactic(auto)]
+
 ghost use Rattle.std.specs.Prelude.{◌≡◌, false, not, ℕ, ◌+◌, ◌*◌, ◌≤◌, eqb, length, get_or};
 ghost use Rattle.records.specs.Bytes.{all};
 ghost use Rattle.symbol_screens.proofs.NumbersChecked.{NoText};

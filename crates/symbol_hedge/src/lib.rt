@@ -1,5 +1,7 @@
 //! The hedge list of a chain under a screen that may have symbols (02, 2.10 and 2.14): one without symbols as ever (crate
 //! `hedge`), one with symbols by crate `symbol_chain`. Refusals in the same order.
+#![tactic(auto)]
+
 ghost use Rattle.std.specs.Prelude.{◌≡◌, ◌*◌, ◌≤◌, min, length};
 ghost use Rattle.checking.specs.Checked.{CheckedIn};
 ghost use Rattle.checking.specs.Tree.{tree_count};

@@ -1,5 +1,7 @@
 // The merging of a screen with symbols (02, 2.10): that of its screen of ranks, with the literals that its limits stand for.
 // The ranks stand in the records lent while they are merged, so that one function merges both kinds of screens.
+#![tactic(auto)]
+
 ghost use Rattle.std.specs.Prelude.{◌≡◌, List, map, ℕ, ◌*◌, ◌<◌, ◌≤◌, min, length, get_or};
 ghost use Rattle.checking.specs.Check.{check_answer_in};
 ghost use Rattle.checking.specs.Tree.{tree_count};

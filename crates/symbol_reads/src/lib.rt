@@ -1,4 +1,6 @@
 //! The columns that a screen reads beside a text pool (02, 2.10).
+#![tactic(auto)]
+
 ghost use Rattle.std.specs.Prelude.{◌≡◌};
 ghost use Rattle.symbol_screens.specs.Rewriting.{lent};
 ghost use Rattle.symbol_rows.specs.ColumnsWith.{columns_answer_in};

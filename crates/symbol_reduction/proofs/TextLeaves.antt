@@ -26,7 +26,7 @@ use Rattle.three_valued.specs.Logic.{and3, of_bool}
 use Rattle.three_valued.specs.declared.logic.Truth.{Truth}
 use Rattle.truth.specs.Order.{is_equal}
 use Rattle.truth.specs.Halves.{ord_z}
-use Rattle.truth.specs.Comparison.{Comparison}
+use Rattle.truth.specs.Comparison.{Comparison, Eq, NotEq, Lt, LtEq, Gt, GtEq}
 use Rattle.truth.specs.AExpr.{AExpr, map_aexpr}
 use Rattle.truth.specs.Membership.{mem, in3, null_in3, known_in3}
 use Rattle.truth.specs.Cell.{Cell, is_null, low_comparison, high_comparison, compare3, same_value, truth_cell, step, cell_at}
@@ -151,18 +151,18 @@ module _ (text : List ℕ) where
                                       (
                                         (
                                           (
-                                            ((tt, λ e. by_order 0 _), λ e i. truthful (of_bool (same-any (C a).value (C b).value i))),
-                                            λ e. by_order 2 _,
+                                            ((tt, λ e. by_order 0 Eq), λ e i. truthful (of_bool (same-any (C a).value (C b).value i))),
+                                            λ e. by_order 2 NotEq,
                                           ),
                                           λ e i. truthful (of_bool (not (same-any (C a).value (C b).value i))),
                                         ),
-                                        λ e. by_order 4 _,
+                                        λ e. by_order 4 Lt,
                                       ),
-                                      λ e. by_order 5 _,
+                                      λ e. by_order 5 LtEq,
                                     ),
-                                    λ e. by_order 6 _,
+                                    λ e. by_order 6 Gt,
                                   ),
-                                  λ e. by_order 7 _,
+                                  λ e. by_order 7 GtEq,
                                 ),
                                 λ e. no e,
                               ),

@@ -1,5 +1,7 @@
 //! The checks of a row, numbers 12 and 13, of a screen that may have symbols (02, 2.10): as in crate `row_test`, and a Text
 //! value lies in the text pool.
+#![tactic(auto)]
+
 ghost use Rattle.std.specs.Prelude.{◌≡◌, ◌*◌, ◌≤◌, length};
 ghost use Rattle.row_test.specs.RowTest.{marks_ok};
 ghost use Rattle.symbol_rows.specs.RowTestWith.{column_ok_with, columns_ok_with, row_fault_with};

@@ -1,5 +1,7 @@
 //! Testing a row of a screen that may have symbols (02, 2.10). A screen without symbols is tested as ever (crate `row_test`), one
 //! with symbols by the row's reduction (crate `symbol_reduction`).
+#![tactic(auto)]
+
 ghost use Rattle.std.specs.Prelude.{◌≡◌, true, ◌*◌, ◌≤◌, min, length};
 ghost use Rattle.checking.specs.Checked.{CheckedIn};
 ghost use Rattle.checking.specs.Tree.{tree_count};

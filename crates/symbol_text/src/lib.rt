@@ -1,5 +1,7 @@
 // A symbol as text: the letter t and two lower-case hexadecimal digits a byte (02, 2.10). Bytes past the pool count as 0, as in
 // the definition, so nothing is asked of a value.
+#![tactic(auto)]
+
 ghost use Rattle.std.specs.Prelude.{◌≡◌, List, [], ◌∷◌, ◌++◌, ℕ, ◌+◌, ◌*◌, ◌<◌, ◌≤◌, ◌/◌, ◌%◌, length, get_or};
 ghost use Rattle.merge.specs.Write.{splice};
 ghost use Rattle.symbols.specs.Symbol.{bytes_from, symbol};

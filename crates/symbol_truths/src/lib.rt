@@ -1,4 +1,6 @@
 //! What one row makes of a record with Text inputs (02, 2.10). Its inputs are leaves, so nothing else is evaluated.
+#![tactic(auto)]
+
 ghost use Rattle.std.specs.Prelude.{◌≡◌, ◌+◌, ◌*◌, ◌<◌, length};
 ghost use Rattle.records.specs.Record.{fields_at};
 ghost use Rattle.truth.specs.Evaluate.{ColumnThere};

@@ -1,5 +1,7 @@
 //! Symbols under one row: what a row gives a Text column, a literal or a null, two of them compared, and one looked for in a
 //! list. Comparisons are those of numbers (crate `truth`): of two symbols the one is 1 and the other beside it.
+#![tactic(auto)]
+
 ghost use Rattle.std.specs.Prelude.{◌≡◌, true, ◌+◌, ◌*◌, ◌≤◌, length};
 ghost use Rattle.records.specs.Shape.{in_pool};
 ghost use Rattle.truth.specs.Halves.{ord_z};

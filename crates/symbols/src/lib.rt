@@ -1,4 +1,6 @@
 // Symbols of the lent text pool (02, 2.10): a value packs start and length, and two values are compared by their bytes.
+#![tactic(auto)]
+
 ghost use Rattle.std.specs.Prelude.{◌≡◌, true, length};
 ghost use Prim.Native.Nat.{◌+◌, ◌≤◌, compare, min};
 ghost use Rattle.truth.specs.Halves.{ordering};

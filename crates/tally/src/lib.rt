@@ -1,12 +1,14 @@
 // The desk's running tally: how many rows passed, were false, were unknown (02, 2.14). The desk lends it, and it is added
 // to where it is kept: `add` is thin over `added`, which takes a tally by value and returns one. The two views take it by value.
+#![tactic(auto)]
+
 ghost use Rattle.std.specs.Prelude.{◌≡◌};
 ghost use Rattle.tally.specs.Sums.{fits, sums_fit, added};
 ghost use Rattle.tally.specs.Views.{TraderView, RiskView};
 
 /// `struct screen_tally` of include/screen.h.
 #[repr(C)]
-#[derive(Drop)]
+#[derive(Clone, Copy)]
 pub struct Tally {
     pub passed: u64,
     pub is_false: u64,

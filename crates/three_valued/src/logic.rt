@@ -3,7 +3,7 @@
 ghost use Rattle.std.specs.Prelude.{◌≡◌, ◌<◌};
 ghost use Rattle.three_valued.specs.Logic.{truth_code, truth_of, and3, or3, xor3, not3, of_bool};
 
-#[derive(Drop)]
+#[derive(Clone, Copy)]
 pub enum Truth {
     False,
     Unknown,

@@ -1,16 +1,16 @@
 -- The equation of the row test: a record's cell is its step over the cells below it.
 use mathlib.Core.Path.{◌≡◌, refl, sym, ◌∙◌, ap, subst}
-use mathlib.Core.Bool.{Bool, true, false, ◌&&◌}
+use mathlib.Core.Bool.{◌&&◌}
 use mathlib.Core.Option.{Option}
 use Prim.Native.Nat.{ℕ, ◌<◌}
-use Rattle.records.proofs.Courses.{course-law, course-agree}
+use Rattle.records.proofs.Courses.{course-law}
 use Rattle.three_valued.specs.declared.logic.Truth.{Truth}
 use Rattle.three_valued.specs.declared.logic.Truth.TheVariants.{False, Unknown, True}
 use Rattle.truth.specs.Order.{Order}
 use Rattle.three_valued.specs.Logic.{and3, is_true}
 use Rattle.truth.specs.AExpr.{AExpr, Column, Literal, Null, BinaryExpr, Not, IsNull, IsNotNull, IsBetween}
-use Rattle.truth.specs.AExpr.{ListLiteral, IsIn, Missing, Inputs, WF}
-use Rattle.truth.specs.AExpr.{BinaryOp, And, LogicalAnd}
+use Rattle.truth.specs.AExpr.{ListLiteral, IsIn, Missing, Inputs}
+use Rattle.truth.specs.AExpr.{And, LogicalAnd}
 use Rattle.truth.specs.Cell.{TruthKeys, Cell, no_cell, step, cell_at, truth_at}
 
 -- A chain of And is true exactly if both sides are.

@@ -2,22 +2,19 @@
 -- Assumes nothing.
 use mathlib.Core.Path.{◌≡◌, refl, sym, ◌∙◌, ap}
 use mathlib.Core.Bool.{Bool, true, false, cond, not, ◌||◌, true≢false}
-use mathlib.Core.Option.{Option, none, some}
+use mathlib.Core.Option.{none, some}
 use Prim.Native.Nat.{ℕ, zero, suc, ◌+◌, ◌*◌, ◌-◌, ◌/◌, ◌%◌, ◌<◌}
 use native.Mathlib.Nat.{mod-lt, div-add-mod', mul-add}
 use native.Mathlib.Omega.{arith}
 use lib.Arith.{digits_div, digits_mod}
 use lib.Dec.{eqb}
 use lib.IntN.{ℤ, pos, negsuc, neg_ℤ}
-use mir.Syntax.{w64}
-use mir.Val.{to_z}
 use borrow.Author.Tests.{ne_eqb}
 use Rattle.division.specs.declared.divide.Division.{Division}
 use Rattle.division.specs.declared.divide.Division.TheVariants.{Null, Exact}
 use Rattle.division.specs.Division.{Divides, quotient_by, remainder_by, quotient, remainder, is_zero, fits, is_none}
 use Rattle.division.proofs.Bits.{none-computed, exact-computed}
-use Rattle.truth.specs.Halves.{twice, key, ord_z, floor_divide_keys, modulus_keys}
-use Rattle.truth.specs.FromBytes.{truth_keys}
+use Rattle.truth.specs.Halves.{twice, key, floor_divide_keys, modulus_keys}
 use Rattle.truth.specs.Evaluate.{part_of, divided_of}
 
 -- ---- natural numbers: n + n and n + n + 1, divided by b + b

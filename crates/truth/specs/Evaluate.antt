@@ -1,13 +1,11 @@
 -- What the evaluators' code works with: its values as keys, the rule of each operator by its code, and what checking
 -- has shown of the bytes that it reads. The meaning of a record is in Cell.
-use Rattle.std.specs.Prelude.{◌≡◌, Bool, true, false, cond, not, ◌||◌, List, ◌⊎◌, ℕ, ◌+◌, ◌*◌, ◌≤◌, ◌<◌, leb, eqb, ℤ, length}
+use Rattle.std.specs.Prelude.{◌≡◌, Bool, cond, not, ◌||◌, List, ◌⊎◌, ℕ, ◌+◌, ◌*◌, ◌≤◌, ◌<◌, leb, eqb, ℤ, length}
 use Rattle.std.proofs.Math.Option.{Option, none, some}
 use Rattle.records.specs.Record.{fields_at, node}
-use Rattle.records.specs.declared.record.Node.{Node}
 use Rattle.records.specs.declared.record.Fields.{Fields}
 use Rattle.division.specs.declared.divide.Division.{Division}
 use Rattle.division.specs.declared.divide.Division.TheVariants as quotient
-use Rattle.truth.specs.declared.scalar.Scalar.{Scalar}
 use Rattle.three_valued.specs.declared.logic.Truth.{Truth}
 use Rattle.truth.specs.declared.value.Value.{Value}
 use Rattle.truth.specs.declared.value.Value.TheVariants as value

@@ -13,10 +13,10 @@ use Rattle.records.specs.declared.record.Record.{Record}
 use Rattle.records.specs.declared.record.Record.TheVariants as kind
 use Rattle.three_valued.specs.declared.logic.Truth.{Truth}
 use Rattle.truth.specs.Halves.{ord_z, key, floor_divide_keys, modulus_keys}
-use Rattle.truth.specs.Comparison.{Comparison, Eq, NotEq, Lt, LtEq, Gt, GtEq}
+use Rattle.truth.specs.Comparison.{Eq, NotEq, Lt, LtEq, Gt, GtEq}
 use Rattle.truth.specs.AExpr.{AExpr, Column, Literal, Null, BinaryExpr, Not, IsNull, IsNotNull, IsBetween}
 use Rattle.truth.specs.AExpr.{ListLiteral, IsIn, Missing}
-use Rattle.truth.specs.AExpr.{BinaryOp, Compare, EqValidity, NotEqValidity, FloorDivide, Modulus, And, Or, Xor}
+use Rattle.truth.specs.AExpr.{Compare, EqValidity, NotEqValidity, FloorDivide, Modulus, And, Or, Xor}
 use Rattle.truth.specs.AExpr.{LogicalAnd, LogicalOr}
 use Rattle.truth.specs.Cell.{TruthKeys, cell_at, truth_at}
 

@@ -5,10 +5,10 @@ ghost use Rattle.truth.specs.Order.{Order};
 ghost use Rattle.truth.specs.Halves.{ord_z, key, bias_of};
 
 /// The raw bits of a value.
-#[derive(Drop)]
+#[derive(Clone, Copy)]
 pub struct Scalar(pub u64);
 
-#[derive(Drop)]
+#[derive(Clone, Copy)]
 pub enum Ordering {
     Less,
     Equal,

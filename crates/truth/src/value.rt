@@ -12,7 +12,7 @@ use crate::scalar::{Ordering, Scalar, scalar_cmp};
 use division::divide::{Division, divide};
 use three_valued::logic::{Truth, and_of, or_of, truth_of_bool, xor_of};
 
-#[derive(Drop)]
+#[derive(Clone, Copy)]
 pub enum Value {
     Null,
     Known(Scalar),

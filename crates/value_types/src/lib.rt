@@ -1,5 +1,7 @@
 // Number 4: the types and their values. What the other fields must satisfy is told kind by kind (checking, step). `text` is
 // one more than the bytes of the text pool that is lent, 0 where none is.
+#![tactic(auto)]
+
 ghost use Rattle.std.specs.Prelude.{◌≡◌};
 ghost use Rattle.records.specs.Shape.{known_type_in, in_pool, in_type_in};
 

@@ -1,5 +1,7 @@
 // The answer of the line in the way (02, 2.9): the checks in their order, 8, 9 and 17 among them, then the lines, each left out in
 // turn.
+#![tactic(auto)]
+
 ghost use Rattle.std.specs.Prelude.{◌≡◌, true, ℕ, ◌≤◌, ◌<◌, min, length, get_or};
 ghost use Rattle.checking.specs.Check.{check_answer};
 ghost use Rattle.checking.specs.Tree.{tree_count};

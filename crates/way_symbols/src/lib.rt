@@ -1,6 +1,8 @@
 // The one line in the way (02, 2.9) of a screen beside which a text pool is lent (02, 2.10): what the screen's numbers answer.
 // The call stands here and not in crate `screen`, so that it is an object of its own: in one object with rewriting the functions of
 // the merging would have a second caller, and the compiler would no longer inline them there.
+#![tactic(auto)]
+
 ghost use Rattle.std.specs.Prelude.{◌≡◌, true, ◌*◌, ◌≤◌, length};
 ghost use Rattle.in_the_way.specs.Calls.{way_number, line_out, way_listed};
 ghost use Rattle.way_symbols.specs.Answer.{way_answer_with};

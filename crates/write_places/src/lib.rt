@@ -1,4 +1,6 @@
 // The places of the resolved columns, written into the lent row.
+#![tactic(auto)]
+
 ghost use Rattle.std.specs.Prelude.{◌≡◌, cond, not, ◌||◌, ◌+◌, ◌*◌, ◌%◌, ◌/◌, ◌^◌, ◌≤◌, ◌<◌, length};
 ghost use Rattle.constraints.specs.Column.{is_null_required};
 ghost use Rattle.column_constraints.specs.Abstraction.{conjuncts, numbered, column_of};

@@ -1,0 +1,7 @@
+use Rattle.column_constraints.proofs.bound.crosses_at.Goals as goal
+
+pub returns-in-Open : goal.returns-in-Open
+returns-in-Open c = rw (c.in-Open.is, c.crosses_by.ensures, c.compare-o.ensures)
+
+pub returns-in-Closed : goal.returns-in-Closed
+returns-in-Closed c = rw (c.in-Closed.is, c.crosses_by-in-Closed.ensures, c.compare-o-in-Closed.ensures)

@@ -1,0 +1,6 @@
+use mathlib.Core.Path.{refl}
+use Rattle.masks.proofs.Tables.{and_tells}
+use Rattle.masks.proofs.and_masks.Goals as goal
+
+pub returns : goal.returns
+returns c = λ rows f g hx hy. and_tells rows _ _ f g hx hy _ _ c.inverted.ensures refl refl

@@ -1,0 +1,16 @@
+use mathlib.Core.Path.{refl}
+use lib.ListN.{length-set}
+use borrow.Author.Rules.{rules}
+use Rattle.pool_guesses.proofs.guessing.take_known.Goals as goal
+
+pub loop-i-init : goal.loop-i-init
+loop-i-init c = (search rules, search rules, refl, refl, refl)
+
+pub loop-i-preserved : goal.loop-i-preserved
+loop-i-preserved c = (
+  search rules,
+  search rules,
+  simp length-set c.loop-i.invariant.2,
+  simp length-set c.loop-i.invariant.3,
+  simp length-set c.loop-i.invariant.4,
+)

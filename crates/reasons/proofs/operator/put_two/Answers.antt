@@ -1,0 +1,11 @@
+use native.Mathlib.Omega.{arith}
+use mathlib.Core.Path.{refl}
+use lib.ListN.{length-set}
+use Rattle.reasons.proofs.Writing.{set2}
+use Rattle.reasons.proofs.operator.put_two.Goals as goal
+
+pub bounds-s-at-2 : goal.bounds-s-at-2
+bounds-s-at-2 c = simp length-set (omega arith)
+
+pub returns : goal.returns
+returns c = record { value = refl; s_after = set2 _ _ _ _ c.requires }

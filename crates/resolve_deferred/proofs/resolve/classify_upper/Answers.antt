@@ -1,0 +1,12 @@
+use Rattle.resolve_deferred.proofs.resolve.classify_upper.Goals as goal
+
+pub returns-in-Open : goal.returns-in-Open
+returns-in-Open c = rw (c.in-Open.is, c.classify_upper_by.ensures, c.compare-o.ensures)
+
+pub returns-in-Closed : goal.returns-in-Closed
+returns-in-Closed c =
+    rw (
+      c.in-Closed.is,
+      c.classify_upper_by-in-Closed.ensures,
+      c.compare-o-in-Closed.ensures,
+    )

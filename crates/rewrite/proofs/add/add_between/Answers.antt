@@ -1,0 +1,14 @@
+use Rattle.constraints.specs.Lined.{lined}
+use Rattle.column_constraints.specs.Abstraction.{limit_of}
+use Rattle.constraints.specs.Column as q
+use mathlib.Core.Path.{◌∙◌, ap}
+use Rattle.rewrite.proofs.add.add_between.Goals as goal
+
+pub returns : goal.returns
+returns c =
+    record {
+      result_value = (λ t a. rw (← c.closes_high.ensures, ← c.closes_low.ensures) (c.with_upper.ensures.result_value t a ∙ ap (λ x. q.add_upper
+          lined (limit_of c.args.w) c.closes_high.result x) (c.with_lower-d.ensures.result_value t a)));
+      len_value = c.with_upper.ensures.len_value ∙
+          c.with_lower-d.ensures.len_value;
+    }
