@@ -343,6 +343,9 @@ def turned_path(fields, names, chain, path):
             k += 1
         if k < len(params) and more[k : k + 1] == ["0"]:
             return [new, head2, params[k]] + more[k + 1 :]
+        if k and k == len(params) - 1 == len(more):
+            # the last of them has no `.0`
+            return [new, head2, params[k]]
     if head2 == "given" and not callee:
         # what a call left of a variable that it was lent, where the callee's parameter has that variable's name
         at = list(chain.steps)
@@ -402,6 +405,10 @@ def turn_paths(text, names, path, place=None):
             # several clauses at once are written out too, since they are no tuple now
             # so is what a pattern bound, since each name of it is a field now
             bound = len(old) == 2 and old[1] == "given" and any(it[0][:2] == [alike(old[0]), "given"] for it in chain.arms)
+            # and what a call gave back, whose parts go by the parameters' names now
+            if len(old) == 2 and old[1] in ("kept", "auto", "last") and clauses is None:
+                uses = re.findall(r"(?<![\w.\-'])" + re.escape(m[1]) + r"(?![\w\-'])(\.[01]\b)?", text[m.end() :])
+                bound = bound or bool(uses) and all(uses)
             if (len(old) < 2 and clauses is None) or bound or (clauses is not None and all(it == "1" for it in clauses)):
                 roots[m[1]] = old
                 # the whole line goes where the let stood alone on it
@@ -411,11 +418,22 @@ def turn_paths(text, names, path, place=None):
         at = m.end()
     out, at = [], 0
     pattern = re.compile(r"--[^\n]*|\"(?:[^\"\\]|\\.)*\"|(?<![\w.\-'])(" + W + r")((?:\." + W + r")*)")
+    hidden = {}
     for m in pattern.finditer(text):
         if m[1] is None or m[1] not in roots:
             continue
+        if m.start() < hidden.get(m[1], 0):
+            continue
         before = text[max(0, m.start() - 8) : m.start()]
-        if re.search(r"(let |λ )\Z", before) and not m[2]:
+        if before.endswith("λ ") and not m[2]:
+            # a λ's own variable, as far as the bracket around it
+            depth, end = 0, m.end()
+            while end < len(text) and depth >= 0:
+                depth += (text[end] in "([{") - (text[end] in ")]}")
+                end += 1
+            hidden[m[1]] = end
+            continue
+        if re.search(r"let \Z", before) and not m[2]:
             left(path, f"`{m[1]}` is bound again")
             continue
         old = roots[m[1]] + [it for it in m[2].split(".") if it]

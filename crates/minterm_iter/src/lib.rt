@@ -12,7 +12,7 @@ ghost use Rattle.next_minterm.specs.Iter.{stack_in, Walkable, Next};
 use next_minterm::{Item, Stack, next_minterm, rooted, take};
 use records::record::Node;
 
-#[derive(Drop)]
+#[derive(Clone, Copy)]
 pub struct MintermIter<'a> {
     pub records: &'a [u8],
     pub stack: Stack,

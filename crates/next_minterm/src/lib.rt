@@ -69,7 +69,7 @@ pub fn next_minterm(rs: &[u8], stack: &mut [u32; 128], depth: usize) -> Minterm
 }
 
 /// The nodes still to visit, the next one last.
-#[derive(Drop)]
+#[derive(Clone, Copy)]
 pub struct Stack {
     pub nodes: [u32; 128],
     pub len: usize,

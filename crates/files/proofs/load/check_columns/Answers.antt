@@ -9,8 +9,8 @@ use Rattle.files.proofs.load.check_columns.Goals as goal
 
 pub gather-requires : goal.gather-requires
 gather-requires c =
-    let c = columns-held c.args.f.now c.requires.f_value in
-    record { f_value = ok_blocks c.args.f.now c.requires.f_value; f_in_bounds = omega (arith, c) }
+    let k = columns-held c.args.f.now c.requires.f_value in
+    record { f_value = ok_blocks c.args.f.now c.requires.f_value; f_in_bounds = omega (arith, k) }
 
 pub slice_bounds-check_table-end-2 : goal.slice_bounds-check_table-end-2
 slice_bounds-check_table-end-2 c =

@@ -9,18 +9,18 @@ use Rattle.files.proofs.load.check_copies.Goals as goal
 
 pub gather-requires : goal.gather-requires
 gather-requires c =
-    let c = columns-held c.args.f.now c.requires.f_value in
-    record { f_value = ok_blocks c.args.f.now c.requires.f_value; f_in_bounds = omega (arith, c) }
+    let k = columns-held c.args.f.now c.requires.f_value in
+    record { f_value = ok_blocks c.args.f.now c.requires.f_value; f_in_bounds = omega (arith, k) }
 
 pub gather-requires-2 : goal.gather-requires-2
 gather-requires-2 c =
-    let c = records-held c.args.f.now c.requires.f_value in
-    record { f_value = ok_blocks c.args.f.now c.requires.f_value; f_in_bounds = omega (arith, c) }
+    let k = records-held c.args.f.now c.requires.f_value in
+    record { f_value = ok_blocks c.args.f.now c.requires.f_value; f_in_bounds = omega (arith, k) }
 
 pub gather-requires-3 : goal.gather-requires-3
 gather-requires-3 c =
-    let c = values-held c.args.f.now c.requires.f_value in
-    record { f_value = ok_blocks c.args.f.now c.requires.f_value; f_in_bounds = omega (arith, c) }
+    let k = values-held c.args.f.now c.requires.f_value in
+    record { f_value = ok_blocks c.args.f.now c.requires.f_value; f_in_bounds = omega (arith, k) }
 
 pub slice_bounds-check_lent-end-2 : goal.slice_bounds-check_lent-end-2
 slice_bounds-check_lent-end-2 c =

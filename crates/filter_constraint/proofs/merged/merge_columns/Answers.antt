@@ -102,7 +102,7 @@ keep_equalities-k-requires c =
         ),
         omega (
           arith,
-          c.collect-s.auto.1.1.1.1.1.1.1.1.1.1.1,
+          c.collect-s.auto.equals,
           c.requires.room.4,
           c.collect-s.ensures.columns_bound.0,
           c.collect-s.ensures.columns_bound.1,

@@ -1,0 +1,32 @@
+use Rattle.membership.proofs.Lists.{list-more, list-found, list_done, list-start}
+use borrow.Author.Rules.{rules}
+use Rattle.check_row.proofs.says.place_listed.Goals as goal
+
+pub loop-i-init : goal.loop-i-init
+loop-i-init c = (search rules, search rules, list-start _ _ _ _)
+
+pub returns-then-is_equal : goal.returns-then-is_equal
+returns-then-is_equal c =
+    list-found _ _ _ _ _ c.loop-i.invariant.2
+    c.loop-i-test.true
+    (rw (
+      ← c.value_at.ensures,
+      ← c.place_cmp.ensures,
+      ← c.is_equal.ensures,
+    ) c.if-is_equal.true)
+
+pub loop-i-preserved : goal.loop-i-preserved
+loop-i-preserved c = (
+  search rules,
+  search rules,
+  list-more _ _ _ _ _ c.loop-i.invariant.2
+      c.loop-i-test.true
+      (rw (
+        ← c.value_at.ensures,
+        ← c.place_cmp.ensures,
+        ← c.is_equal.ensures,
+      ) c.if-is_equal.false),
+)
+
+pub returns : goal.returns
+returns c = list_done _ _ _ _ _ c.loop-i.invariant.2 c.loop-i-test.false
