@@ -1,0 +1,31 @@
+use mathlib.Core.Path.{refl, ◌∙◌}
+use Prim.Native.Nat.{◌<◌}
+use native.Mathlib.Omega.{arith}
+use lib.ListN.{length, length-set}
+use Rattle.contradiction.proofs.Steps.{number_more}
+use Rattle.contradiction.proofs.labels.number_columns.Goals as goal
+
+pub loop-c-init : goal.loop-c-init
+loop-c-init c = (omega arith, (λ k l. absurd (omega (arith, l))), refl)
+
+pub overflow_cast-labels : goal.overflow_cast-labels
+overflow_cast-labels c = omega (arith, c.loop-c-test.true)
+
+pub bounds-labels-c : goal.bounds-labels-c
+bounds-labels-c c = omega (arith, c.loop-c.invariant.2, c.requires, c.loop-c-test.true)
+
+pub loop-c-preserved : goal.loop-c-preserved
+loop-c-preserved c =
+    let q : c.loop-c.c < length c.loop-c.labels = omega (arith, c.loop-c.invariant.2, c.requires, c.loop-c-test.true) in (
+      omega (arith, c.loop-c-test.true),
+      number_more c.loop-c.labels c.loop-c.c q c.loop-c.invariant.1,
+      length-set c.loop-c.labels c.loop-c.c
+          c.loop-c.c ∙ c.loop-c.invariant.2,
+    )
+
+pub shape_of-labels : goal.shape_of-labels
+shape_of-labels c = c.loop-c.invariant.2
+
+pub returns : goal.returns
+returns c =
+    record { by_index = (λ h k. c.loop-c.invariant.1 h (omega (arith, k, c.loop-c.invariant.0, c.loop-c-test.false))); labels_len_unchanged = c.loop-c.invariant.2 }

@@ -1,0 +1,43 @@
+use mathlib.Core.Path.{sym, ◌∙◌, refl}
+use Prim.Native.Nat.{◌≤◌, ◌<◌}
+use native.Mathlib.Omega.{arith}
+use Rattle.checking.proofs.Accepted.{checked, checked-used, accepted-root}
+use Rattle.show_row.proofs.Answers.{show-refused}
+use Rattle.show_row.proofs.show_within.Goals as goal
+
+pub overflow_cast-used : goal.overflow_cast-used
+overflow_cast-used c =
+    let h : c.args.used ≤ 4096 = checked-used c.args.t.now c.args.rs.now c.args.p.now c.args.used c.args.root (checked c.args.t.now c.args.rs.now c.args.p.now c.args.used c.args.root (sym c.check_counted-answer.ensures.value ∙ c.in-Accepted.is)) in
+    omega (arith, h)
+
+pub overflow_cast-root : goal.overflow_cast-root
+overflow_cast-root c =
+    let h : c.args.root < 4096 = accepted-root c.args.t.now c.args.rs.now c.args.p.now c.args.used c.args.root (sym c.check_counted-answer.ensures.value ∙ c.in-Accepted.is) in
+    omega (arith, h)
+
+pub show_checked-requires : goal.show_checked-requires
+show_checked-requires c =
+    let accepted = sym c.check_counted-answer.ensures.value ∙ c.in-Accepted.is in
+    let ok = checked c.args.t.now c.args.rs.now c.args.p.now c.args.used c.args.root
+    accepted in
+    let h : c.args.root < c.args.used = ok.root-used in
+    let small : c.args.used ≤ 4096 = checked-used c.args.t.now c.args.rs.now c.args.p.now
+    c.args.used c.args.root ok in
+    record {
+      root_value = accepted;
+      counted = λ a k. c.check_counted-answer.ensures.counted c.in-Accepted.is a (omega (arith, k, h));
+      root_in_bounds = omega (
+        arith,
+        h,
+        c.requires.used_in_bounds_2 small,
+      );
+    }
+
+pub returns-in-Refused : goal.returns-in-Refused
+returns-in-Refused c =
+    record {
+      value = show-refused c.args.t.now c.args.rs.now c.args.p.now c.args.used c.args.root _
+          _ (sym c.check_counted-answer.ensures.value ∙ c.in-Refused.is);
+      row_after = refl;
+      low_shown = tt;
+    }
