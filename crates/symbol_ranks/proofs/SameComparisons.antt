@@ -59,3 +59,8 @@ ranks_carry_all ranks n =
       opened-key = λ held excluded. refl;
       opens = λ held excluded. refl;
     }
+
+-- What opens a bound, said for the crates above, which are not handed the body.
+pub ranks_opened : (ranks : List ℕ) (n : ℕ) (held excluded : Bool × ℕ) → (ranks_carry_all ranks n).opened held excluded ≡ excluded
+unfolding payload
+ranks_opened ranks n held excluded = refl

@@ -22,7 +22,7 @@ use Rattle.merge.proofs.ReadMapped.{read_mapped}
 use Rattle.merge.proofs.SameWithin.{ConjunctHas, ConjunctsHave, translated_within}
 use Rattle.merge.proofs.Translated.{Translated}
 use Rattle.symbol_ranks.specs.Ranks.{Ranked, Pooled}
-use Rattle.symbol_ranks.proofs.SameComparisons.{standing_or_not, ranks_carry_all, places-compare}
+use Rattle.symbol_ranks.proofs.SameComparisons.{standing_or_not, ranks_carry_all, ranks_opened, places-compare}
 use Rattle.symbol_screens.specs.Held.{Held, Symbol, Number, bits_of, holding}
 use Rattle.symbol_screens.specs.Reading.{held_at}
 use Rattle.symbol_screens.specs.Rewriting.{lent, outcome_with, rewrite_passes_with}
@@ -74,13 +74,21 @@ module _ (text values ranks : List ℕ) (n : ℕ) where
         opens = λ bound excluded. refl;
       }
 
+  symbols_opened : (bound excluded : Placed) → (along symbols-carry).opened bound excluded ≡ excluded
+  unfolding symbols-carry
+  symbols_opened bound excluded = refl
+
+  both_opened : (bound excluded : Placed) →
+      (along symbols-carry).opened bound excluded ≡ (along (ranks_carry_all ranks n)).opened bound excluded
+  both_opened bound excluded = symbols_opened bound excluded ∙ sym (ranks_opened ranks n bound excluded)
+
   pub alike : ((q : ℕ) → get_or text q 0 < 256) → Pooled text values n → n ≤ 9223372036854775808 → Ranked text values n ranks →
       SameWithin (λ (v : Placed). is_symbol (held_by values n v)) (along symbols-carry) (along (ranks_carry_all ranks n))
   unfolding holding payload
   alike bytes pooled small ranked =
       record {
         compares = λ a b e. go a.0 b.0 a.1 b.1 e;
-        opens = λ bound excluded. refl;
+        opens = both_opened;
         opened-kind = λ bound excluded. refl;
       }
     where
