@@ -1,3 +1,4 @@
+use borrow.Author.Rules.{rules}
 use native.Mathlib.Omega.{arith}
 use Rattle.screen.proofs.Called.{call_ensures}
 use Rattle.screen.proofs.screen_rewrite.Goals as goal
@@ -15,4 +16,4 @@ returns c =
       c.put_answer.ensures.length,
       c.put_answer.ensures.passes,
     ) (call_ensures c.args.text.now c.args.table.now c.args.records.now c.args.pool.now c.args.used c.args.root c.args.reasons.now
-    c.rewrite_screen-rewriting.result _ _ c.args.new_root.now c.args.new_used.now c.args.reasons_used.now c.args.passes.now (c.rewrite_screen-rewriting.ensures.explains (λ i. omega (arith, c.type_inv.text i))) (λ i. let h = c.well_formed in ?)))
+    c.rewrite_screen-rewriting.result _ _ c.args.new_root.now c.args.new_used.now c.args.reasons_used.now c.args.passes.now (c.rewrite_screen-rewriting.ensures.explains (λ i. omega (arith, c.type_inv.text i))) (λ i. search rules)))
