@@ -58,12 +58,15 @@ module _ (t rs : List ℕ) (used : ℕ) (free : NoText t rs used) where
       record { columns = refl; types = λ c. sym (column-stays c); room = room; bytes = λ i h. sym (byte_stays i h) }
 
   module _ (text p : List ℕ) (root : ℕ) where
+    same-check : length text ≤ 8192 → check_answer_in (lent text) t rs p used root ≡ check_answer t rs p used root
+    same-check h = check-same (lent text) t rs p used (le-leb (suc (length text)) 8193 (omega (arith, h))) free root
+
     pub check-as_ever : length text ≤ 8192 → check_answer_in (lent text) t rs p used root ≡ check_answer t rs p used root
-    check-as_ever h = check-same (lent text) t rs p used (le-leb (suc (length text)) 8193 (omega (arith, h))) free root
+    check-as_ever h = same-check h
 
     pub refusal_as_ever : length text ≤ 8192 → plain_refusal_with text t rs p used root ≡ plain_refusal t rs p used root
     unfolding plain_refusal_with plain_refusal
-    refusal_as_ever h = ap (λ a. refusal_if a (checked_refusal t rs p used root)) (check-as_ever h)
+    refusal_as_ever h = ap (λ a. refusal_if a (checked_refusal t rs p used root)) (same-check h)
 
     -- The screen is plain and its own numbers, or it is refused.
     pub own_or_refused : (A : Type 0)

@@ -156,9 +156,9 @@ module _ (text t rs p : List ℕ) (used root : ℕ) (ok : CheckedIn (lent text) 
   ranked-classify n h = classify-same ranked (aexpr_of src pool) used of.reads n h ranked-falls
 
   -- Its columns lie in the table, which has at most 64.
-  pub ranked-columns : (n : ℕ) → n < used → ColumnsBelow 64 (classify (aexpr_of src pool) n)
+  read-columns : (n : ℕ) → n < used → ColumnsBelow 64 (classify (aexpr_of src pool) n)
   unfolding placed_at table_ok_in
-  ranked-columns n h =
+  read-columns n h =
       subst (ColumnsBelow 64) (sym (ranked-classify n h))
       (classify-ind OperandBelow (ColumnsBelow 64) column-forms ranked (λ x. go x (ltb x used) refl) n)
     where
@@ -171,6 +171,9 @@ module _ (text t rs p : List ℕ) (used root : ℕ) (ok : CheckedIn (lent text) 
           placed-operand (standing_or_not ranks (place_count p used)) (lent text) t few used p x (record_at rs (node x))
           (reach x (ltb-true x used e))
       go x false e = tt
+
+  pub ranked-columns : (n : ℕ) → n < used → ColumnsBelow 64 (classify (aexpr_of src pool) n)
+  ranked-columns n h = read-columns n h
 
   -- The conjuncts of the screen of ranks are those read of its bytes, at the nodes that the walk over the records sent finds.
   pub ranked-conjuncts : read_conjuncts ranked root ≡ map (classify (aexpr_of src pool)) (minterms (walked rs) root)
@@ -186,4 +189,4 @@ module _ (text t rs p : List ℕ) (used root : ℕ) (ok : CheckedIn (lent text) 
   pub node-columns : (nodes : List ℕ) (n : ℕ) → first_of nodes n ≡ minterms (walked rs) root → (i : ℕ) → i < n
       → ColumnsBelow 64 (classify (aexpr_of src pool) (get_or nodes i 0))
   node-columns nodes n are i h =
-      ranked-columns (get_or nodes i 0) (nodes_below (lent text) t rs p used root ok nodes n are i h)
+      read-columns (get_or nodes i 0) (nodes_below (lent text) t rs p used root ok nodes n are i h)
