@@ -100,6 +100,7 @@ pub fn judge_blocks(
 }
 
 // Without an order of the pool.
+#[inline(never)]
 fn judge_plain(
     records: &[u8],
     pool: &[u8],
