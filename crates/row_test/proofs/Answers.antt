@@ -69,6 +69,12 @@ module _ (t rs p row : List ℕ) (nulls used root : ℕ) (ok : Checked t rs p us
           rw (le-ltb 4096 (tree_count rs root) (within (tree_count rs root) c counted small), ← fault, e)
           (ap Tested (er ∙ used-truth rs p row nulls used root ok.root-used))
 
+-- The first of them by the count itself, as a check finds it without the name of a test.
+pub large_refused :
+    (t rs p row : List ℕ) (nulls used root : ℕ) → 4096 < tree_count rs root → checked_answer t rs p used root row nulls ≡ Refused 8
+unfolding checked_answer
+large_refused t rs p row nulls used root h = rw (lt-ltb 4096 (tree_count rs root) h)
+
 -- ---- What checking refuses or accepts.
 module _ (t rs p row : List ℕ) (nulls used root f : ℕ) (e : answer_of f ≡ check_answer t rs p used root) where
   pub checking-refused : (f ≡ 0 → ⊥) → f ≤ 7 → Refused f ≡ test_row_answer t rs p used root row nulls

@@ -23,6 +23,7 @@ pub enum RowAnswer {
 }
 
 // The answer for a screen that was accepted and whose root has the tree count: 8, 12 and 13, then the truth.
+#[tactic(auto, using(crate::proofs::Answers::large_refused))]
 pub fn test_checked(
     table: &[u8],
     records: &[u8],

@@ -58,3 +58,10 @@ module _ (text t rs p row : List ℕ) (nulls used root : ℕ) (c : ℕ) (counted
     unfolding checked_answer_with
     row-tested e r er =
         rw (le-ltb 4096 (tree_count rs root) (within (tree_count rs root) c counted small), ← fault, e) (ap Tested er)
+
+-- The first of them by the count itself, as a check finds it without the name of a test.
+pub large_refused :
+    (text t rs p row : List ℕ) (nulls used root : ℕ) → 4096 < tree_count rs root →
+    checked_answer_with text t rs p used root row nulls ≡ Refused 8
+unfolding checked_answer_with
+large_refused text t rs p row nulls used root h = rw (lt-ltb 4096 (tree_count rs root) h)

@@ -18,6 +18,7 @@ use symbol_reduction::reduce::{copy_front, reduced_truth};
 use symbol_row_fault::row_fault_with;
 
 // The answer for a screen that was accepted and whose root has the tree count: 8, 12 and 13, then the truth.
+#[tactic(auto, using(crate::proofs::AnswersWith::large_refused))]
 fn test_checked_with(
     table: &[u8],
     records: &[u8],

@@ -23,7 +23,6 @@ returns-then-n-gt128 c =
     let k : 128 < length (mt.minterms (walked c.args.rs.now) c.args.root.0) = omega (
       arith,
       c.minterms-n.ensures.counted,
-      c.if-n-gt128.true,
     ) in
     record {
       answer = refused-9 c.args.t.now c.args.rs.now c.args.p.now c.args.used c.args.root.0
@@ -46,7 +45,6 @@ returns-then-not-is_plain c =
     let few : length (mt.minterms (walked c.args.rs.now) c.args.root.0) ≤ 128 = omega (
       arith,
       c.minterms-n.ensures.counted,
-      c.if-n-gt128.false,
     ) in
     record {
       answer = refused-17 c.args.t.now c.args.rs.now c.args.p.now c.args.used c.args.root.0
@@ -60,10 +58,9 @@ returns c =
     let few : length (mt.minterms (walked c.args.rs.now) c.args.root.0) ≤ 128 = omega (
       arith,
       c.minterms-n.ensures.counted,
-      c.if-n-gt128.false,
     ) in
     record {
       answer = refused-not c.args.t.now c.args.rs.now c.args.p.now c.args.used c.args.root.0
           c.requires.accepted c.requires.small few (sym (c.is_plain.ensures c.args.p.now c.args.used ok (c.minterms-n.ensures.all few)) ∙ not-false _ (ap not c.if-not-is_plain.false));
-      lines = (omega (arith, c.if-n-gt128.false), c.minterms-n.ensures.all few);
+      lines = (omega arith, c.minterms-n.ensures.all few);
     }

@@ -9,9 +9,5 @@ merge_small-requires c =
       small = c.requires.small;
       walked = c.requires.walked;
       there = c.requires.there;
-      short = (
-        omega
-            (arith, c.if-used-gt64.false),
-        omega (arith, c.if-p-gt512.false),
-      );
+      short = (omega arith, omega arith);
     }

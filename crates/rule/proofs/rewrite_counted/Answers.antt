@@ -20,7 +20,6 @@ returns-then-n-gt128 c =
     let k : 128 < length (mt.minterms (walked c.args.rs.now) c.args.root.0) = omega (
       arith,
       c.minterms-n.ensures.counted,
-      c.if-n-gt128.true,
     ) in
     record { explains = (λ _. refused-explains c.args.text.now c.args.t.now c.args.rs.now c.args.p.now c.args.used c.args.root.0 9 c.refused.result c.args.reasons.now c.refused.ensures.answer_value c.refused.ensures.length_value (with-9 c.args.text.now c.args.t.now c.args.rs.now c.args.p.now c.args.used c.args.root.0 c.requires.accepted c.requires.small k)) }
 
@@ -29,7 +28,6 @@ merge_sized-requires c =
     let few : length (mt.minterms (walked c.args.rs.now) c.args.root.0) ≤ 128 = omega (
       arith,
       c.minterms-n.ensures.counted,
-      c.if-n-gt128.false,
     ) in
     record {
       accepted = c.requires.accepted;
@@ -37,7 +35,7 @@ merge_sized-requires c =
       small = c.requires.small;
       walked = c.minterms-n.ensures.all few;
       there = (
-        omega (arith, c.if-n-gt128.false),
+        omega arith,
         search rules,
       );
     }
@@ -47,7 +45,6 @@ merge_few-requires c =
     let few : length (mt.minterms (walked c.args.rs.now) c.args.root.0) ≤ 128 = omega (
       arith,
       c.minterms-n.ensures.counted,
-      c.if-n-gt128.false,
     ) in
     record { accepted = accepted-as_ever c.args.text.now c.args.t.now c.args.rs.now c.args.p.now c.args.used c.args.root.0 c.requires.accepted (c.requires.free c.if-symbols.false).1; counted = c.requires.counted; small = c.requires.small; walked = c.minterms-n.ensures.all few; there = (c.if-n-le16.true, search rules) }
 
@@ -65,7 +62,6 @@ merge_sized-requires-then-symbols-2 c =
     let few : length (mt.minterms (walked c.args.rs.now) c.args.root.0) ≤ 128 = omega (
       arith,
       c.minterms-n.ensures.counted,
-      c.if-n-gt128.false,
     ) in
     record {
       accepted = c.requires.accepted;
@@ -73,7 +69,7 @@ merge_sized-requires-then-symbols-2 c =
       small = c.requires.small;
       walked = c.minterms-n.ensures.all few;
       there = (
-        omega (arith, c.if-n-gt128.false),
+        omega arith,
         search rules,
       );
     }
@@ -83,9 +79,8 @@ merge_many-requires c =
     let few : length (mt.minterms (walked c.args.rs.now) c.args.root.0) ≤ 128 = omega (
       arith,
       c.minterms-n.ensures.counted,
-      c.if-n-gt128.false,
     ) in
-    record { accepted = accepted-as_ever c.args.text.now c.args.t.now c.args.rs.now c.args.p.now c.args.used c.args.root.0 c.requires.accepted (c.requires.free c.if-symbols-2.false).1; counted = c.requires.counted; small = c.requires.small; walked = c.minterms-n.ensures.all few; there = (omega (arith, c.if-n-gt128.false), search rules) }
+    record { accepted = accepted-as_ever c.args.text.now c.args.t.now c.args.rs.now c.args.p.now c.args.used c.args.root.0 c.requires.accepted (c.requires.free c.if-symbols-2.false).1; counted = c.requires.counted; small = c.requires.small; walked = c.minterms-n.ensures.all few; there = (omega arith, search rules) }
 
 pub returns : goal.returns
 returns c =

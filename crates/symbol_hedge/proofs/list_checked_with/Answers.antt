@@ -22,11 +22,11 @@ returns-then-tree-gt4096 c =
 
 pub returns-then-nulls-gt1024 : goal.returns-then-nulls-gt1024
 returns-then-nulls-gt1024 c =
-    record { value = rows-refused _ _ _ _ _ _ _ _ _ _ _ c.requires.tree_value c.if-tree-gt4096.false c.if-nulls-gt1024.true; list_after = refl }
+    record { value = rows-refused _ _ _ _ _ _ _ _ _ _ _ c.requires.tree_value c.if-tree-gt4096.false (omega arith); list_after = refl }
 
 pub returns-then-list-nulls : goal.returns-then-list-nulls
 returns-then-list-nulls c =
-    record { value = places-refused _ _ _ _ _ _ _ _ _ _ _ c.requires.tree_value c.if-tree-gt4096.false c.if-nulls-gt1024.false c.if-list-nulls.true; list_after = refl }
+    record { value = places-refused _ _ _ _ _ _ _ _ _ _ _ c.requires.tree_value c.if-tree-gt4096.false (omega arith) c.if-list-nulls.true; list_after = refl }
 
 pub overflow_mul-table : goal.overflow_mul-table
 overflow_mul-table c =
@@ -36,12 +36,12 @@ overflow_mul-table c =
 pub overflow_mul-table-2 : goal.overflow_mul-table-2
 overflow_mul-table-2 c =
     let h : length c.args.table.now ≤ 64 = columns-small c.args.text.now c.args.table.now c.args.records.now c.args.pool.now c.args.used c.args.root.0 c.requires.checked_in in
-    let m = values-small (length c.args.table.now) (length c.args.nulls.now) h c.if-nulls-gt1024.false in
+    let m = values-small (length c.args.table.now) (length c.args.nulls.now) h (omega arith) in
     omega (arith, m)
 
 pub returns-then-values-table : goal.returns-then-values-table
 returns-then-values-table c =
-    record { value = values-refused _ _ _ _ _ _ _ _ _ _ _ c.requires.tree_value c.if-tree-gt4096.false c.if-nulls-gt1024.false c.if-list-nulls.false c.if-values-table.true; list_after = refl }
+    record { value = values-refused _ _ _ _ _ _ _ _ _ _ _ c.requires.tree_value c.if-tree-gt4096.false (omega arith) c.if-list-nulls.false c.if-values-table.true; list_after = refl }
 
 pub copy_front-requires : goal.copy_front-requires
 copy_front-requires c =
@@ -56,28 +56,28 @@ judge_symbols-requires c =
       reduced = reduced_none c.args.text.now
           c.args.table.now c.args.records.now c.args.pool.now [] 0 c.args.used _ c.copy_front.ensures;
       values_len = c.if-values-table.false;
-      nulls_len_bound = c.if-nulls-gt1024.false;
-      nulls_in_bounds = omega (arith, c.requires.in_bounds, c.if-nulls-gt1024.false);
+      nulls_len_bound = omega arith;
+      nulls_in_bounds = omega (arith, c.requires.in_bounds);
     }
 
 pub returns-then-not-judge_symbols : goal.returns-then-not-judge_symbols
 returns-then-not-judge_symbols c =
     record {
-      value = row-refused _ _ _ _ _ _ _ _ _ _ _ c.requires.tree_value c.if-tree-gt4096.false c.if-nulls-gt1024.false c.if-list-nulls.false c.if-values-table.false (flag_no
+      value = row-refused _ _ _ _ _ _ _ _ _ _ _ c.requires.tree_value c.if-tree-gt4096.false (omega arith) c.if-list-nulls.false c.if-values-table.false (flag_no
           c.judge_symbols.ensures.value (ap not c.if-not-judge_symbols.true));
       list_after = refl;
     }
 
 pub list_rows-requires : goal.list_rows-requires
 list_rows-requires c =
-    record { rows_in_bounds = omega (arith, c.if-nulls-gt1024.false, c.requires.in_bounds, c.judge_symbols.auto.classes); rows_bound = c.if-nulls-gt1024.false; rows_in_bounds_2 = omega (arith, c.if-list-nulls.false) }
+    record { rows_in_bounds = omega (arith, c.requires.in_bounds, c.judge_symbols.auto.classes); rows_bound = omega arith; rows_in_bounds_2 = omega (arith, c.if-list-nulls.false) }
 
 pub returns : goal.returns
 returns c =
     let A = answer_at_with c.args.text.now c.args.table.now c.args.records.now c.args.pool.now c.args.used c.args.root.0 c.args.values.now c.args.nulls.now in
     let j = c.judge_symbols.ensures.judged (not-false _ (ap not c.if-not-judge_symbols.false)) in
     record {
-      value = rows-listed _ _ _ _ _ _ _ _ _ _ _ c.requires.tree_value c.if-tree-gt4096.false c.if-nulls-gt1024.false c.if-list-nulls.false c.if-values-table.false _
+      value = rows-listed _ _ _ _ _ _ _ _ _ _ _ c.requires.tree_value c.if-tree-gt4096.false (omega arith) c.if-list-nulls.false c.if-values-table.false _
           (flag_yes c.judge_symbols.ensures.value (ap not c.if-not-judge_symbols.false)) (c.list_rows.ensures.by_index A j);
       list_after = c.list_rows.ensures.by_index_2 A j;
     }

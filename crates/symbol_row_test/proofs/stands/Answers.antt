@@ -1,4 +1,3 @@
-use mathlib.Core.Bool.{true≢false}
 use mathlib.Core.Path.{◌≡◌, sym, ◌∙◌}
 use Prim.Native.Nat.{ℕ}
 use native.Mathlib.Omega.{arith}
@@ -6,13 +5,10 @@ use borrow.Author.Tests.{not-true, eqb-false}
 use Rattle.symbol_row_test.proofs.SameAnswers.{refusal_zero}
 use Rattle.symbol_row_test.proofs.stands.Goals as goal
 
-pub returns-then-text-gt8192 : goal.returns-then-text-gt8192
-returns-then-text-gt8192 c = λ h. absurd (true≢false (sym h))
-
 pub returns-in-Tested : goal.returns-in-Tested
 returns-in-Tested c =
-    λ h. (omega (arith, c.if-text-gt8192.false), λ q. let k = sym c.in-Tested.is ∙ q in let z : ◌≡◌ {A = ℕ} 0 1 = cc in absurd (omega (arith, z)))
+    λ h. (omega arith, λ q. let k = sym c.in-Tested.is ∙ q in let z : ◌≡◌ {A = ℕ} 0 1 = cc in absurd (omega (arith, z)))
 
 pub returns-in-Refused : goal.returns-in-Refused
 returns-in-Refused c =
-    λ h. (omega (arith, c.if-text-gt8192.false), λ q. eqb-false _ _ (not-true _ h) (refusal_zero _ _ c.in-Refused.is q))
+    λ h. (omega arith, λ q. eqb-false _ _ (not-true _ h) (refusal_zero _ _ c.in-Refused.is q))

@@ -1,14 +1,11 @@
 use borrow.Author.Rules.{rules}
+use native.Mathlib.Omega.{arith}
 use mathlib.Core.Path.{sym, ◌∙◌}
 use Rattle.checking.proofs.Accepted.{checked-lent_in}
 use Rattle.symbol_screens.specs.Rewriting.{lent}
 use Rattle.symbol_reduction.proofs.Constants.{reduced_none}
-use Rattle.symbol_row_test.proofs.AnswersWith.{columns-small, text-small, tree-refused, row-refused, row-tested}
+use Rattle.symbol_row_test.proofs.AnswersWith.{columns-small, text-small, row-refused, row-tested}
 use Rattle.symbol_row_test.proofs.test_checked_with.Goals as goal
-
-pub returns-then-tree-gt4096 : goal.returns-then-tree-gt4096
-returns-then-tree-gt4096 c =
-    tree-refused c.args.text.now c.args.table.now c.args.records.now c.args.pool.now c.args.row.now c.args.nulls c.args.used c.args.root.0 _ c.requires.tree_value c.if-tree-gt4096.true
 
 pub row_fault_with-fault-requires : goal.row_fault_with-fault-requires
 row_fault_with-fault-requires c =
@@ -21,7 +18,7 @@ row_fault_with-fault-requires c =
 
 pub returns-then-fault-ne0 : goal.returns-then-fault-ne0
 returns-then-fault-ne0 c =
-    row-refused c.args.text.now c.args.table.now c.args.records.now c.args.pool.now c.args.row.now c.args.nulls c.args.used c.args.root.0 _ c.requires.tree_value c.if-tree-gt4096.false _
+    row-refused c.args.text.now c.args.table.now c.args.records.now c.args.pool.now c.args.row.now c.args.nulls c.args.used c.args.root.0 _ c.requires.tree_value (omega arith) _
     c.row_fault_with-fault.ensures c.if-fault-ne0.true
 
 pub copy_front-requires : goal.copy_front-requires
@@ -41,5 +38,5 @@ reduced_truth-requires c =
 
 pub returns : goal.returns
 returns c =
-    row-tested c.args.text.now c.args.table.now c.args.records.now c.args.pool.now c.args.row.now c.args.nulls c.args.used c.args.root.0 _ c.requires.tree_value c.if-tree-gt4096.false _
+    row-tested c.args.text.now c.args.table.now c.args.records.now c.args.pool.now c.args.row.now c.args.nulls c.args.used c.args.root.0 _ c.requires.tree_value (omega arith) _
     c.row_fault_with-fault.ensures c.if-fault-ne0.false _ c.reduced_truth.ensures.value

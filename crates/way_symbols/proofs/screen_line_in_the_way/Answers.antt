@@ -8,6 +8,6 @@ named p = record { answer = p.0; listed = p.1.0; line = p.1.1.0; promise = p.1.1
 
 pub returns : goal.returns
 returns c =
-    named (end-as_ever c.args.text.now c.args.table.now c.args.records.now c.args.pool.now c.args.used c.args.root (c.has_symbols.ensures c.if-has_symbols.false) (omega (arith, c.if-text-gt8192.false)) _ _ _
+    named (end-as_ever c.args.text.now c.args.table.now c.args.records.now c.args.pool.now c.args.used c.args.root (c.has_symbols.ensures c.if-has_symbols.false) (omega arith) _ _ _
     c.line_of_screen.ensures.answer c.line_of_screen.ensures.listed c.line_of_screen.ensures.line
     c.line_of_screen.ensures.promise)

@@ -1,5 +1,5 @@
-use mathlib.Core.Path.{refl, ◌∙◌, ap}
-use mathlib.Core.Bool.{not}
+use mathlib.Core.Path.{◌≡◌, refl, ◌∙◌, ap}
+use mathlib.Core.Bool.{true, false, not}
 use Prim.Native.Nat.{◌<◌}
 use native.Mathlib.Omega.{arith}
 use lib.ListN.{length, length-set}
@@ -56,13 +56,14 @@ shape_of-nodes-then-not-nothing c = ap length (set_back _ _ _ ∙ c.loop-i.invar
 
 pub returns-then-not-nothing : goal.returns-then-not-nothing
 returns-then-not-nothing c =
-    true-found _ _ _ c.loop-i-test.true c.loop-i.invariant.2 (line-helps (aexpr_of c.args.rs.now c.args.p.now) c.loop-i.nodes c.args.nodes.now c.loop-i.i c.args.n _ _ c.loop-i.invariant.1 c.requires.p_value c.loop-i-test.true c.requires.n_bound.2 c.lets_nothing_pass-nothing.ensures (ap not c.if-not-nothing.true))
+    let helps : not c.lets_nothing_pass-nothing.result ≡ true = ap not c.if-not-nothing.true in
+    true-found _ _ _ c.loop-i-test.true c.loop-i.invariant.2 (line-helps (aexpr_of c.args.rs.now c.args.p.now) c.loop-i.nodes c.args.nodes.now c.loop-i.i c.args.n _ _ c.loop-i.invariant.1 c.requires.p_value c.loop-i-test.true c.requires.n_bound.2 c.lets_nothing_pass-nothing.ensures helps)
 
 pub loop-i-preserved : goal.loop-i-preserved
-loop-i-preserved c = (
+loop-i-preserved c = let helps : not c.lets_nothing_pass-nothing.result ≡ false = ap not c.if-not-nothing.false in (
   omega (arith, c.loop-i-test.true),
   set_back _ _ _ ∙ c.loop-i.invariant.1,
-  true-more _ _ c.loop-i.invariant.2 (line-helps (aexpr_of c.args.rs.now c.args.p.now) c.loop-i.nodes c.args.nodes.now c.loop-i.i c.args.n _ _ c.loop-i.invariant.1 c.requires.p_value c.loop-i-test.true c.requires.n_bound.2 c.lets_nothing_pass-nothing.ensures (ap not c.if-not-nothing.false)),
+  true-more _ _ c.loop-i.invariant.2 (line-helps (aexpr_of c.args.rs.now c.args.p.now) c.loop-i.nodes c.args.nodes.now c.loop-i.i c.args.n _ _ c.loop-i.invariant.1 c.requires.p_value c.loop-i-test.true c.requires.n_bound.2 c.lets_nothing_pass-nothing.ensures helps),
   search rules,
 )
 

