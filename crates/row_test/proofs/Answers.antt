@@ -49,11 +49,16 @@ over x c e h = omega arith
 within : (x c : ℕ) → c ≡ min x 4097 → c ≤ 4096 → x ≤ 4096
 within x c e h = omega arith
 
+-- A tree that is too large, by the count itself: so a check finds it without the name of a test.
+pub large_refused :
+    (t rs p row : List ℕ) (nulls used root : ℕ) → 4096 < tree_count rs root → checked_answer t rs p used root row nulls ≡ Refused 8
+unfolding checked_answer
+large_refused t rs p row nulls used root h = rw (lt-ltb 4096 (tree_count rs root) h)
+
 module _ (t rs p row : List ℕ) (nulls used root : ℕ) (ok : Checked t rs p used root) where
   module _ (c : ℕ) (counted : c ≡ min (tree_count rs root) 4097) where
     pub tree-refused : 4096 < c → Refused 8 ≡ checked_answer t rs p used root row nulls
-    unfolding checked_answer
-    tree-refused h = rw (lt-ltb 4096 (tree_count rs root) (over (tree_count rs root) c counted h))
+    tree-refused h = sym (large_refused t rs p row nulls used root (over (tree_count rs root) c counted h))
 
     module _ (small : c ≤ 4096) (f : ℕ) (fault : f ≡ row_fault t row nulls) where
       pub row-refused : (f ≡ 0 → ⊥) → Refused f ≡ checked_answer t rs p used root row nulls
@@ -68,12 +73,6 @@ module _ (t rs p row : List ℕ) (nulls used root : ℕ) (ok : Checked t rs p us
       row-tested e r er =
           rw (le-ltb 4096 (tree_count rs root) (within (tree_count rs root) c counted small), ← fault, e)
           (ap Tested (er ∙ used-truth rs p row nulls used root ok.root-used))
-
--- The first of them by the count itself, as a check finds it without the name of a test.
-pub large_refused :
-    (t rs p row : List ℕ) (nulls used root : ℕ) → 4096 < tree_count rs root → checked_answer t rs p used root row nulls ≡ Refused 8
-unfolding checked_answer
-large_refused t rs p row nulls used root h = rw (lt-ltb 4096 (tree_count rs root) h)
 
 -- ---- What checking refuses or accepts.
 module _ (t rs p row : List ℕ) (nulls used root f : ℕ) (e : answer_of f ≡ check_answer t rs p used root) where

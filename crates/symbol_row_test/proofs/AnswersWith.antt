@@ -42,10 +42,16 @@ module _ (text t rs p : List ℕ) (used root : ℕ) (ok : CheckedIn (lent text) 
       go true h = refl
       go false h = h
 
+-- A tree that is too large, by the count itself: so a check finds it without the name of a test.
+pub large_refused :
+    (text t rs p row : List ℕ) (nulls used root : ℕ) → 4096 < tree_count rs root →
+    checked_answer_with text t rs p used root row nulls ≡ Refused 8
+unfolding checked_answer_with
+large_refused text t rs p row nulls used root h = rw (lt-ltb 4096 (tree_count rs root) h)
+
 module _ (text t rs p row : List ℕ) (nulls used root : ℕ) (c : ℕ) (counted : c ≡ min (tree_count rs root) 4097) where
   pub tree-refused : 4096 < c → Refused 8 ≡ checked_answer_with text t rs p used root row nulls
-  unfolding checked_answer_with
-  tree-refused h = rw (lt-ltb 4096 (tree_count rs root) (over (tree_count rs root) c counted h))
+  tree-refused h = sym (large_refused text t rs p row nulls used root (over (tree_count rs root) c counted h))
 
   module _ (small : c ≤ 4096) (f : ℕ) (fault : f ≡ row_fault_with text t row nulls) where
     pub row-refused : (f ≡ 0 → ⊥) → Refused f ≡ checked_answer_with text t rs p used root row nulls
@@ -58,10 +64,3 @@ module _ (text t rs p row : List ℕ) (nulls used root : ℕ) (c : ℕ) (counted
     unfolding checked_answer_with
     row-tested e r er =
         rw (le-ltb 4096 (tree_count rs root) (within (tree_count rs root) c counted small), ← fault, e) (ap Tested er)
-
--- The first of them by the count itself, as a check finds it without the name of a test.
-pub large_refused :
-    (text t rs p row : List ℕ) (nulls used root : ℕ) → 4096 < tree_count rs root →
-    checked_answer_with text t rs p used root row nulls ≡ Refused 8
-unfolding checked_answer_with
-large_refused text t rs p row nulls used root h = rw (lt-ltb 4096 (tree_count rs root) h)
