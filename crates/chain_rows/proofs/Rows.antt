@@ -1,6 +1,6 @@
 -- Judging rows: where a row lies, what the row test says of one that fits, and the classes that blocks of rows write.
 -- Assumes nothing.
-use Rattle.std.proofs.Common.{◌≡◌, ℕ, zero, suc, ◌+◌, ◌-◌, ◌*◌, ◌/◌, ◌%◌, ◌<◌, ◌≤◌, min, Bool, true, false, cond, ◌&&◌, eqb, ltb, leb, ◌⊎◌, List, [], length, get_or, take, drop, set, sym, refl, ap, ◌∙◌, subst, inl, inr, ⊎_elim, mul-le-mul, arith, length-drop, length-take-le, le-ltb, eqb-true}
+use Rattle.std.proofs.Common.{◌≡◌, ℕ, zero, suc, ◌+◌, ◌-◌, ◌*◌, ◌/◌, ◌%◌, ◌<◌, ◌≤◌, min, Bool, true, false, cond, ◌&&◌, eqb, leb, List, length, get_or, drop, sym, refl, ap, ◌∙◌, subst, ⊎_elim, mul-le-mul, arith, length-drop, length-take-le, le-ltb, eqb-true}
 use Rattle.records.specs.Bytes.{all}
 use Rattle.records.proofs.Laws.{and_left, and_right}
 use Rattle.records.proofs.Loops.{all_holds}
@@ -14,8 +14,7 @@ use Rattle.row_test.specs.RowTest.{row_fault, checked_answer, test_row_answer}
 use Rattle.three_valued.specs.Logic.{is_true}
 use Rattle.three_valued.specs.declared.logic.Truth.{Truth}
 use Rattle.three_valued.specs.declared.logic.Truth.TheVariants.{False, Unknown, True}
-use Rattle.row_test.specs.declared.test.RowAnswer.{RowAnswer}
-use Rattle.row_test.specs.declared.test.RowAnswer.TheVariants.{Refused, Tested}
+use Rattle.row_test.specs.Answer.{Refused, Tested}
 use Rattle.row_test.proofs.Answers.{row-tested}
 use Rattle.truth.proofs.Keys.{lt-or_le}
 use Rattle.row_test.proofs.Ready.{columns-small, checked-evaluable}

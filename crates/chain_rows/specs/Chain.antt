@@ -2,10 +2,9 @@
 -- rows' values, row after row, `nulls` a word of null marks a row.
 use Rattle.std.specs.Prelude.{ℕ, ◌*◌, Bool, true, false, List, length, take, drop, slice_index}
 use Rattle.row_test.specs.RowTest.{test_row_answer}
-use Rattle.three_valued.specs.declared.logic.Truth.{Truth}
 use Rattle.three_valued.specs.declared.logic.Truth.TheVariants.{False, Unknown, True}
-use Rattle.row_test.specs.declared.test.RowAnswer.{RowAnswer}
-use Rattle.row_test.specs.declared.test.RowAnswer.TheVariants.{Refused, Tested}
+use Rattle.row_test.specs.Answer.{RowAnswer}
+use Rattle.row_test.specs.Answer.{Refused, Tested}
 
 -- Row r: eight bytes a column.
 unfoldable pub row_at : List ℕ → List ℕ → ℕ → List ℕ

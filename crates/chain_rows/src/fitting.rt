@@ -3,12 +3,12 @@
 ghost use Rattle.std.specs.Prelude.{◌≡◌, ℕ, ◌+◌, ◌*◌, ◌%◌, ◌^◌, ◌<◌, ◌≤◌, true, List, length, if◌then◌else◌, ◌==◌, bit_and, nat_eq, slice_index};
 ghost use Rattle.records.specs.Bytes.{all, value_at};
 ghost use Rattle.truth.specs.FromBytes.{null_marked};
-ghost use Rattle.row_test.specs.RowTest.{marks_ok};
 ghost use Rattle.chain_rows.specs.Classes.{row_fits};
 ghost use Rattle.chain_rows.specs.Limits.{limit_bias, limit_mask, Limits, WideRow};
 
 use limits::COLUMNS;
 use records::bytes::value_in;
+use row_test::row::marks_ok;
 use truth::read::null_marked;
 
 fn limit_bias(ty: u8) -> u64
@@ -38,11 +38,9 @@ fn fill_limits(table: &[u8], limits: &mut [u64])
     requires in_bounds { 128 ≤ length limits.old }
     ensures { Limits table.now limits.new (length table.now) }
 {
-    let mut c: usize = 0;
-    while c < table.len() {
-        limits[c] = limit_bias(table[c]);
-        limits[64 + c] = limit_mask(table[c]);
-        c += 1;
+    for (c, ty) in table.iter().enumerate() {
+        limits[c] = limit_bias(*ty);
+        limits[64 + c] = limit_mask(*ty);
     }
 }
 
@@ -57,12 +55,10 @@ fn outside(columns: usize, values: &[u8], row: usize, limits: &[u64]) -> u64
     ensures wide_row { WideRow columns values.now row columns }
 {
     let mut m: u64 = 0;
-    let mut c: usize = 0;
-    while c < columns {
+    for c in 0..columns {
         let v = value_in(values, columns * row + c);
         let x = std::num::wrapping_add_u64(v, limits[c]) & limits[64 + c];
         m = m | x;
-        c += 1;
     }
     m
 }
@@ -85,24 +81,11 @@ fn null_values(columns: usize, values: &[u8], row: usize, nulls: u64) -> u64
         (columns * row + c) else 0) 0) columns }
 {
     let mut m: u64 = 0;
-    let mut c: usize = 0;
-    while c < columns {
+    for c in 0..columns {
         let v = value_in(values, columns * row + c);
         m = m | value_if(null_marked(nulls, c as u32), v);
-        c += 1;
     }
     m
-}
-
-// With 64 columns no mark is too high.
-fn marks_fit(columns: usize, nulls: u64) -> bool
-    requires { columns ≤ 64 }
-    ensures { result ≡ marks_ok columns nulls }
-{
-    if columns == 64 {
-        return true;
-    }
-    nulls >> (columns as u32) == 0
 }
 
 fn row_fits(columns: usize, values: &[u8], row: usize, nulls: u64, limits: &[u64]) -> bool
@@ -119,7 +102,7 @@ fn row_fits(columns: usize, values: &[u8], row: usize, nulls: u64, limits: &[u64
     if nulls == 0 {
         return true;
     }
-    if !marks_fit(columns, nulls) {
+    if !marks_ok(columns, nulls) {
         return false;
     }
     null_values(columns, values, row, nulls) == 0
@@ -135,12 +118,10 @@ pub fn rows_fit(table: &[u8], values: &[u8], nulls: &[u64]) -> bool
 {
     let mut limits = [0u64; 2 * COLUMNS];
     fill_limits(table, &mut limits);
-    let mut r: usize = 0;
-    while r < nulls.len() {
-        if !row_fits(table.len(), values, r, nulls[r], &limits) {
+    for (r, marks) in nulls.iter().enumerate() {
+        if !row_fits(table.len(), values, r, *marks, &limits) {
             return false;
         }
-        r += 1;
     }
     true
 }

@@ -44,10 +44,8 @@ fn write_classes(classes: &mut [u8], base: usize, rows: usize, m: Masks)
         → (i : ℕ) → i < rows → slice_index classes.new (base + i) ≡ truth_class (f i) }
     ensures by_index_2 { (j : ℕ) → j < base → slice_index classes.new j ≡ slice_index classes.old j }
 {
-    let mut i: usize = 0;
-    while i < rows {
+    for i in 0..rows {
         classes[base + i] = class_at(m, i as u32);
-        i += 1;
     }
 }
 
@@ -87,19 +85,18 @@ pub fn judge_blocks(
     ensures { Classed records.now pool.now columns values.now nulls.now
         root.0 classes.new (length nulls.now) }
 {
-    let mut base: usize = 0;
-    while base < nulls.len() {
+    for block in 0..nulls.len().div_ceil(64) {
+        let base = 64 * block;
         let rows = at_most_64(nulls.len() - base);
         let m = block_masks(
             records, pool, order, values, nulls, columns, base, rows, root, marks, truths,
             unknowns, keys,
         );
         write_classes(classes, base, rows, m);
-        base += rows;
     }
 }
 
-// Without an order of the pool.
+// Without an order of the pool. Its tables and those of `judge_ordered` stay apart: a chain takes one of them.
 #[inline(never)]
 fn judge_plain(
     records: &[u8],
@@ -144,6 +141,7 @@ fn judge_plain(
 }
 
 // With one.
+#[inline(never)]
 fn judge_ordered(
     records: &[u8],
     pool: &[u8],
@@ -215,68 +213,16 @@ pub fn asked_values(records: &[u8], root: Node, marks: &[u8], from: u32) -> u64
     requires in_bounds { 4096 ≤ length marks.now }
 {
     let mut total: u64 = 0;
-    let mut n: u32 = 0;
-    while n <= root.0 {
+    for n in 0..root.0 + 1 {
         total += asked_count(records, n, marks[n as usize], from) as u64;
-        n += 1;
     }
     total
 }
 
-// The pool is put in order where that takes less time than to search the lists from their first values on. In a short chain
-// they are searched less often.
-fn judge_short(
-    records: &[u8],
-    pool: &[u8],
-    columns: usize,
-    values: &[u8],
-    nulls: &[u64],
-    root: Node,
-    marks: &[u8],
-    classes: &mut [u8],
-)
-    requires pool_len_bound { length pool.now ≤ 65536 }
-    requires evaluates { Evaluates records.now pool.now columns values.now nulls.now root.0 }
-    requires root_value { slice_index marks.now root.0 ≡ 1 }
-    requires closed { Closed records.now marks.now 0 root.0 }
-    requires in_bounds { 4096 ≤ length marks.now }
-    requires nulls_in_bounds { length nulls.now ≤ length classes.old }
-    requires root_in_bounds { 16 * root.0 + 15 < length records.now }
-    ensures { Classed records.now pool.now columns values.now nulls.now
-        root.0 classes.new (length nulls.now) }
-{
-    if asked_values(records, root, marks, 0) < 65536 {
-        judge_plain(records, pool, columns, values, nulls, root, marks, classes);
-    } else {
-        judge_ordered(records, pool, columns, values, nulls, root, marks, classes);
-    }
-}
-
-fn judge_long(
-    records: &[u8],
-    pool: &[u8],
-    columns: usize,
-    values: &[u8],
-    nulls: &[u64],
-    root: Node,
-    marks: &[u8],
-    classes: &mut [u8],
-)
-    requires pool_len_bound { length pool.now ≤ 65536 }
-    requires evaluates { Evaluates records.now pool.now columns values.now nulls.now root.0 }
-    requires root_value { slice_index marks.now root.0 ≡ 1 }
-    requires closed { Closed records.now marks.now 0 root.0 }
-    requires in_bounds { 4096 ≤ length marks.now }
-    requires nulls_in_bounds { length nulls.now ≤ length classes.old }
-    requires root_in_bounds { 16 * root.0 + 15 < length records.now }
-    ensures { Classed records.now pool.now columns values.now nulls.now
-        root.0 classes.new (length nulls.now) }
-{
-    if asked_values(records, root, marks, 0) < 4096 {
-        judge_plain(records, pool, columns, values, nulls, root, marks, classes);
-    } else {
-        judge_ordered(records, pool, columns, values, nulls, root, marks, classes);
-    }
+// The pool is put in order where that takes less time than to search the lists from their first values on: where they are
+// asked for at least so many values. In a short chain they are searched less often.
+fn values_for_order(rows: usize) -> u64 {
+    if rows < 128 { 65536 } else { 4096 }
 }
 
 // The class of each row that the records and the pool evaluate.
@@ -298,10 +244,10 @@ fn judge_fitting(
 {
     let mut marks = [0u8; RECORDS];
     mark_reached(records, root, &mut marks);
-    if nulls.len() < 128 {
-        judge_short(records, pool, columns, values, nulls, root, &marks, classes);
+    if asked_values(records, root, &marks, 0) < values_for_order(nulls.len()) {
+        judge_plain(records, pool, columns, values, nulls, root, &marks, classes);
     } else {
-        judge_long(records, pool, columns, values, nulls, root, &marks, classes);
+        judge_ordered(records, pool, columns, values, nulls, root, &marks, classes);
     }
 }
 

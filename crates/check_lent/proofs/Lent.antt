@@ -15,7 +15,7 @@ use Rattle.records.proofs.Laws.{by-test}
 use Rattle.records.proofs.Loops.{all_holds}
 use Rattle.checking.specs.Check.{types_known_in, table_ok_in, sizes_ok_in, check_answer_in, check_answer}
 use Rattle.checking.specs.Fault.{answer_of, Stands}
-use Rattle.checking.specs.declared.check.CheckAnswer.TheVariants.{Accepted}
+use Rattle.checking.specs.Answer.{Accepted}
 use Rattle.checking.proofs.Accepted.{checked}
 use Rattle.checking.proofs.Sizes.{table-known}
 use Rattle.checking.proofs.Standing.{accepted-of, not-text, shape_free}

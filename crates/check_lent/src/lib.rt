@@ -5,11 +5,12 @@ ghost use Rattle.std.specs.Prelude.{◌≡◌, cond, suc, ◌≤◌, ltb, length
 ghost use Rattle.checking.specs.Check.{check_answer_in};
 ghost use Rattle.checking.specs.Fault.{answer_of};
 ghost use Rattle.checking.specs.Tree.{Counted};
-ghost use Rattle.checking.specs.declared.check.CheckAnswer.TheVariants.{Accepted};
+ghost use Rattle.checking.specs.Answer.{Accepted, answered};
 ghost use Rattle.symbol_screens.proofs.NumbersChecked.{NoText};
 
-use checking::check::{CheckAnswer, answer_of, check_few, check_with_text};
+use checking::check::{answer_of, check_few, check_with_text};
 use limits::RECORDS;
+use refusal::Refusal;
 
 // Past the limit every length is refused as the first past it.
 fn lent_as(text: usize) -> u32
@@ -42,11 +43,11 @@ pub fn check_lent_counted(
     root: u64,
     types: &mut [u8],
     trees: &mut [u16],
-) -> CheckAnswer
+) -> Result<(), Refusal>
     requires used_in_bounds { used ≤ 4096 → used ≤ length types.old }
     requires used_in_bounds_2 { used ≤ 4096 → used ≤ length trees.old }
-    ensures value { result ≡ check_answer_in (suc text) t.now rs.now p.now used root }
-    ensures counted { result ≡ Accepted → Counted rs.now trees.new used }
+    ensures value { answered result ≡ check_answer_in (suc text) t.now rs.now p.now used root }
+    ensures counted { answered result ≡ Accepted → Counted rs.now trees.new used }
 {
     answer_of(check_with_text(t, rs, p, lent_as(text), used, root, types, trees))
 }
@@ -83,8 +84,15 @@ pub fn check_beside(
 }
 
 // Of a long screen.
-fn check_long(t: &[u8], rs: &[u8], p: &[u8], text: usize, used: u64, root: u64) -> CheckAnswer
-    ensures { result ≡ check_answer_in (suc text) t.now rs.now p.now used root }
+fn check_long(
+    t: &[u8],
+    rs: &[u8],
+    p: &[u8],
+    text: usize,
+    used: u64,
+    root: u64,
+) -> Result<(), Refusal>
+    ensures { answered result ≡ check_answer_in (suc text) t.now rs.now p.now used root }
 {
     let mut types = [0u8; RECORDS];
     let mut trees = [0u16; RECORDS];
@@ -92,8 +100,15 @@ fn check_long(t: &[u8], rs: &[u8], p: &[u8], text: usize, used: u64, root: u64) 
 }
 
 /// The answer alone. Most screens have few records.
-pub fn check_lent(t: &[u8], rs: &[u8], p: &[u8], text: usize, used: u64, root: u64) -> CheckAnswer
-    ensures { result ≡ check_answer_in (suc text) t.now rs.now p.now used root }
+pub fn check_lent(
+    t: &[u8],
+    rs: &[u8],
+    p: &[u8],
+    text: usize,
+    used: u64,
+    root: u64,
+) -> Result<(), Refusal>
+    ensures { answered result ≡ check_answer_in (suc text) t.now rs.now p.now used root }
 {
     if used <= 64 {
         return check_few(t, rs, p, lent_as(text), used, root);

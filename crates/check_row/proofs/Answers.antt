@@ -8,8 +8,8 @@ use lib.Dec.{ltb}
 use lib.ListN.{length, get_or}
 use Rattle.checking.specs.Check.{check_answer}
 use Rattle.checking.specs.Tree.{tree_count}
-use Rattle.checking.specs.declared.check.CheckAnswer.{CheckAnswer}
-use Rattle.checking.specs.declared.check.CheckAnswer.TheVariants as check
+use Rattle.checking.specs.Answer.{CheckAnswer}
+use Rattle.checking.specs.Answer as check
 use Rattle.checking.proofs.Accepted.{checked}
 use Rattle.listed.proofs.Listed.{refusal_listed}
 use Rattle.truth.specs.FromBytes.{aexpr_of, aexpr_at}
@@ -21,8 +21,9 @@ use Rattle.reading.specs.Columns.{ColumnsBelow}
 use Rattle.reading.proofs.Screens.{node-columns}
 use Rattle.places.specs.Places.{places_row, places_ok}
 use Rattle.plain_lines.specs.Refusal.{checked_refusal, refusal_if, plain_refusal, refusal_in, LinesIn}
-use Rattle.plain_lines.specs.declared.PlainLines.{PlainLines}
-use Rattle.plain_lines.specs.declared.PlainLines.TheVariants as plain
+use Rattle.refusal.specs.declared.Refusal.{Refusal}
+use Rattle.refusal.specs.Numbers.{number}
+use Rattle.std.specs.Prelude.{Result, Ok, Err}
 use Rattle.plain_lines.proofs.Refusals.{Plain, not-refused, table-few}
 use Rattle.check_row.specs.Line.{lines_true}
 use Rattle.check_row.specs.Answer.{refused_or, row_answer, check_row_answer, row_listed}
@@ -43,14 +44,14 @@ module _ (columns : ℕ) (row : List ℕ) (nulls : ℕ) (b : Bool) where
 -- ---- The whole answer.
 module _ (t rs p : List ℕ) (used root : ℕ) (row : List ℕ) (nulls : ℕ) where
   -- a is what was read of the screen
-  module _ (a : PlainLines) (told : refusal_in a ≡ plain_refusal t rs p used root) where
-    pub row-refused : (k : ℕ) → a ≡ plain.Refused k → k ≡ check_row_answer t rs p used root row nulls
+  module _ (a : Result ℕ Refusal) (told : refusal_in a ≡ plain_refusal t rs p used root) where
+    pub row-refused : (r : Refusal) → a ≡ Err r → number r ≡ check_row_answer t rs p used root row nulls
     unfolding check_row_answer
-    row-refused k e =
+    row-refused r e =
         ap (λ x. refused_or x (row_answer (length t) row nulls (passes rs p used root (places_row row nulls))))
         (ap refusal_in (sym e) ∙ told)
 
-    module _ (nodes : List ℕ) (n : ℕ) (lines : LinesIn rs root nodes a) (e : a ≡ plain.Lines n) where
+    module _ (nodes : List ℕ) (n : ℕ) (lines : LinesIn rs root nodes a) (e : a ≡ Ok n) where
       is_plain : Plain t rs p used root
       is_plain = not-refused t rs p used root (ap refusal_in (sym e) ∙ told)
 
@@ -58,7 +59,7 @@ module _ (t rs p : List ℕ) (used root : ℕ) (row : List ℕ) (nulls : ℕ) wh
       pub few-columns : length t ≤ 64
       few-columns = table-few t rs p used root (checked t rs p used root is_plain.accepted)
 
-      there : LinesIn rs root nodes (plain.Lines n)
+      there : LinesIn rs root nodes (Ok n)
       there = subst (LinesIn rs root nodes) e lines
 
       pub few-lines : n ≤ 128

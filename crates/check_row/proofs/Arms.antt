@@ -14,7 +14,7 @@ use Rattle.read_operands.specs.declared.operands.Conjunct.TheVariants as conjunc
 use Rattle.read_operands.specs.declared.operands.Says.{Says}
 use Rattle.reading.specs.Columns.{ColumnsBelow}
 use Rattle.places.specs.Held.{place_in}
-use Rattle.places.specs.declared.place.Place.{Place}
+use Rattle.check_row.proofs.Meeting.{CodePlace}
 use Rattle.check_row.specs.Line.{meets_all, same_keys, line_true}
 
 -- k is the line read, and stands for x.
@@ -26,23 +26,23 @@ module _ (p : List ℕ) (n : ℕ) (k : Conjunct) (x : c.Conjunct ℕ) (read : co
     arm : (a : Conjunct) (b : Bool) → k ≡ a → b ≡ line_true row (conjunct_in p n a) → b ≡ line_true row x
     arm a b e h = h ∙ ap (line_true row) (sym (ap (conjunct_in p n) e) ∙ read)
 
-    said : (s : Says) (y : Place) (z : Option ℤ) (b : Bool) → place_in y ≡ z → b ≡ meets_all (says_in p s) (place_in y)
+    said : (s : Says) (y : CodePlace) (z : Option ℤ) (b : Bool) → place_in y ≡ z → b ≡ meets_all (says_in p s) (place_in y)
         → b ≡ meets_all (says_in p s) z
     said s y z b f h = h ∙ ap (meets_all (says_in p s)) f
 
-    pub bounds-true : (a : Column) (s : Says) (y : Place) (b : Bool) → k ≡ conjunct.Bounds a s → place_in y ≡ row a.0
+    pub bounds-true : (a : Column) (s : Says) (y : CodePlace) (b : Bool) → k ≡ conjunct.Bounds a s → place_in y ≡ row a.0
         → b ≡ meets_all (says_in p s) (place_in y) → b ≡ line_true row x
     bounds-true a s y b e f h = arm (conjunct.Bounds a s) b e (said s y (row a.0) b f h)
 
-    pub normalized-true : (a : Column) (s : Says) (y : Place) (b : Bool) → k ≡ conjunct.Normalized a s
+    pub normalized-true : (a : Column) (s : Says) (y : CodePlace) (b : Bool) → k ≡ conjunct.Normalized a s
         → place_in y ≡ row a.0 → b ≡ meets_all (says_in p s) (place_in y) → b ≡ line_true row x
     normalized-true a s y b e f h = arm (conjunct.Normalized a s) b e (said s y (row a.0) b f h)
 
-    pub recorded-true : (stops : Bool) (a : Column) (s : Says) (y : Place) (b : Bool) → k ≡ conjunct.Recorded stops a s
+    pub recorded-true : (stops : Bool) (a : Column) (s : Says) (y : CodePlace) (b : Bool) → k ≡ conjunct.Recorded stops a s
         → place_in y ≡ row a.0 → b ≡ meets_all (says_in p s) (place_in y) → b ≡ line_true row x
     recorded-true stops a s y b e f h = arm (conjunct.Recorded stops a s) b e (said s y (row a.0) b f h)
 
-    pub equality_true : (a d : Column) (y z : Place) (b : Bool) → k ≡ conjunct.Equality a d → place_in y ≡ row a.0
+    pub equality_true : (a d : Column) (y z : CodePlace) (b : Bool) → k ≡ conjunct.Equality a d → place_in y ≡ row a.0
         → place_in z ≡ row d.0 → b ≡ same_keys (place_in y) (place_in z) → b ≡ line_true row x
     equality_true a d y z b e f g h =
         arm (conjunct.Equality a d) b e

@@ -16,11 +16,10 @@ use Rattle.truth.specs.Evaluate.{holds_key}
 use Rattle.truth.specs.FromBytes.{values_from, truth_keys, closes_low, closes_high}
 use Rattle.truth.specs.Halves.{ord_z, key}
 use Rattle.three_valued.specs.Logic.{is_true, of_bool}
-use Rattle.truth.specs.Order.{is_equal}
-use Rattle.truth.specs.declared.scalar.Ordering.{Ordering}
+use Rattle.std.specs.declared.cmp.Ordering.{Ordering}
 use Rattle.truth.specs.declared.scalar.Scalar.{Scalar}
 use Rattle.truth.proofs.Cells.{and_is_true}
-use Rattle.constraints.specs.Column.{Lower, Upper, Allow, Disallow, Require}
+use Rattle.constraints.specs.Column.{Lower, Upper}
 use Rattle.constraints.specs.Values.{is_empty}
 use Rattle.constraints.specs.declared.column.Nullability.{Nullability}
 use Rattle.constraints.proofs.Columns.{null_fits, value_fits}
@@ -31,10 +30,9 @@ use Rattle.read_operands.specs.Read.{comparison_in, says_in}
 use Rattle.read_operands.specs.declared.operands.Comparison.{Comparison}
 use Rattle.read_operands.specs.declared.operands.Says.{Says}
 use Rattle.read_operands.specs.declared.operands.Says.TheVariants as says
-use Rattle.places.specs.Held.{place_in}
-use Rattle.places.specs.declared.place.Place.{Place}
-use Rattle.places.specs.declared.place.Place.TheVariants as place
-use Rattle.check_row.specs.Line.{meets_all, same_keys, within_ends}
+use Rattle.std.specs.declared.option.Option as lang
+use Rattle.places.specs.declared.place.Half.{Half}
+use Rattle.check_row.specs.Line.{meets_all, within_ends}
 
 no_values : (p : List ℕ) (start count : ℕ) → is_empty (values_from p start count) ≡ eqb count 0
 unfolding values_from
@@ -119,14 +117,6 @@ module _ (p : List ℕ) (s : Says) where
         → b ≡ meets_all (says_in p s) (some k)
     required_key must b e h = arm (some k) (says.Require must) b e (h ∙ sym (and-true (value_fits must)))
 
--- ---- Two places.
-pub same-null : (x y : Place) → x ≡ place.Null → false ≡ same_keys (place_in x) (place_in y)
-same-null x y e = sym (ap (λ z. same_keys (place_in z) (place_in y)) e)
-
-pub same_known : (x y : Place) (a b : ℤ) → place_in x ≡ some a → place_in y ≡ some b
-    → is_equal (ord_z.cmp a b) ≡ same_keys (place_in x) (place_in y)
-same_known x y a b e f =
-    sym (ap (λ z. same_keys z (place_in y)) e ∙ ap (λ z. same_keys (some a) z) f ∙ true_of (is_equal (ord_z.cmp a b)))
-
-pub same-other : (x y : Place) (a : ℤ) → place_in x ≡ some a → y ≡ place.Null → false ≡ same_keys (place_in x) (place_in y)
-same-other x y a e f = sym (ap (λ z. same_keys z (place_in y)) e ∙ ap (λ z. same_keys (some a) (place_in z)) f)
+-- ---- A place, as the code holds it.
+abbrev pub CodePlace : Type 0
+CodePlace = lang.Option (Scalar × Half)

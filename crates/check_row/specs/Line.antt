@@ -8,7 +8,7 @@ use Rattle.truth.specs.Cell.{low_comparison, high_comparison}
 use Rattle.truth.specs.Comparison.{Eq, comparison_holds}
 use Rattle.truth.specs.Evaluate.{comparing}
 use Rattle.three_valued.specs.Logic.{is_true}
-use Rattle.truth.specs.declared.scalar.Ordering.{Ordering}
+use Rattle.std.specs.declared.cmp.Ordering.{Ordering}
 use Rattle.constraints.specs.Column.{Constraint}
 use Rattle.constraints.proofs.Columns.{obeys_all}
 use Rattle.merge.specs.Classify.{Conjunct, Bounds, Normalized, Equality, Recorded, NonNullPair, Opaque, classify}

@@ -17,7 +17,7 @@ pub mod says;
 use crate::lines::lines_pass;
 use limits::CONJUNCTS;
 use places::checks::places_ok;
-use plain_lines::{PlainLines, plain_lines};
+use plain_lines::plain_lines;
 
 // 18, then the first n of `nodes`, which are the lines of a plain screen.
 fn judge_row(
@@ -60,15 +60,7 @@ pub fn check_of_screen(
     let mut nodes = [0u32; CONJUNCTS];
     let lines = plain_lines(table, records, pool, used, root, &mut nodes);
     match lines {
-        PlainLines::Refused(k) => k,
-        PlainLines::Lines(n) => judge_row(
-            table.len(),
-            records,
-            pool,
-            &nodes,
-            n as usize,
-            row,
-            nulls,
-        ),
+        Err(r) => r.number(),
+        Ok(n) => judge_row(table.len(), records, pool, &nodes, n as usize, row, nulls),
     }
 }

@@ -36,12 +36,10 @@ pub fn lines_pass(rs: &[u8], p: &[u8], nodes: &[u32], n: usize, row: &[u8], null
     ensures { result ≡ lines_true (aexpr_of rs.now p.now) (places_row row.now nulls)
         nodes.now n }
 {
-    let mut i: usize = 0;
-    while i < n {
+    for i in 0..n {
         if !line_passes(rs, p, Node(nodes[i]), row, nulls) {
             return false;
         }
-        i += 1;
     }
     true
 }

@@ -3,7 +3,6 @@
 ghost use Rattle.std.specs.Prelude.{◌≡◌, List, ℕ};
 ghost use Rattle.std.proofs.Math.Option.{none, some};
 ghost use Rattle.truth.specs.Comparison.{comparison_holds};
-ghost use Rattle.truth.specs.Order.{is_less, is_greater};
 ghost use Rattle.truth.specs.Evaluate.{holds_key};
 ghost use Rattle.truth.specs.FromBytes.{values_from, closes_low, closes_high};
 ghost use Rattle.constraints.proofs.Columns.{null_fits, value_fits};
@@ -17,39 +16,20 @@ use places::place::{Half, Place};
 use read_operands::operands::{Comparison, Says};
 use records::bytes::value_at;
 use records::record::ClosedInterval;
-use truth::scalar::{Ordering, Scalar};
-use truth::value::is_equal;
+use std::cmp::Ordering;
+use truth::scalar::Scalar;
 
-fn is_less(o: Ordering) -> bool
-    ensures { result ≡ is_less o }
-{
-    match o {
-        Ordering::Less => true,
-        Ordering::Equal => false,
-        Ordering::Greater => false,
-    }
-}
-
-fn is_greater(o: Ordering) -> bool
-    ensures { result ≡ is_greater o }
-{
-    match o {
-        Ordering::Less => false,
-        Ordering::Equal => false,
-        Ordering::Greater => true,
-    }
-}
-
+#[tactic(auto, using(truth::proofs::Comparisons::is_ne_lem, truth::proofs::Comparisons::is_le_lem, truth::proofs::Comparisons::is_ge_lem))]
 fn compare_holds(k: Comparison, o: Ordering) -> bool
     ensures { result ≡ comparison_holds (comparison_in k) o }
 {
     match k {
-        Comparison::Eq => is_equal(o),
-        Comparison::NotEq => !is_equal(o),
-        Comparison::Lt => is_less(o),
-        Comparison::LtEq => !is_greater(o),
-        Comparison::Gt => is_greater(o),
-        Comparison::GtEq => !is_less(o),
+        Comparison::Eq => o.is_eq(),
+        Comparison::NotEq => o.is_ne(),
+        Comparison::Lt => o.is_lt(),
+        Comparison::LtEq => o.is_le(),
+        Comparison::Gt => o.is_gt(),
+        Comparison::GtEq => o.is_ge(),
     }
 }
 
@@ -58,45 +38,35 @@ fn within_ends(ends: ClosedInterval, low: Ordering, high: Ordering) -> bool
     ensures { result ≡ within_ends (closes_low ends) (closes_high ends) low high }
 {
     match ends {
-        ClosedInterval::Both => !is_less(low) & !is_greater(high),
-        ClosedInterval::Left => !is_less(low) & is_less(high),
-        ClosedInterval::Right => is_greater(low) & !is_greater(high),
-        ClosedInterval::None => is_greater(low) & is_less(high),
+        ClosedInterval::Both => low.is_ge() & high.is_le(),
+        ClosedInterval::Left => low.is_ge() & high.is_lt(),
+        ClosedInterval::Right => low.is_gt() & high.is_le(),
+        ClosedInterval::None => low.is_gt() & high.is_lt(),
     }
 }
 
 fn null_fits(must: Nullability) -> bool
     ensures { result ≡ null_fits must }
 {
-    match must {
-        Nullability::Unconstrained => true,
-        Nullability::Null => true,
-        Nullability::NonNull => false,
-    }
+    !matches!(must, Nullability::NonNull)
 }
 
 fn value_fits(must: Nullability) -> bool
     ensures { result ≡ value_fits must }
 {
-    match must {
-        Nullability::Unconstrained => true,
-        Nullability::Null => false,
-        Nullability::NonNull => true,
-    }
+    !matches!(must, Nullability::Null)
 }
 
 // Whether one of `count` values of the pool, from the one numbered `start` on, is the place's value.
 fn place_listed(p: &[u8], start: u32, count: u32, whole: Scalar, half: Half) -> bool
     ensures { result ≡ holds_key (key_in whole.0 half) (values_from p.now start count) }
 {
-    let mut i = start as usize;
     let end = start as usize + count as usize;
-    while i < end {
+    for i in start as usize..end {
         let w = Scalar(value_at(p, i));
-        if is_equal(place_cmp(whole, half, w)) {
+        if place_cmp(whole, half, w).is_eq() {
             return true;
         }
-        i += 1;
     }
     false
 }
@@ -137,8 +107,8 @@ pub fn meets(p: &[u8], s: Says, x: Place) -> bool
     ensures { result ≡ meets_all (says_in p.now s) (place_in x) }
 {
     match x {
-        Place::Null => null_meets(s),
-        Place::Known(whole, half) => value_meets(p, s, whole, half),
+        None => null_meets(s),
+        Some((whole, half)) => value_meets(p, s, whole, half),
     }
 }
 
@@ -146,11 +116,8 @@ pub fn meets(p: &[u8], s: Says, x: Place) -> bool
 pub fn same_value(x: Place, y: Place) -> bool
     ensures { result ≡ same_keys (place_in x) (place_in y) }
 {
-    match x {
-        Place::Null => false,
-        Place::Known(whole, half) => match y {
-            Place::Null => false,
-            Place::Known(other, part) => same_place(whole, half, other, part),
-        },
+    match (x, y) {
+        (Some((whole, half)), Some((other, part))) => same_place(whole, half, other, part),
+        _ => false,
     }
 }

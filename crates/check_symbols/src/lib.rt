@@ -30,19 +30,18 @@ fn check_of_numbers(
         pool.now used root row.now nulls }
     ensures listed { row_listed result ≡ true }
 {
-    let k = plain_numbers(table, records, pool, text, used, root, columns, numbers);
-    if k != 0 {
-        return k;
+    match plain_numbers(table, records, pool, text, used, root, columns, numbers) {
+        Err(r) => r.number(),
+        Ok(()) => check_of_screen(
+            &columns[..table.len()],
+            numbers,
+            pool,
+            used,
+            root,
+            row,
+            nulls,
+        ),
     }
-    check_of_screen(
-        &columns[..table.len()],
-        numbers,
-        pool,
-        used,
-        root,
-        row,
-        nulls,
-    )
 }
 
 // It has two callers, so that its copies stand in a frame of their own, which a screen without symbols does not pay for.

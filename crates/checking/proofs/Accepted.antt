@@ -15,8 +15,8 @@ use Rattle.checking.specs.Check.{table_ok_in, sizes_ok_in, meaning_fault_in, rec
 use Rattle.checking.specs.Checked.{CheckedRecordIn, CheckedIn, Checked}
 use Rattle.records.specs.declared.record.Record.{Record}
 use Rattle.records.specs.declared.record.Record.TheVariants as kind
-use Rattle.checking.specs.declared.check.CheckAnswer.{CheckAnswer}
-use Rattle.checking.specs.declared.check.CheckAnswer.TheVariants.{Refused, Accepted}
+use Rattle.checking.specs.Answer.{CheckAnswer}
+use Rattle.checking.specs.Answer.{Refused, Accepted}
 use Rattle.records.proofs.Laws.{by-test, and_left, and_right}
 use Rattle.checking.proofs.Sizes.{used-small_in, used-lent_in}
 

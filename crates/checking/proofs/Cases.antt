@@ -13,8 +13,8 @@ use Rattle.record_check.specs.Fit.{all_fit_in, list_ok_in, reach_ok_in, served_o
 use Rattle.checking.specs.Check.{types_known_in, table_ok_in, sizes_ok_in, meaning_fault_in, record_fault_in, first_fault_in, records_answer_in, check_answer_in, check_answer}
 use Rattle.checking.specs.Tree.{tree_count}
 use Rattle.checking.specs.Columns.{columns_word}
-use Rattle.checking.specs.declared.check.CheckAnswer.{CheckAnswer}
-use Rattle.checking.specs.declared.check.CheckAnswer.TheVariants as check
+use Rattle.checking.specs.Answer.{CheckAnswer}
+use Rattle.checking.specs.Answer as check
 
 -- a record whose fields A, B, C are below 256
 rec : ℕ → ℕ → ℕ → ℕ → ℕ → ℕ → List ℕ

@@ -21,7 +21,7 @@ use Rattle.record_check.specs.Fit.{all_fit_in, list_ok_in, reach_ok_in, served_o
 use Rattle.checking.specs.Check.{types_known_in, table_ok_in, sizes_ok_in, meaning_fault_in, record_fault_in, first_fault_in, records_answer_in}
 use Rattle.checking.specs.Check.{check_answer_in}
 use Rattle.checking.specs.Fault.{answer_of, FaultStands, RecordsStand, Stands}
-use Rattle.checking.specs.declared.check.CheckAnswer.TheVariants as check
+use Rattle.checking.specs.Answer as check
 use Rattle.checking.proofs.Accepted.{no_fault, only, within-limits, not-accepted}
 use Rattle.checking.proofs.Sizes.{table-known_in}
 

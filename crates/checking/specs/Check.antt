@@ -8,8 +8,8 @@ use Rattle.records.specs.Shape.{known_type_in, shape_ok_in}
 use Rattle.record_check.specs.Fit.{reach_ok_in, served_ok, types_ok, type_at}
 use Rattle.records.specs.declared.record.Node.{Node}
 use Rattle.records.specs.declared.record.Record.{Record}
-use Rattle.checking.specs.declared.check.CheckAnswer.{CheckAnswer}
-use Rattle.checking.specs.declared.check.CheckAnswer.TheVariants.{Refused, Accepted}
+use Rattle.checking.specs.Answer.{CheckAnswer}
+use Rattle.checking.specs.Answer.{Refused, Accepted}
 
 -- 1: at most 64 columns, of known types
 unfoldable pub types_known_in : ℕ → List ℕ → Bool

@@ -6,10 +6,10 @@ use Rattle.records.specs.Course.{course}
 use Rattle.records.specs.Record.{node, record_at, inputs}
 use Rattle.records.specs.declared.record.Record.{Record}
 use Rattle.records.specs.declared.record.Record.TheVariants as kind
-use Rattle.checking.specs.declared.check.CheckAnswer.{CheckAnswer}
-use Rattle.checking.specs.declared.check.CheckAnswer.TheVariants as check
-use Rattle.checking.specs.declared.reads.ColumnsAnswer.{ColumnsAnswer}
-use Rattle.checking.specs.declared.reads.ColumnsAnswer.TheVariants as columns
+use Rattle.checking.specs.Answer.{CheckAnswer}
+use Rattle.checking.specs.Answer as check
+use Rattle.checking.specs.ReadAnswer.{ColumnsAnswer}
+use Rattle.checking.specs.ReadAnswer as columns
 
 -- bit c of a word
 abbrev pub bit : ℕ → ℕ → Bool

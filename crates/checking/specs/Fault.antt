@@ -3,8 +3,8 @@
 use Rattle.std.specs.Prelude.{ℕ, ◌%◌, ◌≤◌, List, cond, ◌≡◌, eqb}
 use Rattle.records.specs.Record.{node}
 use Rattle.checking.specs.Check.{first_fault_in, records_answer_in, check_answer_in}
-use Rattle.checking.specs.declared.check.CheckAnswer.{CheckAnswer}
-use Rattle.checking.specs.declared.check.CheckAnswer.TheVariants.{Refused, Accepted}
+use Rattle.checking.specs.Answer.{CheckAnswer}
+use Rattle.checking.specs.Answer.{Refused, Accepted}
 
 unfoldable pub answer_of : ℕ → CheckAnswer
 answer_of f = cond (eqb (f % 8) 0) Accepted (Refused (f % 8))

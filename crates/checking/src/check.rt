@@ -6,30 +6,31 @@ ghost use Rattle.record_check.specs.Step.{Entered};
 ghost use Rattle.record_check.specs.Outside.{CountsOf, Counts};
 ghost use Rattle.checking.specs.Tree.{Counted};
 ghost use Rattle.checking.specs.Fault.{answer_of, FaultStands, RecordsStand, Stands};
-ghost use Rattle.checking.specs.declared.check.CheckAnswer.TheVariants.{Accepted};
+ghost use Rattle.checking.specs.Answer.{Accepted, answered};
 
 use limits::{FEW_RECORDS, VALUES};
 use record_check::outside::fill_outside;
 use record_check::step::record_step;
 use records::record::{Node, fields_in};
+use refusal::Refusal;
 use value_types::known_type;
 
-// What checking answers: a refusal with its number, 1 to 7, or that the screen is accepted. Inside it is a fault: the number,
-// 0 for none, and 8 more where what is refused says the type Text. Where no text pool was lent, one might know it.
-#[derive(Clone, Copy)]
-pub enum CheckAnswer {
-    Refused(u32),
-    Accepted,
-}
-
+// What checking answers is a refusal of 1 to 7, or that the screen is accepted. Inside it is a fault: the number, 0 for none,
+// and 8 more where what is refused says the type Text. Where no text pool was lent, one might know it.
 // The answer that a fault stands for.
-pub fn answer_of(fault: u32) -> CheckAnswer
-    ensures { result ≡ answer_of fault }
+pub fn answer_of(fault: u32) -> Result<(), Refusal>
+    ensures { answered result ≡ answer_of fault }
 {
-    if fault % 8 == 0 {
-        return CheckAnswer::Accepted;
+    match fault % 8 {
+        0 => Ok(()),
+        1 => Err(Refusal::Table),
+        2 => Err(Refusal::Size),
+        3 => Err(Refusal::Root),
+        4 => Err(Refusal::Record),
+        5 => Err(Refusal::Reference),
+        6 => Err(Refusal::Operator),
+        _ => Err(Refusal::Types),
     }
-    CheckAnswer::Refused(fault % 8)
 }
 
 // The fault of what says the type: 8 more at a Text.
@@ -46,12 +47,10 @@ fn types_fault(text: u32, t: &[u8]) -> u32
     ensures result_value { (result ≡ 0 → ⊥) → (result % 8 ≡ 1) × (types_known_in text t.now ≡ false) }
     ensures t_value_2 { (result ≡ 0 → ⊥) → result < 8 → (s : ℕ) → types_known_in s t.now ≡ false }
 {
-    let mut k: usize = 0;
-    while k < t.len() {
-        if !known_type(text, t[k]) {
-            return fault_at(1, t[k]);
+    for ty in t {
+        if !known_type(text, *ty) {
+            return fault_at(1, *ty);
         }
-        k += 1;
     }
     0
 }
@@ -138,8 +137,7 @@ fn fault_below(
     ensures counted { result ≡ 0 → Counted rs.now trees.new used }
     ensures fault_stands { text ≡ 0 → result < 8 → FaultStands t.now rs.now p.now used }
 {
-    let mut i: u32 = 0;
-    while i < used {
+    for i in 0..used {
         let f = fields_in(rs, Node(i));
         let s = record_step(t, p, text, days, truths, symbols, types, trees, f, Node(i));
         if s.fault != 0 {
@@ -147,7 +145,6 @@ fn fault_below(
         }
         types[i as usize] = s.entry;
         trees[i as usize] = cut(s.tree);
-        i += 1;
     }
     0
 }
@@ -297,20 +294,27 @@ pub fn check_counted(
     root: u64,
     types: &mut [u8],
     trees: &mut [u16],
-) -> CheckAnswer
+) -> Result<(), Refusal>
     requires used_in_bounds { used ≤ 4096 → used ≤ length types.old }
     requires used_in_bounds_2 { used ≤ 4096 → used ≤ length trees.old }
-    ensures value { result ≡ check_answer t.now rs.now p.now used root }
-    ensures counted { result ≡ Accepted → Counted rs.now trees.new used }
+    ensures value { answered result ≡ check_answer t.now rs.now p.now used root }
+    ensures counted { answered result ≡ Accepted → Counted rs.now trees.new used }
 {
     answer_of(check_with_text(t, rs, p, 0, used, root, types, trees))
 }
 
 // The answer alone, of a screen of few records: small tables cost less to clear. The slices are passed on once and not
 // twice, which is a tenth of the time of a screen of 3 lines.
-pub fn check_few(t: &[u8], rs: &[u8], p: &[u8], text: u32, used: u64, root: u64) -> CheckAnswer
+pub fn check_few(
+    t: &[u8],
+    rs: &[u8],
+    p: &[u8],
+    text: u32,
+    used: u64,
+    root: u64,
+) -> Result<(), Refusal>
     requires { used ≤ 64 }
-    ensures { result ≡ check_answer_in text t.now rs.now p.now used root }
+    ensures { answered result ≡ check_answer_in text t.now rs.now p.now used root }
 {
     let k = limits_fault(t, rs, p, text, used, root);
     if k != 0 {

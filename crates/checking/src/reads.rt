@@ -7,11 +7,11 @@ ghost use Rattle.checking.specs.Table.{below};
 use limits::{FEW_RECORDS, RECORDS};
 use records::record::{Column, Inputs, Node, Record, inputs_of, record_at};
 
-// What columns read answers: a refusal with its number, or the word and the number of ones in it.
+// What columns read answers: the word, and the number of ones in it.
 #[derive(Clone, Copy)]
-pub enum ColumnsAnswer {
-    Refused(u32),
-    Read(u64, u64),
+pub struct ColumnsRead {
+    pub word: u64,
+    pub count: u64,
 }
 
 fn column_bit(c: Column) -> u64
@@ -69,11 +69,9 @@ fn fill_words(words: &mut [u64], rs: &[u8], root: Node)
     requires root_bound { root.0 < 4096 }
     ensures { (a : ℕ) → a ≤ root.0 → get_or words.new a 0 ≡ columns_word rs.now a }
 {
-    let mut i: u32 = 0;
-    while i <= root.0 {
+    for i in 0..root.0 + 1 {
         let w = columns_step(words, rs, Node(i));
         words[i as usize] = w;
-        i += 1;
     }
 }
 

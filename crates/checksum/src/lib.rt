@@ -25,11 +25,9 @@ fn word_sum(block: &[u8]) -> u64
     ensures upper_bound { result ≤ 549755813760 }
 {
     let mut sum: u64 = 0;
-    let mut k: usize = 0;
-    while k < 64 {
+    for k in 0..64 {
         let word = value_in(block, k);
         sum = add_word(sum, word);
-        k += 1;
     }
     sum
 }

@@ -32,11 +32,9 @@ fn by_pairs(block: &[u8]) -> u16
     ensures { result ≡ checksum (cleared block.now) }
 {
     let mut sum: u32 = 0;
-    let mut k: usize = 1;
-    while k < 256 {
+    for k in 1..256 {
         let word = big_word(block[2 * k], block[2 * k + 1]);
         sum = ones_add(sum, word);
-        k += 1;
     }
     (65535 - sum) as u16
 }

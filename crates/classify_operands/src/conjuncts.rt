@@ -5,36 +5,22 @@ ghost use Rattle.merge.specs.Classify as c;
 ghost use Rattle.read_operands.specs.Read.{ordinary_in, operand_in, listing_in, says_in, conjunct_in, binary_conjunct};
 
 use constraints::column::Nullability;
-use operators::{is_null_propagating_comparison, swap_operands};
-use read_operands::operands::{Comparison, Conjunct, Listing, Operand, Ordinary, Says};
-use records::operator::{Negated, Operator, Swapped, is_left_out, operator_code};
+use read_operands::operands::{Comparison, Conjunct, Listing, Operand, Says};
+use records::operator::Operator;
 use records::record::{ClosedInterval, Column};
 use truth::scalar::Scalar;
 
-fn ordinary_comparison(o: Operator) -> Ordinary
+fn ordinary_comparison(o: Operator) -> Option<Comparison>
     ensures { ordinary_in result ≡ c.ordinary_comparison o }
 {
     match o {
-        Operator::Eq => Ordinary::To(Comparison::Eq),
-        Operator::EqValidity => Ordinary::Nothing,
-        Operator::NotEq => Ordinary::To(Comparison::NotEq),
-        Operator::NotEqValidity => Ordinary::Nothing,
-        Operator::Lt => Ordinary::To(Comparison::Lt),
-        Operator::LtEq => Ordinary::To(Comparison::LtEq),
-        Operator::Gt => Ordinary::To(Comparison::Gt),
-        Operator::GtEq => Ordinary::To(Comparison::GtEq),
-        Operator::Plus => Ordinary::Nothing,
-        Operator::Minus => Ordinary::Nothing,
-        Operator::Multiply => Ordinary::Nothing,
-        Operator::RustDivide => Ordinary::Nothing,
-        Operator::TrueDivide => Ordinary::Nothing,
-        Operator::FloorDivide => Ordinary::Nothing,
-        Operator::Modulus => Ordinary::Nothing,
-        Operator::And => Ordinary::Nothing,
-        Operator::Or => Ordinary::Nothing,
-        Operator::Xor => Ordinary::Nothing,
-        Operator::LogicalAnd => Ordinary::Nothing,
-        Operator::LogicalOr => Ordinary::Nothing,
+        Operator::Eq => Some(Comparison::Eq),
+        Operator::NotEq => Some(Comparison::NotEq),
+        Operator::Lt => Some(Comparison::Lt),
+        Operator::LtEq => Some(Comparison::LtEq),
+        Operator::Gt => Some(Comparison::Gt),
+        Operator::GtEq => Some(Comparison::GtEq),
+        _ => None,
     }
 }
 
@@ -44,68 +30,43 @@ fn column_literal(o: Operator, a: Column, v: Scalar) -> Conjunct
     ensures { (p : List ℕ) (n : ℕ) → conjunct_in p n result ≡ c.classify_column_literal n a.0 v.0
         (c.ordinary_comparison o) }
 {
-    let ordinary = ordinary_comparison(o);
-    match ordinary {
-        Ordinary::Nothing => Conjunct::Recorded(false, a, Says::Nothing),
-        Ordinary::To(k) => Conjunct::Bounds(a, Says::Compare(k, v)),
+    match ordinary_comparison(o) {
+        None => Conjunct::Recorded(false, a, Says::Nothing),
+        Some(k) => Conjunct::Bounds(a, Says::Compare(k, v)),
     }
 }
 
 // `lit op col` is read as `col op' lit`, with the operator of `swap_operands`.
-fn literal_column(swapped: Swapped, a: Column, v: Scalar) -> Conjunct
+fn literal_column(swapped: Option<Operator>, a: Column, v: Scalar) -> Conjunct
     ensures { (p : List ℕ) (n : ℕ) → conjunct_in p n result ≡ c.classify_literal_column n a.0 v.0 swapped }
 {
     match swapped {
-        Swapped::Nothing => Conjunct::Opaque,
-        Swapped::To(o) => column_literal(o, a, v),
+        None => Conjunct::Opaque,
+        Some(o) => column_literal(o, a, v),
     }
 }
 
 fn column_column(o: Operator, a: Column, b: Column) -> Conjunct
     ensures { (p : List ℕ) (n : ℕ) → conjunct_in p n result ≡ c.classify_column_column n a.0 b.0 o }
 {
-    if !is_null_propagating_comparison(o) {
+    if !o.is_null_propagating_comparison() {
         return Conjunct::Opaque;
     }
-    if operator_code(o) == 0 {
+    if o == Operator::Eq {
         return Conjunct::Equality(a, b);
     }
     Conjunct::NonNullPair(a, b)
-}
-
-fn column_first(o: Operator, a: Column, right: Operand) -> Conjunct
-    ensures { (p : List ℕ) (n : ℕ) → conjunct_in p n result ≡ c.classify_comparison n o (c.AColumn a.0)
-        (operand_in p right) }
-{
-    match right {
-        Operand::Column(b) => column_column(o, a, b),
-        Operand::Literal(v) => column_literal(o, a, v),
-        Operand::List(_, _) => Conjunct::Opaque,
-        Operand::Other => Conjunct::Opaque,
-    }
-}
-
-fn literal_first(o: Operator, v: Scalar, right: Operand) -> Conjunct
-    ensures { (p : List ℕ) (n : ℕ) → conjunct_in p n result ≡ c.classify_comparison n o (c.ALiteral v.0)
-        (operand_in p right) }
-{
-    match right {
-        Operand::Column(a) => literal_column(swap_operands(o), a, v),
-        Operand::Literal(_) => Conjunct::Opaque,
-        Operand::List(_, _) => Conjunct::Opaque,
-        Operand::Other => Conjunct::Opaque,
-    }
 }
 
 fn classify_comparison(o: Operator, left: Operand, right: Operand) -> Conjunct
     ensures { (p : List ℕ) (n : ℕ) → conjunct_in p n result ≡ c.classify_comparison n o (operand_in p left)
         (operand_in p right) }
 {
-    match left {
-        Operand::Column(a) => column_first(o, a, right),
-        Operand::Literal(v) => literal_first(o, v, right),
-        Operand::List(_, _) => Conjunct::Opaque,
-        Operand::Other => Conjunct::Opaque,
+    match (left, right) {
+        (Operand::Column(a), Operand::Column(b)) => column_column(o, a, b),
+        (Operand::Column(a), Operand::Literal(v)) => column_literal(o, a, v),
+        (Operand::Literal(v), Operand::Column(a)) => literal_column(o.swap_operands(), a, v),
+        _ => Conjunct::Opaque,
     }
 }
 
@@ -114,37 +75,13 @@ pub fn binary_conjunct(o: Operator, left: Operand, right: Operand) -> Conjunct
     ensures { (p : List ℕ) (n : ℕ) → conjunct_in p n result ≡ binary_conjunct n o (operand_in p left)
         (operand_in p right) }
 {
-    if is_left_out(o) {
+    if o.is_left_out() {
         return Conjunct::Opaque;
     }
     classify_comparison(o, left, right)
 }
 
 // ---- is_between
-
-fn between_high(ends: ClosedInterval, a: Column, v: Scalar, high: Operand) -> Conjunct
-    ensures { (p : List ℕ) (n : ℕ) → conjunct_in p n result ≡ c.classify_is_between n (closes_low ends) (closes_high ends)
-        (c.AColumn a.0) (c.ALiteral v.0) (operand_in p high) }
-{
-    match high {
-        Operand::Column(_) => Conjunct::Opaque,
-        Operand::Literal(w) => Conjunct::Bounds(a, Says::Between(ends, v, w)),
-        Operand::List(_, _) => Conjunct::Opaque,
-        Operand::Other => Conjunct::Opaque,
-    }
-}
-
-fn between_low(ends: ClosedInterval, a: Column, low: Operand, high: Operand) -> Conjunct
-    ensures { (p : List ℕ) (n : ℕ) → conjunct_in p n result ≡ c.classify_is_between n (closes_low ends) (closes_high ends)
-        (c.AColumn a.0) (operand_in p low) (operand_in p high) }
-{
-    match low {
-        Operand::Column(_) => Conjunct::Opaque,
-        Operand::Literal(v) => between_high(ends, a, v, high),
-        Operand::List(_, _) => Conjunct::Opaque,
-        Operand::Other => Conjunct::Opaque,
-    }
-}
 
 pub fn classify_is_between(
     ends: ClosedInterval,
@@ -155,11 +92,11 @@ pub fn classify_is_between(
     ensures { (p : List ℕ) (n : ℕ) → conjunct_in p n result ≡ c.classify_is_between n (closes_low ends) (closes_high ends)
         (operand_in p a) (operand_in p low) (operand_in p high) }
 {
-    match a {
-        Operand::Column(x) => between_low(ends, x, low, high),
-        Operand::Literal(_) => Conjunct::Opaque,
-        Operand::List(_, _) => Conjunct::Opaque,
-        Operand::Other => Conjunct::Opaque,
+    match (a, low, high) {
+        (Operand::Column(x), Operand::Literal(v), Operand::Literal(w)) => {
+            Conjunct::Bounds(x, Says::Between(ends, v, w))
+        }
+        _ => Conjunct::Opaque,
     }
 }
 
@@ -174,27 +111,15 @@ fn listing_says(k: Listing, start: u32, count: u32) -> Says
     }
 }
 
-fn list_of_column(k: Listing, a: Column, list: Operand) -> Conjunct
-    ensures { (p : List ℕ) (n : ℕ) → conjunct_in p n result ≡ c.classify_is_in n (listing_in k) (c.AColumn a.0)
-        (operand_in p list) }
-{
-    match list {
-        Operand::Column(_) => Conjunct::Opaque,
-        Operand::Literal(_) => Conjunct::Opaque,
-        Operand::List(start, count) => Conjunct::Recorded(false, a, listing_says(k, start, count)),
-        Operand::Other => Conjunct::Opaque,
-    }
-}
-
 pub fn classify_is_in(k: Listing, a: Operand, list: Operand) -> Conjunct
     ensures { (p : List ℕ) (n : ℕ) → conjunct_in p n result ≡ c.classify_is_in n (listing_in k) (operand_in p a)
         (operand_in p list) }
 {
-    match a {
-        Operand::Column(x) => list_of_column(k, x, list),
-        Operand::Literal(_) => Conjunct::Opaque,
-        Operand::List(_, _) => Conjunct::Opaque,
-        Operand::Other => Conjunct::Opaque,
+    match (a, list) {
+        (Operand::Column(x), Operand::List(start, count)) => {
+            Conjunct::Recorded(false, x, listing_says(k, start, count))
+        }
+        _ => Conjunct::Opaque,
     }
 }
 
@@ -205,9 +130,7 @@ pub fn classify_null(must: Nullability, a: Operand) -> Conjunct
 {
     match a {
         Operand::Column(x) => Conjunct::Recorded(true, x, Says::Require(must)),
-        Operand::Literal(_) => Conjunct::Opaque,
-        Operand::List(_, _) => Conjunct::Opaque,
-        Operand::Other => Conjunct::Opaque,
+        _ => Conjunct::Opaque,
     }
 }
 
@@ -218,21 +141,17 @@ fn normalized(k: Conjunct) -> Conjunct
 {
     match k {
         Conjunct::Bounds(a, s) => Conjunct::Normalized(a, s),
-        Conjunct::Normalized(a, s) => Conjunct::Normalized(a, s),
-        Conjunct::Equality(a, b) => Conjunct::Equality(a, b),
-        Conjunct::Recorded(stops, a, s) => Conjunct::Recorded(stops, a, s),
-        Conjunct::NonNullPair(a, b) => Conjunct::NonNullPair(a, b),
-        Conjunct::Opaque => Conjunct::Opaque,
+        _ => k,
     }
 }
 
 // A comparison below Not, by its complementary operator.
-pub fn classify_negated(op: Negated, left: Operand, right: Operand) -> Conjunct
+pub fn classify_negated(op: Option<Operator>, left: Operand, right: Operand) -> Conjunct
     ensures { (p : List ℕ) (n : ℕ) → conjunct_in p n result ≡ c.classify_negated n op (operand_in p left)
         (operand_in p right) }
 {
     match op {
-        Negated::Nothing => Conjunct::Opaque,
-        Negated::To(o) => normalized(classify_comparison(o, left, right)),
+        None => Conjunct::Opaque,
+        Some(o) => normalized(classify_comparison(o, left, right)),
     }
 }

@@ -53,11 +53,7 @@ fn enter(seen: &mut [bool], order: &mut [u32], columns: usize, a: Column) -> usi
 fn is_required(n: Nullability) -> bool
     ensures { result ≡ is_required n }
 {
-    match n {
-        Nullability::Unconstrained => false,
-        Nullability::Null => true,
-        Nullability::NonNull => true,
-    }
+    !matches!(n, Nullability::Unconstrained)
 }
 
 // What the column c became under conjunct j: a null requirement that it had keeps its number, a new one gets j.
@@ -245,13 +241,14 @@ pub fn collect(
         normalized: false,
         unsat: false,
     };
-    let mut i: usize = 0;
-    while (i < n) & !held.unsat {
+    for i in 0..n {
+        if held.unsat {
+            return held;
+        }
         held = collect_conjunct(
             rs, pool, nodes[i], told, cells, marks, &mut seen, order, kept, lefts, rights, equals,
             i as u8, held,
         );
-        i += 1;
     }
     held
 }

@@ -77,14 +77,7 @@ fn any_outside(
 {
     let s = start_at(told, f as usize) as usize;
     let m = count_at(told, f as usize) as usize;
-    let mut i: usize = 0;
-    while i < m {
-        if is_outside(index, told, pool, marks, n, allowed, j, s + i) {
-            return true;
-        }
-        i += 1;
-    }
-    false
+    (0..m).any(|i| is_outside(index, told, pool, marks, n, allowed, j, s + i))
 }
 
 // Is some value that every allowed list has not in the list of j. With no allowed list yet, the list itself is news.
@@ -94,14 +87,12 @@ fn allowed_narrows(index: &[u64], told: &[u64], pool: &[u8], marks: &[u8], n: us
         (counts_in told.now) pool.now marks.now n)
         (values_of (starts_in told.now) (counts_in told.now) pool.now j) }
 {
-    let mut i: usize = 0;
-    while i < n {
+    for i in 0..n {
         let f = byte(marks, i);
         if kind_at(told, f as usize) == 1 {
             let allowed = kind_set(told, marks, n, 1);
             return any_outside(index, told, pool, marks, n, &allowed, f, j);
         }
-        i += 1;
     }
     true
 }
@@ -145,14 +136,7 @@ fn disallowed_widens(
     let disallowed = kind_set(told, marks, n, 2);
     let s = start_at(told, j as usize) as usize;
     let m = count_at(told, j as usize) as usize;
-    let mut i: usize = 0;
-    while i < m {
-        if !disallows_at(index, told, pool, marks, n, &disallowed, s + i) {
-            return true;
-        }
-        i += 1;
-    }
-    false
+    (0..m).any(|i| !disallows_at(index, told, pool, marks, n, &disallowed, s + i))
 }
 
 pub fn disallowed_changes(
@@ -247,9 +231,8 @@ fn any_feasible(
     let excluding = has_kind(told, marks, c.len, 0);
     let s = start_at(told, f as usize) as usize;
     let m = count_at(told, f as usize) as usize;
-    let mut i: usize = 0;
-    while i < m {
-        if is_feasible(
+    (0..m).any(|i| {
+        is_feasible(
             index,
             told,
             pool,
@@ -259,12 +242,8 @@ fn any_feasible(
             excluding,
             c,
             s + i,
-        ) {
-            return true;
-        }
-        i += 1;
-    }
-    false
+        )
+    })
 }
 
 /// Is some allowed value feasible; true of a column with no allowed list.
@@ -281,13 +260,11 @@ pub fn any_allowed(
         (column_of t (numbered marks.now c)).allowed }
 {
     let n = c.len;
-    let mut i: usize = 0;
-    while i < n {
+    for i in 0..n {
         let f = byte(marks, i);
         if kind_at(told, f as usize) == 1 {
             return any_feasible(index, told, pool, marks, c, f);
         }
-        i += 1;
     }
     true
 }

@@ -1,6 +1,7 @@
 -- What the code's column stands for: numbers of conjuncts stand for the values that those conjuncts give. The
 -- contracts say that a function's result stands for what the definition gives of what its arguments stand for. Read
 -- `Conjuncts`, then `column_of`.
+use Rattle.std.specs.Prelude as code
 use Rattle.std.specs.Prelude.{ℕ, zero, suc, ◌+◌, ◌/◌, ◌%◌, ◌<◌, ◌≡◌, Bool, true, false, cond, ◌||◌, List, [], ◌∷◌, ◌++◌, map, get_or, set, eqb}
 use Rattle.std.proofs.Math.Option.{Option, none, some}
 use Rattle.truth.specs.FromBytes.{values_from}
@@ -15,8 +16,6 @@ use Rattle.column_constraints.specs.declared.bound.Tightened.{Tightened}
 use Rattle.column_constraints.specs.declared.bound.Bound.TheVariants.{Absent, Open, Closed}
 use Rattle.constraints.specs.declared.column.Nullability.{Nullability}
 use Rattle.column_constraints.specs.declared.column.ColumnConstraints.{ColumnConstraints}
-use Rattle.column_constraints.specs.declared.column.FixedValue.{FixedValue}
-use Rattle.column_constraints.specs.declared.column.FixedValue.TheVariants.{Nothing, At}
 use Rattle.column_constraints.specs.declared.column.Compared.{Compared}
 use Rattle.column_constraints.specs.declared.column.Compared.TheVariants as m
 
@@ -138,9 +137,9 @@ column_of t c =
       unsat = c.unsat;
     }
 
-abbrev pub fixed_of : FixedValue → Option Lined
-fixed_of Nothing = none
-fixed_of (At s) = some (limit_of s)
+abbrev pub fixed_of : code.Option Limit → Option Lined
+fixed_of code.None = none
+fixed_of (code.Some s) = some (limit_of s)
 
 abbrev pub compared_of : Compared → List (e.ColumnComparison Lined)
 compared_of m.Vacant = []

@@ -10,7 +10,8 @@ ghost use Rattle.column_constraints.specs.Abstraction.{limit_of, bound_of, tight
 ghost use Rattle.constraints.specs.declared.column.BoundChange.TheVariants.{NewValue};
 
 use constraints::column::BoundChange;
-use truth::scalar::{Ordering, Scalar, scalar_cmp};
+use std::cmp::Ordering;
+use truth::scalar::{Scalar, scalar_cmp};
 
 /// A value with the number of the conjunct that gave it. `opener` is 0, or one more than the number of the conjunct whose
 /// excluded value opened the bound.
@@ -45,12 +46,7 @@ pub fn compare(v: Limit, w: Limit) -> Ordering
 pub fn same(v: Scalar, w: Scalar) -> bool
     ensures { result ≡ is_equal (scalar_cmp payload v.0 w.0) }
 {
-    let o = scalar_cmp(v, w);
-    match o {
-        Ordering::Less => false,
-        Ordering::Equal => true,
-        Ordering::Greater => false,
-    }
+    scalar_cmp(v, w).is_eq()
 }
 
 fn bound_at(v: Limit, inclusive: bool) -> Bound
@@ -133,11 +129,7 @@ pub fn tighten_upper(held: Bound, v: Limit, inclusive: bool) -> Tightened
 pub fn is_change(k: BoundChange) -> bool
     ensures { result ≡ is_change k }
 {
-    match k {
-        BoundChange::NewValue => true,
-        BoundChange::NewlyOpen => true,
-        BoundChange::NoChange => false,
-    }
+    !matches!(k, BoundChange::NoChange)
 }
 
 fn crosses_by(o: Ordering, c: bool, d: bool) -> bool
@@ -224,9 +216,5 @@ pub fn clears_upper(u: Bound, v: Scalar) -> bool
 pub fn is_absent(b: Bound) -> bool
     ensures { result ≡ is_absent (bound_of b) }
 {
-    match b {
-        Bound::Absent => true,
-        Bound::Open(_) => false,
-        Bound::Closed(_) => false,
-    }
+    matches!(b, Bound::Absent)
 }

@@ -5,7 +5,6 @@ ghost use Rattle.constraints.specs.Column.{is_null_required};
 ghost use Rattle.constraints.specs.Lined.{lined};
 ghost use Rattle.column_constraints.specs.Abstraction.{Conjuncts, numbered, column_of, limit_of};
 ghost use Rattle.column_constraints.specs.Steps.{consistent};
-ghost use Rattle.constraints.specs.declared.column.Nullability.TheVariants.{Null};
 
 use crate::bound::{Bound, Limit, crosses, tighten_lower, tighten_upper};
 use constraints::column::{BoundChange, Nullability};
@@ -53,17 +52,9 @@ pub fn check_bound_consistency(c: ColumnConstraints) -> ColumnConstraints
     ensures result_value { (t : Conjuncts) (a : List ℕ) → column_of t (numbered a result) ≡ consistent (column_of t (numbered a c)) }
     ensures len_value { result.len ≡ c.len }
 {
-    let low = c.lower;
-    let upp = c.upper;
-    let nul = c.nullability;
     ColumnConstraints {
-        lower: low,
-        upper: upp,
-        len: c.len,
-        strict: c.strict,
-        nullability: nul,
-        since: c.since,
-        unsat: c.unsat | crosses(low, upp),
+        unsat: c.unsat | crosses(c.lower, c.upper),
+        ..c
     }
 }
 
@@ -80,24 +71,15 @@ pub fn add_lower(c: ColumnConstraints, v: Limit, inclusive: bool) -> Bounded
             change: BoundChange::NoChange,
         };
     }
-    let low = c.lower;
-    let upp = c.upper;
-    let nul = c.nullability;
-    let m = tighten_lower(low, v, inclusive);
-    let b = m.bound;
-    let k = m.change;
-    let d = ColumnConstraints {
-        lower: b,
-        upper: upp,
-        len: c.len,
-        strict: c.strict,
-        nullability: nul,
-        since: c.since,
-        unsat: crosses(b, upp),
+    let m = tighten_lower(c.lower, v, inclusive);
+    let column = ColumnConstraints {
+        lower: m.bound,
+        unsat: crosses(m.bound, c.upper),
+        ..c
     };
     Bounded {
-        column: d,
-        change: k,
+        column,
+        change: m.change,
     }
 }
 
@@ -114,24 +96,15 @@ pub fn add_upper(c: ColumnConstraints, v: Limit, inclusive: bool) -> Bounded
             change: BoundChange::NoChange,
         };
     }
-    let low = c.lower;
-    let upp = c.upper;
-    let nul = c.nullability;
-    let m = tighten_upper(upp, v, inclusive);
-    let b = m.bound;
-    let k = m.change;
-    let d = ColumnConstraints {
-        lower: low,
-        upper: b,
-        len: c.len,
-        strict: c.strict,
-        nullability: nul,
-        since: c.since,
-        unsat: crosses(low, b),
+    let m = tighten_upper(c.upper, v, inclusive);
+    let column = ColumnConstraints {
+        upper: m.bound,
+        unsat: crosses(c.lower, m.bound),
+        ..c
     };
     Bounded {
-        column: d,
-        change: k,
+        column,
+        change: m.change,
     }
 }
 
@@ -143,17 +116,10 @@ pub fn require_nullability(c: ColumnConstraints, n: Nullability) -> ColumnConstr
     if c.unsat {
         return c;
     }
-    let low = c.lower;
-    let upp = c.upper;
-    let nul = c.nullability;
     ColumnConstraints {
-        lower: low,
-        upper: upp,
-        len: c.len,
-        strict: c.strict,
-        nullability: nullability_kept(nul, n),
-        since: c.since,
-        unsat: nullability_clashes(nul, n),
+        nullability: nullability_kept(c.nullability, n),
+        unsat: nullability_clashes(c.nullability, n),
+        ..c
     }
 }
 
@@ -162,46 +128,23 @@ fn nullability_kept(m: Nullability, n: Nullability) -> Nullability
 {
     match m {
         Nullability::Unconstrained => n,
-        Nullability::Null => Nullability::Null,
-        Nullability::NonNull => Nullability::NonNull,
+        _ => m,
     }
 }
 
 fn nullability_clashes(m: Nullability, n: Nullability) -> bool
     ensures { result ≡ q.opposed m n }
 {
-    match m {
-        Nullability::Unconstrained => false,
-        Nullability::Null => is_non_null(n),
-        Nullability::NonNull => is_null(n),
-    }
+    matches!(
+        (m, n),
+        (Nullability::Null, Nullability::NonNull) | (Nullability::NonNull, Nullability::Null)
+    )
 }
 
 pub fn is_null(n: Nullability) -> bool
     ensures { result ≡ is_null_required n }
 {
-    match n {
-        Nullability::Unconstrained => false,
-        Nullability::Null => true,
-        Nullability::NonNull => false,
-    }
-}
-
-fn is_non_null(n: Nullability) -> bool
-    ensures { result ≡ q.opposed Null n }
-{
-    match n {
-        Nullability::Unconstrained => false,
-        Nullability::Null => false,
-        Nullability::NonNull => true,
-    }
-}
-
-/// The single value of a closed range that is a point, if the range is one.
-#[derive(Clone, Copy)]
-pub enum FixedValue {
-    Nothing,
-    At(Limit),
+    matches!(n, Nullability::Null)
 }
 
 /// One place of a column.

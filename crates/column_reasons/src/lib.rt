@@ -92,11 +92,9 @@ pub fn column_length(t: &[u8], a: Column, told: &[u64], marks: &[u8], c: ColumnC
 {
     let places = c.len + 2;
     let mut size: usize = 0;
-    let mut p: usize = 0;
-    while p < places {
+    for p in 0..places {
         let k = comparison_at(told, marks, c, p);
         size = size + place_length(t, a, k);
-        p += 1;
     }
     size
 }
@@ -125,11 +123,9 @@ pub fn write_column_reasons(
 {
     let places = c.len + 2;
     let mut next = at;
-    let mut p: usize = 0;
-    while p < places {
+    for p in 0..places {
         let k = comparison_at(told, marks, c, p);
         next = write_place(out, next, t, text, a, k);
-        p += 1;
     }
     next
 }

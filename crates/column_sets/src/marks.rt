@@ -65,31 +65,14 @@ pub fn excludes(told: &[u64], marks: &[u8], n: usize, v: Scalar) -> bool
     ensures { result ≡ contains lined (payload.key v.0) (excluded_by (kinds_in told.now) (values_in told.now)
         marks.now n) }
 {
-    let mut i: usize = 0;
-    while i < n {
-        let j = byte(marks, i);
-        if is_excluded_by(told, j, v) {
-            return true;
-        }
-        i += 1;
-    }
-    false
+    (0..n).any(|i| is_excluded_by(told, byte(marks, i), v))
 }
 
 fn in_list(pool: &[u8], start: u32, count: u32, v: Scalar) -> bool
     ensures { result ≡ contains payload (payload.key v.0) (values_from pool.now start count) }
 {
     let s = start as usize;
-    let n = count as usize;
-    let mut i: usize = 0;
-    while i < n {
-        let w = Scalar(value_at(pool, s + i));
-        if same(v, w) {
-            return true;
-        }
-        i += 1;
-    }
-    false
+    (0..count as usize).any(|i| same(v, Scalar(value_at(pool, s + i))))
 }
 
 /// Is v in the list of conjunct j.
@@ -116,15 +99,7 @@ pub fn disallows(told: &[u64], pool: &[u8], marks: &[u8], n: usize, v: Scalar) -
         (disallowed_by (kinds_in told.now) (starts_in told.now) (counts_in told.now) pool.now
         marks.now n) }
 {
-    let mut i: usize = 0;
-    while i < n {
-        let j = byte(marks, i);
-        if is_disallowed_by(told, pool, j, v) {
-            return true;
-        }
-        i += 1;
-    }
-    false
+    (0..n).any(|i| is_disallowed_by(told, pool, byte(marks, i), v))
 }
 
 fn is_barred_by(told: &[u64], pool: &[u8], j: u8, v: Scalar) -> bool
@@ -141,29 +116,13 @@ pub fn allows(told: &[u64], pool: &[u8], marks: &[u8], n: usize, v: Scalar) -> b
         (counts_in told.now)
         pool.now marks.now n) (payload.key v.0) }
 {
-    let mut i: usize = 0;
-    while i < n {
-        let j = byte(marks, i);
-        if is_barred_by(told, pool, j, v) {
-            return false;
-        }
-        i += 1;
-    }
-    true
+    (0..n).all(|i| !is_barred_by(told, pool, byte(marks, i), v))
 }
 
 pub fn has_mark(marks: &[u8], n: usize, j: u8) -> bool
     ensures { result ≡ marked marks.now n j }
 {
-    let mut i: usize = 0;
-    while i < n {
-        let m = byte(marks, i);
-        if m == j {
-            return true;
-        }
-        i += 1;
-    }
-    false
+    (0..n).any(|i| byte(marks, i) == j)
 }
 
 // ---- numbers of conjuncts as sets
@@ -174,11 +133,9 @@ pub fn number_set(marks: &[u8], n: usize) -> [u64; 2]
     ensures { NumberSet marks.now n result }
 {
     let mut set = [0u64; 2];
-    let mut i: usize = 0;
-    while i < n {
+    for i in 0..n {
         let j = byte(marks, i);
         put(&mut set, 0, j as usize);
-        i += 1;
     }
     set
 }
@@ -189,14 +146,11 @@ pub fn kind_set(told: &[u64], marks: &[u8], n: usize, k: u64) -> [u64; 2]
     ensures { KindSet (kinds_in told.now) k marks.now n result }
 {
     let mut set = [0u64; 2];
-    let mut i: usize = 0;
-    while i < n {
+    for i in 0..n {
         let j = byte(marks, i);
-        i += 1;
-        if kind_at(told, j as usize) != k {
-            continue;
+        if kind_at(told, j as usize) == k {
+            put(&mut set, 0, j as usize);
         }
-        put(&mut set, 0, j as usize);
     }
     set
 }
@@ -288,11 +242,7 @@ pub fn copied(marks: &[u8], n: usize) -> [u8; 128]
     ensures { (i : ℕ) → i < n → get_or result i 0 ≡ get_or marks.now i 0 }
 {
     let mut r = [0u8; CONJUNCTS];
-    let mut i: usize = 0;
-    while i < n {
-        r[i] = marks[i];
-        i += 1;
-    }
+    r[..n].copy_from_slice(&marks[..n]);
     r
 }
 
@@ -400,13 +350,5 @@ pub fn add_disallowed(
 pub fn has_kind(told: &[u64], marks: &[u8], n: usize, k: u64) -> bool
     ensures { result ≡ any_of_kind (kinds_in told.now) k marks.now n }
 {
-    let mut i: usize = 0;
-    while i < n {
-        let j = byte(marks, i);
-        if kind_at(told, j as usize) == k {
-            return true;
-        }
-        i += 1;
-    }
-    false
+    (0..n).any(|i| kind_at(told, byte(marks, i) as usize) == k)
 }

@@ -1,7 +1,7 @@
 -- A number that a column holds changes nothing in it, also after others have been taken. Assumes nothing.
 use mathlib.Core.Path.{◌≡◌, refl, sym, ◌∙◌, ap}
-use mathlib.Core.Bool.{Bool, true, false, not, cond, ◌&&◌, ◌||◌, or-true, or-false}
-use mathlib.Core.List.{List, [], ◌∷◌}
+use mathlib.Core.Bool.{Bool, true, false, cond, or-false}
+use mathlib.Core.List.{List}
 use mathlib.Core.Option.{Option, none, some}
 use Prim.Native.Nat.{ℕ, ◌+◌}
 use lib.ListN.{get_or}
@@ -10,7 +10,7 @@ use Rattle.constraints.specs.Column as q
 use Rattle.constraints.specs.Payload.{payload}
 use Rattle.constraints.specs.Lined.{Lined, lined}
 use Rattle.constraints.proofs.Sets.{contains-extend, subset-contains, extend-subset}
-use Rattle.column_constraints.specs.Abstraction.{Conjuncts, Numbered, column_of, of_kind, literal_at, values_of, marked}
+use Rattle.column_constraints.specs.Abstraction.{Conjuncts, Numbered, column_of, literal_at, values_of, marked}
 use Rattle.column_constraints.specs.Abstraction.{excluded_by, allowed_by, disallowed_by}
 use Rattle.column_constraints.specs.Steps.{Merging, emitting, recording, take_mark, take_marks}
 use Rattle.column_constraints.proofs.Pigeon.{Eq, yes, no, eq-view}

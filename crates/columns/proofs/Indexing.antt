@@ -1,9 +1,9 @@
 -- Making the index: each rising value has one set, and each list's conjunct is in the sets of its values. Assumes nothing.
 use mathlib.Core.Path.{◌≡◌, refl, sym, ◌∙◌, ap}
-use mathlib.Core.Bool.{Bool, true, false, not, ◌&&◌, ◌||◌, true≢false, or-true, or-false, and-false}
-use mathlib.Core.List.{List, [], ◌∷◌, ◌++◌}
+use mathlib.Core.Bool.{Bool, true, false, ◌&&◌, ◌||◌, or-true, or-false, and-false}
+use mathlib.Core.List.{List, [], ◌∷◌}
 use mathlib.Core.Logic.{◌⊎◌, inl, inr, ⊎_elim}
-use Prim.Native.Nat.{ℕ, zero, suc, ◌+◌, ◌-◌, ◌*◌, ◌/◌, ◌%◌, ◌^◌, ◌<◌, ◌≤◌}
+use Prim.Native.Nat.{ℕ, ◌+◌, ◌-◌, ◌*◌, ◌/◌, ◌%◌, ◌^◌, ◌<◌, ◌≤◌}
 use native.Mathlib.Omega.{arith}
 use native.Mathlib.Numerals.{add-one}
 use lib.ListN.{length, get_or, set}
@@ -20,13 +20,12 @@ use Rattle.truth.specs.Halves.{bias_of}
 use Rattle.truth.proofs.Orders.{cmp-refl}
 use Rattle.truth.proofs.Keys.{says_less, says-greater}
 use Rattle.constraints.specs.Scalars.{scalar_cmp}
-use Rattle.constraints.specs.Values.{contains}
 use Rattle.constraints.specs.Payload.{payload}
 use Rattle.constraints.proofs.Sets.{contains-append}
-use Rattle.sorted.specs.Rising.{In, Rising, Found}
+use Rattle.sorted.specs.Rising.{Rising, Found}
 use Rattle.sorted.specs.BitSets.{member, Put}
 use Rattle.column_constraints.specs.Abstraction.{list_of, starts_in, counts_in}
-use Rattle.column_sets.specs.Index.{riser_in, Indexed, Placed, Sets, ValuePut}
+use Rattle.column_sets.specs.Index.{riser_in, Indexed, Sets, ValuePut}
 use Rattle.column_constraints.proofs.Pigeon.{Eq, yes, no, eq-view}
 use Rattle.column_sets.proofs.Lists.{values-snoc}
 

@@ -11,7 +11,7 @@ ghost use Rattle.column_constraints.specs.Abstraction.{kinds_in, values_in};
 ghost use Rattle.column_constraints.specs.Steps.{placed_mark, placed_free, placed_point, placed};
 
 use column_constraints::bound::{Bound, Limit, is_absent};
-use column_constraints::column::{ColumnConstraints, Compared, FixedValue};
+use column_constraints::column::{ColumnConstraints, Compared};
 use column_sets::marks::limit_at;
 use column_sets::told::kind_at;
 use records::bytes::byte;
@@ -68,10 +68,9 @@ pub fn comparison_at(told: &[u64], marks: &[u8], c: ColumnConstraints, p: usize)
     ensures { (t : Conjuncts) → t.kinds ≡ kinds_in told.now → t.values ≡ values_in told.now →
         compared_of result ≡ placed t (numbered marks.now c) p }
 {
-    let f = fixed_value(c);
-    match f {
-        FixedValue::Nothing => at_place(told, marks, c, p),
-        FixedValue::At(v) => at_point(v, p),
+    match fixed_value(c) {
+        None => at_place(told, marks, c, p),
+        Some(v) => at_point(v, p),
     }
 }
 
@@ -88,11 +87,9 @@ fn excluded_count(told: &[u64], marks: &[u8], n: usize) -> usize
     ensures { (vs : List ℕ) → result ≡ length (excluded_by (kinds_in told.now) vs marks.now n) }
 {
     let mut m: usize = 0;
-    let mut i: usize = 0;
-    while i < n {
+    for i in 0..n {
         let j = byte(marks, i);
         m = m + counted(kind_at(told, j as usize) == 0);
-        i += 1;
     }
     m
 }
@@ -112,14 +109,11 @@ pub fn comparison_count(told: &[u64], marks: &[u8], c: ColumnConstraints) -> usi
     ensures { (t : Conjuncts) → t.kinds ≡ kinds_in told.now →
         result ≡ length (collect_column_comparisons lined (column_of t (numbered marks.now c))) }
 {
-    let low = c.lower;
-    let upp = c.upper;
-    let f = fixed_value(c);
-    match f {
-        FixedValue::Nothing => {
+    match fixed_value(c) {
+        None => {
             let n = excluded_count(told, marks, c.len);
-            counted(!is_absent(low)) + (counted(!is_absent(upp)) + n)
+            counted(!is_absent(c.lower)) + (counted(!is_absent(c.upper)) + n)
         }
-        FixedValue::At(_) => 1,
+        Some(_) => 1,
     }
 }

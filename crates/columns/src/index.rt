@@ -23,14 +23,6 @@ pub const WIDE_INDEX: usize = 2 * VALUES + 2 * (VALUES + RECORDS);
 
 // ---- the values
 
-fn clear(seen: &mut [u64]) {
-    let mut p: usize = 0;
-    while p < seen.len() {
-        seen[p] = 0;
-        p += 1;
-    }
-}
-
 // Whether place p came before; `seen` covers some places.
 fn came_before(seen: &mut [u64], p: usize) -> bool {
     if p < seen.len() {
@@ -67,10 +59,8 @@ fn gather_list(
     ensures { result ≤ length values.new }
 {
     let mut k = n;
-    let mut i: usize = 0;
-    while i < count {
+    for i in 0..count {
         k = gather_value(pool, start + i, values, seen, k);
-        i += 1;
     }
     k
 }
@@ -80,12 +70,10 @@ fn gather(told: &[u64], pool: &[u8], values: &mut [u64], seen: &mut [u64]) -> us
     ensures { result ≤ length values.new }
 {
     let mut n: usize = 0;
-    let mut j: usize = 0;
-    while j < 128 {
+    for j in 0..128 {
         let start = start_at(told, j) as usize;
         let count = count_at(told, j) as usize;
         n = gather_list(pool, start, count, values, seen, n);
-        j += 1;
     }
     n
 }
@@ -102,10 +90,8 @@ fn write_hint(hints: &mut [u64], slot: usize, r: usize) {
 fn write_hints(sorted: &[u64], k: usize, hints: &mut [u64])
     requires { k ≤ length sorted.now }
 {
-    let mut r: usize = 0;
-    while r < k {
+    for r in 0..k {
         write_hint(hints, slot_of(sorted[r]), r);
-        r += 1;
     }
 }
 
@@ -188,10 +174,8 @@ fn put_list(
         Sets starts counts pool.now sorted.now index.old k m j start 0 →
         Sets starts counts pool.now sorted.now index.new k m j start count }
 {
-    let mut i: usize = 0;
-    while i < count {
+    for i in 0..count {
         place_value(index, m, sorted, k, hints, pool, start + i, j);
-        i += 1;
     }
 }
 
@@ -210,12 +194,10 @@ fn put_lists(
     ensures { Sets (starts_in told.now) (counts_in told.now) pool.now
         sorted.now index.new k m 128 0 0 }
 {
-    let mut j: usize = 0;
-    while j < 128 {
+    for j in 0..128 {
         let start = start_at(told, j) as usize;
         let count = count_at(told, j) as usize;
         put_list(index, m, sorted, k, hints, pool, start, count, j);
-        j += 1;
     }
 }
 
@@ -246,7 +228,7 @@ pub fn make_wide_index(
     requires by_index { (q : ℕ) → get_or index.old q 0 ≡ 0 }
     ensures { Indexed told.now pool.now index.new }
 {
-    clear(scratch);
+    scratch.fill(0);
     let n = gather(told, pool, values, scratch);
     let k = sorted_set(values, n, scratch);
     write_hints(values, k, scratch);

@@ -191,14 +191,11 @@ fn merge_marks(
 {
     let held = number_set(own, m0.column.len);
     let mut m = m0;
-    let mut i: usize = 0;
-    while i < n {
+    for i in 0..n {
         let j = byte(marks, i);
-        i += 1;
-        if has(&held, 0, j as usize) {
-            continue;
+        if !has(&held, 0, j as usize) {
+            m = merge_mark(index, told, pool, own, m, j);
         }
-        m = merge_mark(index, told, pool, own, m, j);
     }
     m
 }

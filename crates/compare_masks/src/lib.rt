@@ -6,13 +6,14 @@ ghost use Rattle.std.proofs.Math.Option.{Option};
 ghost use Rattle.three_valued.specs.declared.logic.Truth.{Truth};
 ghost use Rattle.three_valued.specs.Logic.{of_bool};
 ghost use Rattle.truth.specs.Comparison.{Lt};
-ghost use Rattle.truth.specs.Evaluate.{of_truth, comparing, same, compared_of, connected_of, between_of, low_code, high_code};
+ghost use Rattle.truth.specs.Evaluate.{of_truth, comparing, same, compared_of, connected_of, between_of};
 ghost use Rattle.masks.specs.Masks.{Tells, Shown};
 
 use masks::{
     Masks, and_masks, equal_columns, inverted, less_columns, mask_equal_pairs, not_masks, or_masks,
     xor_masks,
 };
+use truth::value::{high_code, low_code};
 
 /// EqValidity of two columns: null is a value like another.
 fn same_columns(keys: &[u64], at: usize, nulls: u64, other: usize, others: u64) -> Masks
@@ -67,18 +68,6 @@ pub fn connect_masks(code: u8, x: Masks, y: Masks) -> Masks
         18 => and_masks(x, y),
         _ => or_masks(x, y),
     }
-}
-
-pub fn low_code(code: u8) -> u8
-    ensures { result ≡ low_code code }
-{
-    if code <= 1 { 7 } else { 6 }
-}
-
-pub fn high_code(code: u8) -> u8
-    ensures { result ≡ high_code code }
-{
-    if (code == 0) | (code == 2) { 5 } else { 4 }
 }
 
 /// is_between of the first 64 keys, the next 64 and the last: the And of its two comparisons.

@@ -4,8 +4,8 @@ use mathlib.Core.Bool.{Bool, true, false, not, ◌&&◌, ◌||◌, cond}
 use mathlib.Core.List.{List, [], ◌∷◌, ◌++◌, map, map-append}
 use mathlib.Core.Option.{Option, none, some}
 use Rattle.truth.specs.Order.{is_equal}
-use Rattle.truth.specs.declared.scalar.Ordering.{Ordering}
-use Rattle.truth.specs.declared.scalar.Ordering.TheVariants.{Less, Equal, Greater}
+use Rattle.std.specs.declared.cmp.Ordering.{Ordering}
+use Rattle.std.specs.declared.cmp.Ordering.TheVariants.{Less, Equal, Greater}
 use Rattle.constraints.specs.declared.column.ExcludedResolution.{ExcludedResolution}
 use Rattle.constraints.specs.declared.column.ExcludedResolution.TheVariants.{Drop, Keep, TightenLower}
 use Rattle.constraints.specs.declared.column.ExcludedResolution.TheVariants.{TightenUpper}

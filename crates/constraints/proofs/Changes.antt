@@ -3,8 +3,8 @@ use mathlib.Core.Path.{◌≡◌, refl, sym, ◌∙◌, ap, subst}
 use mathlib.Core.Bool.{Bool, true, false, ◌&&◌, true≢false}
 use mathlib.Core.Logic.{◌↔◌}
 use Rattle.truth.specs.Order.{View, equal_view, greater_view, less_view}
-use Rattle.truth.specs.declared.scalar.Ordering.{Ordering}
-use Rattle.truth.specs.declared.scalar.Ordering.TheVariants.{Equal}
+use Rattle.std.specs.declared.cmp.Ordering.{Ordering}
+use Rattle.std.specs.declared.cmp.Ordering.TheVariants.{Equal}
 use Rattle.constraints.specs.declared.column.BoundChange.{BoundChange}
 use Rattle.constraints.specs.declared.column.BoundChange.TheVariants.{NewValue, NewlyOpen, NoChange}
 use Rattle.constraints.specs.Scalars.{Scalars}

@@ -4,8 +4,8 @@ use mathlib.Core.Bool.{Bool, true, false, not, ◌&&◌, ◌||◌, and-true, and
 use mathlib.Core.List.{List, [], ◌∷◌, ◌++◌}
 use mathlib.Core.Option.{Option, none, some}
 use Rattle.truth.specs.Order.{is_equal}
-use Rattle.truth.specs.declared.scalar.Ordering.{Ordering}
-use Rattle.truth.specs.declared.scalar.Ordering.TheVariants.{Equal, Greater, Less}
+use Rattle.std.specs.declared.cmp.Ordering.{Ordering}
+use Rattle.std.specs.declared.cmp.Ordering.TheVariants.{Equal, Greater, Less}
 use Rattle.constraints.proofs.Bounds.{crossing_clears_nothing, tighten-is_intersection}
 use Rattle.constraints.proofs.Sets.{contains-extend, contains-insert, contains-retain}
 use Rattle.constraints.specs.Bound.{Bound, absent, at, clears, is_absent, tighten, tighten_by}

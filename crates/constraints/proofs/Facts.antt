@@ -7,8 +7,8 @@ use mathlib.Core.List.{List, [], ◌∷◌, ◌++◌, map}
 use mathlib.Core.Option.{Option, none, some}
 use Rattle.truth.proofs.Orders.{cmp-gt, cmp-refl}
 use Rattle.truth.specs.Order.{View, equal_view, greater_view, less_view, is_equal}
-use Rattle.truth.specs.declared.scalar.Ordering.{Ordering}
-use Rattle.truth.specs.declared.scalar.Ordering.TheVariants.{Equal, Greater, Less}
+use Rattle.std.specs.declared.cmp.Ordering.{Ordering}
+use Rattle.std.specs.declared.cmp.Ordering.TheVariants.{Equal, Greater, Less}
 use Rattle.constraints.proofs.Columns.{add-put, add_all-live}
 use Rattle.constraints.proofs.Merges.{or_no}
 use Rattle.constraints.proofs.Sets.{contains-extend, contains-insert, contains-retain}

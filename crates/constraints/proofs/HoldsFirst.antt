@@ -5,7 +5,7 @@ use mathlib.Core.List.{List, [], ◌∷◌, ◌++◌, append_assoc}
 use mathlib.Core.Logic.{inl, inr}
 use Rattle.truth.proofs.Orders.{cmp-eq}
 use Rattle.truth.specs.Order.{View, equal_view, greater_view, less_view}
-use Rattle.truth.specs.declared.scalar.Ordering.{Ordering}
+use Rattle.std.specs.declared.cmp.Ordering.{Ordering}
 use Rattle.constraints.specs.declared.column.Nullability.{Nullability}
 use Rattle.constraints.proofs.LineKept.{Each, each_append, each-one, Held, held-each, empty-held}
 use Rattle.constraints.proofs.Sets.{contains-append}

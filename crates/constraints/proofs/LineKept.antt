@@ -6,8 +6,8 @@ use mathlib.Core.Option.{Option, none, some, some-injective}
 use mathlib.Core.Logic.{◌⊎◌, inl, inr}
 use Rattle.truth.proofs.Orders.{cmp-eq}
 use Rattle.truth.specs.Order.{View, equal_view, greater_view, less_view, is_equal}
-use Rattle.truth.specs.declared.scalar.Ordering.{Ordering}
-use Rattle.truth.specs.declared.scalar.Ordering.TheVariants.{Less, Equal, Greater}
+use Rattle.std.specs.declared.cmp.Ordering.{Ordering}
+use Rattle.std.specs.declared.cmp.Ordering.TheVariants.{Less, Equal, Greater}
 use Rattle.constraints.specs.declared.column.ExcludedResolution.TheVariants.{Keep, TightenLower}
 use Rattle.constraints.specs.declared.column.ExcludedResolution.TheVariants.{TightenUpper}
 use Rattle.constraints.specs.Scalars.{Scalars, opposite, scalar_cmp}

@@ -6,8 +6,8 @@ use mathlib.Core.Option.{Option, none, some, none-ne-some, some-injective}
 use mathlib.Core.Logic.{◌⊎◌, inl, inr}
 use Rattle.truth.proofs.Orders.{cmp-eq, cmp-gt}
 use Rattle.truth.specs.Order.{View, above, equal_view, greater_view, less_view, is_equal}
-use Rattle.truth.specs.declared.scalar.Ordering.{Ordering}
-use Rattle.truth.specs.declared.scalar.Ordering.TheVariants.{Equal, Greater, Less}
+use Rattle.std.specs.declared.cmp.Ordering.{Ordering}
+use Rattle.std.specs.declared.cmp.Ordering.TheVariants.{Equal, Greater, Less}
 use Rattle.constraints.proofs.Bounds.{crossing_clears_nothing}
 use Rattle.constraints.proofs.Columns.{admits, admits_emitted, admits_recorded, at_1, at-2, at-3, gone}
 use Rattle.constraints.proofs.Columns.{insert-full, not-or, null_fits, value_fits}

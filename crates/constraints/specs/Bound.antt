@@ -2,8 +2,8 @@
 -- lower bound of the opposite order.
 use Rattle.std.specs.Prelude.{Bool, true, false, not, ◌&&◌, cond, List, [], ◌∷◌}
 use Rattle.truth.specs.Order.{above}
-use Rattle.truth.specs.declared.scalar.Ordering.{Ordering}
-use Rattle.truth.specs.declared.scalar.Ordering.TheVariants.{Less, Equal, Greater}
+use Rattle.std.specs.declared.cmp.Ordering.{Ordering}
+use Rattle.std.specs.declared.cmp.Ordering.TheVariants.{Less, Equal, Greater}
 use Rattle.constraints.specs.declared.column.BoundChange.{BoundChange}
 use Rattle.constraints.specs.declared.column.BoundChange.TheVariants.{NewValue, NewlyOpen, NoChange}
 use Rattle.constraints.specs.Scalars.{Scalars, opposite, scalar_cmp}

@@ -4,7 +4,7 @@
 use Rattle.std.specs.Prelude.{◌≡◌}
 use Rattle.truth.specs.Order.{Order, Total, opp}
 use Rattle.truth.proofs.Orders.{opp-total}
-use Rattle.truth.specs.declared.scalar.Ordering.{Ordering}
+use Rattle.std.specs.declared.cmp.Ordering.{Ordering}
 
 pub record Scalars (K Val : Type 0) : Type 1 where
   pub key : Val → K

@@ -16,10 +16,8 @@ pub fn number_columns(labels: &mut [u32])
     ensures by_index { (c : ℕ) → c < 64 → get_or labels.new c 0 ≡ c }
     ensures labels_len_unchanged { length labels.new ≡ length labels.old }
 {
-    let mut c: usize = 0;
-    while c < 64 {
+    for c in 0..64 {
         labels[c] = c as u32;
-        c += 1;
     }
 }
 
@@ -37,10 +35,8 @@ fn rename_all(labels: &mut [u32], from: u32, to: u32)
     ensures by_index { (c : ℕ) → c < 64 → get_or labels.new c 0 ≡ renamed from to (get_or labels.old c 0) }
     ensures labels_len_unchanged { length labels.new ≡ length labels.old }
 {
-    let mut c: usize = 0;
-    while c < 64 {
+    for c in 0..64 {
         labels[c] = rename(from, to, labels[c]);
-        c += 1;
     }
 }
 
@@ -82,9 +78,7 @@ pub fn label_lines(rs: &[u8], nodes: &[u32], n: usize, labels: &mut [u32])
         labels.new }
     ensures labels_len_unchanged { length labels.new ≡ length labels.old }
 {
-    let mut i: usize = 0;
-    while i < n {
+    for i in 0..n {
         join_line(rs, Node(nodes[i]), labels);
-        i += 1;
     }
 }

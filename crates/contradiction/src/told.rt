@@ -149,15 +149,13 @@ pub fn tell_lines(
     ensures cells_len_unchanged { length cells.new ≡ length cells.old }
     ensures marks_len_unchanged { length marks.new ≡ length marks.old }
 {
-    let mut i: usize = 0;
-    while i < n {
+    for i in 0..n {
         let node = Node(nodes[i]);
         let j = i as u8;
         let stops = tell_line(rs, pool, node, told, labels, cells, marks, j);
         if stops {
             return true;
         }
-        i += 1;
     }
     false
 }

@@ -16,6 +16,7 @@ pub fn decimal_length(n: u64) -> usize
 {
     let mut rest = n;
     let mut count: usize = 1;
+    // A digit a turn: how many there are is what is looked for.
     while rest >= 10 {
         rest = rest / 10;
         count += 1;
@@ -37,6 +38,7 @@ fn write_digits(s: &mut [u8], at: usize, end: usize, n: u64)
 {
     let mut rest = n;
     let mut i = end;
+    // A digit a turn, as long as there are two.
     while rest >= 10 {
         i -= 1;
         s[i] = last_digit(rest);

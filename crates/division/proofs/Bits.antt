@@ -11,7 +11,7 @@ use lib.IntN.{ℤ, pos, negsuc, neg_ℤ, pos-ne-negsuc}
 use mir.Syntax.{w64}
 use mir.Val.{to_z, sel}
 use borrow.Author.Tests.{lt-ltb, le-ltb, ne_eqb, ltb-false}
-use Rattle.division.specs.declared.divide.Division.TheVariants.{Null, Exact}
+use Rattle.std.specs.Prelude.{Some, None}
 use Rattle.division.specs.Division.{IsDivision, Divides, fits, quotient}
 use Rattle.division.specs.Division.{remainder, minus_of, is_zero, is_none}
 use Rattle.division.proofs.Divisions.{division-is, unique, none-by_zero}
@@ -52,7 +52,7 @@ minus_is x r d e = let k : r ≡ whole - x = omega arith in k ∙ rw (ne_eqb x 0
 -- what the code answers is the division, if its bits say the quotient and the remainder
 answers :
     (a b : ℤ) (q r : ℕ) → (b ≡ pos 0 → ⊥) → to_z w64 q ≡ quotient a b → to_z w64 r ≡ remainder a b →
-    Divides a b (Exact q r)
+    Divides a b (Some (q, r))
 answers a b q r h eq er =
     subst (λ x. IsDivision a b x (to_z w64 r)) (sym eq)
     (subst (λ x. IsDivision a b (quotient a b) x) (sym er) (division-is a b h))
@@ -70,12 +70,12 @@ no_negative : (n : ℕ) → negsuc n ≡ pos 0 → ⊥
 no_negative n e = pos-ne-negsuc 0 n (sym e)
 
 -- ---- the ways that it ends
-pub by_zero : (a b : ℕ) → b ≡ 0 → Divides (to_z w64 a) (to_z w64 b) Null
+pub by_zero : (a b : ℕ) → b ≡ 0 → Divides (to_z w64 a) (to_z w64 b) None
 by_zero a b e = inl (ap (to_z w64) e)
 
 module _ (a b : ℕ) where
   module _ (d : b ≡ 0 → ⊥) (hb : b < half) where
-    pub up_by_up : a < half → Divides (to_z w64 a) (to_z w64 b) (Exact (a / b) (a % b))
+    pub up_by_up : a < half → Divides (to_z w64 a) (to_z w64 b) (Some (a / b, a % b))
     up_by_up ha =
         let k : a / b ≤ a = div-le_self a b in
         let l : a % b < b = mod-lt a (omega (arith, d)) in
@@ -84,7 +84,7 @@ module _ (a b : ℕ) where
 
     pub down_by_up :
         half ≤ a → a < whole → (n : ℕ) → n ≡ 18446744073709551615 - a →
-        Divides (to_z w64 a) (to_z w64 b) (Exact (18446744073709551615 - n / b) (b - 1 - n % b))
+        Divides (to_z w64 a) (to_z w64 b) (Some (18446744073709551615 - n / b, b - 1 - n % b))
     down_by_up ha hw n e =
         let k : n / b ≤ n = div-le_self n b in
         let l : n % b < b = mod-lt n (omega (arith, d)) in
@@ -103,7 +103,7 @@ module _ (a b : ℕ) where
     divisor : to_z w64 b ≡ negsuc less
     divisor = high b less hb refl
 
-    pub zero-by_down : a ≡ 0 → Divides (to_z w64 a) (to_z w64 b) (Exact 0 0)
+    pub zero-by_down : a ≡ 0 → Divides (to_z w64 a) (to_z w64 b) (Some (0, 0))
     zero-by_down e =
         rw (e, divisor)
         (answers (pos 0) (negsuc less) 0 0 (no_negative less) (sym (ap pos (zero-div (suc less))))
@@ -111,7 +111,7 @@ module _ (a b : ℕ) where
 
     pub up_by_down :
         (a ≡ 0 → ⊥) → a < half → (n : ℕ) → n ≡ a - 1 → (m : ℕ) → m ≡ minus_of (size - 1 - n % size) →
-        Divides (to_z w64 a) (to_z w64 b) (Exact (18446744073709551615 - n / size) m)
+        Divides (to_z w64 a) (to_z w64 b) (Some (18446744073709551615 - n / size, m))
     up_by_down da ha n en m em =
         let z : 0 < size = omega arith in
         let k : n / size ≤ n = div-le_self n size in
@@ -134,7 +134,7 @@ module _ (a b : ℕ) where
       quotient_is : quotient (negsuc (whole - suc a)) (negsuc less) ≡ pos (n / size)
       quotient_is = rw (is_n, is_size)
 
-      pub beyond : n / size ≡ half → Divides (to_z w64 a) (to_z w64 b) Null
+      pub beyond : n / size ≡ half → Divides (to_z w64 a) (to_z w64 b) None
       beyond e =
           rw (dividend, divisor)
           (inr (record {
@@ -146,7 +146,7 @@ module _ (a b : ℕ) where
 
       pub down_by_down :
           (n / size ≡ half → ⊥) → (m : ℕ) → m ≡ minus_of (n % size) →
-          Divides (to_z w64 a) (to_z w64 b) (Exact (n / size) m)
+          Divides (to_z w64 a) (to_z w64 b) (Some (n / size, m))
       down_by_down dn m em =
           let z : 0 < size = omega arith in
           let k : n / size ≤ n = div-le_self n size in
@@ -161,7 +161,7 @@ or_true : (b : Bool) → (b || true) ≡ true
 or_true true = refl
 or_true false = refl
 
-pub none-computed : (a b : ℤ) → Divides a b Null → is_none a b ≡ true
+pub none-computed : (a b : ℤ) → Divides a b None → is_none a b ≡ true
 none-computed a b (inl e) = ap (λ (x : ℤ). is_none a x) e
 none-computed a b (inr d) =
     ap (λ (x : Bool). is_zero b || not x) (ap fits (sym (unique a b d.q d.r d.division).0) ∙ d.unfit)
@@ -179,7 +179,7 @@ not-zero (pos n) d = ne_eqb n 0 (λ e. d (ap pos e))
 not-zero (negsuc n) d = refl
 
 pub exact-computed :
-    (a b : ℤ) (q r : ℕ) → Divides a b (Exact q r) →
+    (a b : ℤ) (q r : ℕ) → Divides a b (Some (q, r)) →
     (is_none a b ≡ false) × (to_z w64 q ≡ quotient a b) × (to_z w64 r ≡ remainder a b)
 exact-computed a b q r d =
     let u = unique a b (to_z w64 q) (to_z w64 r) d in

@@ -1,9 +1,7 @@
 -- Division of whole numbers, rounded down: what it is, and the one quotient and remainder that it has.
-use Rattle.std.specs.Prelude.{◌≡◌, Bool, false, cond, not, ◌||◌, ◌⊎◌, ℕ, zero, suc, ◌-◌, ◌/◌, ◌%◌, ◌<◌, ltb, eqb, ℤ, pos, negsuc, neg_ℤ, ◌+ℤ◌, ◌*ℤ◌}
+use Rattle.std.specs.Prelude.{◌≡◌, Bool, false, cond, not, ◌||◌, ◌⊎◌, ℕ, zero, suc, ◌-◌, ◌/◌, ◌%◌, ◌<◌, ltb, eqb, ℤ, pos, negsuc, neg_ℤ, ◌+ℤ◌, ◌*ℤ◌, Option, Some, None}
 use Rattle.std.specs.Int.{w64}
 use Rattle.std.proofs.Common.{to_z}
-use Rattle.division.specs.declared.divide.Division.{Division}
-use Rattle.division.specs.declared.divide.Division.TheVariants.{Null, Exact}
 
 -- The remainder r is smaller than the divisor b, signs apart, and has its sign or is zero.
 abbrev pub Under : ℤ → ℤ → Type 0
@@ -31,10 +29,10 @@ pub record Beyond (a b : ℤ) : Type 0 where
   pub division : IsDivision a b q r
   pub unfit : fits q ≡ false
 
--- What the code answers for the dividend a and the divisor b: null exactly if there is no quotient within 64 bits.
-abbrev pub Divides : ℤ → ℤ → Division → Type 0
-Divides a b Null = (b ≡ pos 0) ⊎ Beyond a b
-Divides a b (Exact q r) = IsDivision a b (to_z w64 q) (to_z w64 r)
+-- What the code answers for the dividend a and the divisor b: none exactly if there is no quotient within 64 bits.
+abbrev pub Divides : ℤ → ℤ → Option (ℕ × ℕ) → Type 0
+Divides a b None = (b ≡ pos 0) ⊎ Beyond a b
+Divides a b (Some (q, r)) = IsDivision a b (to_z w64 q) (to_z w64 r)
 
 -- The same, computed. For a divisor above zero: -n - 1 has the quotient -(n / b) - 1.
 abbrev pub quotient_by : ℕ → ℤ → ℤ

@@ -4,13 +4,6 @@ ghost use Rattle.std.specs.Int.{w64};
 ghost use Rattle.std.proofs.Common.{to_z};
 ghost use Rattle.division.specs.Division.{Divides, minus_of};
 
-// Quotient and remainder, or null: for a zero divisor, and for a quotient beyond 64 bits.
-#[derive(Clone, Copy)]
-pub enum Division {
-    Null,
-    Exact(u64, u64),
-}
-
 // 2^64 - x: the number -x of a negative x, and the bits of -x.
 fn magnitude(x: u64) -> u64
     requires { 0 < x }
@@ -28,35 +21,36 @@ fn negated(x: u64) -> u64
     magnitude(x)
 }
 
+// Quotient and remainder: none for a zero divisor, and for a quotient beyond 64 bits.
 // Where divisor and quotient differ in sign the dividend is taken as n below zero, -n - 1, so that its quotient,
 // -(n / size) - 1, is rounded down.
-pub fn divide(a: u64, b: u64) -> Division
+pub fn divide(a: u64, b: u64) -> Option<(u64, u64)>
     ensures { Divides (to_z w64 a) (to_z w64 b) result }
 {
     if b == 0 {
-        return Division::Null;
+        return None;
     }
     if b < 9223372036854775808 {
         if a < 9223372036854775808 {
-            return Division::Exact(a / b, a % b);
+            return Some((a / b, a % b));
         }
         let n = 18446744073709551615 - a;
-        return Division::Exact(18446744073709551615 - n / b, b - 1 - n % b);
+        return Some((18446744073709551615 - n / b, b - 1 - n % b));
     }
     let size = magnitude(b);
     if a == 0 {
-        return Division::Exact(0, 0);
+        return Some((0, 0));
     }
     if a < 9223372036854775808 {
         let n = a - 1;
-        return Division::Exact(
+        return Some((
             18446744073709551615 - n / size,
             negated(size - 1 - n % size),
-        );
+        ));
     }
     let n = magnitude(a);
     if n / size == 9223372036854775808 {
-        return Division::Null;
+        return None;
     }
-    Division::Exact(n / size, negated(n % size))
+    Some((n / size, negated(n % size)))
 }

@@ -85,13 +85,11 @@ pub fn reasons_length(
         (shown s (columns_of cells.now) marks.now)) }
 {
     let mut size: usize = 0;
-    let mut w: usize = 0;
-    while w < columns {
+    for w in 0..columns {
         let a = Column(order[w]);
         let x = slot(a);
         let c = load(cells, x);
         size = size + row_length(t, a, told, marks, x, c);
-        w += 1;
     }
     size
 }
@@ -118,12 +116,10 @@ pub fn write_reasons(
         (shown s (columns_of cells.now) marks.now)) }
 {
     let mut next: usize = 0;
-    let mut w: usize = 0;
-    while w < columns {
+    for w in 0..columns {
         let a = Column(order[w]);
         let x = slot(a);
         let c = load(cells, x);
         next = write_row_reasons(out, next, t, text, a, told, marks, x, c);
-        w += 1;
     }
 }

@@ -21,11 +21,9 @@ fn equality_count(rs: &[u8], nodes: &[u32], n: usize) -> usize
     ensures { result ≤ n }
 {
     let mut count: usize = 0;
-    let mut i: usize = 0;
-    while i < n {
+    for i in 0..n {
         let k = classify_by_record(rs, Node(nodes[i]));
         count = bump(!is_equality(k), count);
-        i += 1;
     }
     count
 }
@@ -40,8 +38,7 @@ fn list_work(told: &[u64], places: usize) -> usize
 {
     let mut lists: usize = 0;
     let mut total: usize = 0;
-    let mut j: usize = 0;
-    while j < 128 {
+    for j in 0..128 {
         let start = start_at(told, j) as usize;
         let count = count_at(told, j) as usize;
         if places < start + count {
@@ -49,7 +46,6 @@ fn list_work(told: &[u64], places: usize) -> usize
         }
         lists = bump(count == 0, lists);
         total = total + count;
-        j += 1;
     }
     lists * total
 }
@@ -59,10 +55,8 @@ fn value_count(told: &[u64], n: usize) -> usize
     requires { n ≤ 128 }
 {
     let mut total: usize = 0;
-    let mut j: usize = 0;
-    while j < n {
+    for j in 0..n {
         total = total + count_at(told, j) as usize;
-        j += 1;
     }
     total
 }

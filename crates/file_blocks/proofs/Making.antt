@@ -3,11 +3,11 @@
 use Prim.Native.Nat.{ℕ, zero, suc, ◌+◌, ◌-◌, ◌*◌, ◌/◌, ◌%◌, ◌≤◌, ◌<◌}
 use mathlib.Core.Path.{◌≡◌, refl, sym, ◌∙◌, ap, ap₂, subst}
 use mathlib.Core.Logic.{⊎_elim}
-use mathlib.Core.List.{List, [], ◌∷◌, ◌++◌, append_assoc, append-nil}
+use mathlib.Core.List.{List, ◌∷◌, ◌++◌}
 use native.Mathlib.Numerals.{add-one}
 use native.Mathlib.Omega.{arith}
-use lib.ListN.{length, get_or, set, take, drop, replicate, length-append, length-drop, length-take, length-replicate}
-use lib.Seq.{length-take-le, take_all}
+use lib.ListN.{length, set, take, drop, replicate, length-append, length-drop, length-take, length-replicate}
+use lib.Seq.{take_all}
 use Rattle.checking.proofs.Bits.{lt-or_le}
 use Rattle.checksum.specs.Checksum.{checksum, cleared}
 use Rattle.file_blocks.specs.Format.{item_size, sealed, unsealed, block, piece, blocks_to, overwrite}

@@ -69,11 +69,9 @@ pub fn write_blocks(file: &mut [u8], first: usize, kind: u8, content: &[u8])
         (blocks_to first kind content.now (blocks_for content.now)) }
 {
     let blocks = (content.len() + 495) / 496;
-    let mut j: usize = 0;
-    while j < blocks {
+    for j in 0..blocks {
         let start = 496 * j;
         let end = piece_end(start, content.len());
         write_block(file, first + j, kind, &content[start..end]);
-        j += 1;
     }
 }

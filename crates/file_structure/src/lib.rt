@@ -120,14 +120,7 @@ fn zeros_from(b: &[u8], at: usize, n: usize) -> bool
     requires { at + n ≤ length b.now }
     ensures { result ≡ zeros_from b.now at n }
 {
-    let mut j: usize = 0;
-    while j < n {
-        if b[at + j] != 0 {
-            return false;
-        }
-        j += 1;
-    }
-    true
+    (0..n).all(|j| b[at + j] == 0)
 }
 
 // A count that has passed `count_ok`.
@@ -165,17 +158,10 @@ fn block_ok(b: &[u8], i: usize) -> bool
 fn blocks_ok(f: &[u8]) -> bool
     ensures { result ≡ blocks_ok f.now }
 {
-    let n = f.len() / 512;
-    let mut i: usize = 0;
-    while i < n {
+    (0..f.len() / 512).all(|i| {
         let start = 512 * i;
-        let end = start + 512;
-        if !block_ok(&f[start..end], i) {
-            return false;
-        }
-        i += 1;
-    }
-    true
+        block_ok(&f[start..start + 512], i)
+    })
 }
 
 fn repeats_kind(kind: u8) -> bool
@@ -212,18 +198,11 @@ fn order_ok(f: &[u8]) -> bool
     requires { 512 ≤ length f.now }
     ensures { result ≡ order_ok f.now }
 {
-    let n = f.len() / 512 - 1;
-    let mut i: usize = 0;
-    while i < n {
+    (0..f.len() / 512 - 1).all(|i| {
         let start = 512 * i;
         let middle = start + 512;
-        let end = middle + 512;
-        if !follows_ok(&f[start..middle], &f[middle..end]) {
-            return false;
-        }
-        i += 1;
-    }
-    true
+        follows_ok(&f[start..middle], &f[middle..middle + 512])
+    })
 }
 
 // The end's word at byte `at`.
@@ -265,12 +244,10 @@ pub fn total_of(kind: u8, f: &[u8]) -> usize
 {
     let n = f.len() / 512;
     let mut sum: usize = 0;
-    let mut i: usize = 0;
-    while i < n {
+    for i in 0..n {
         let start = 512 * i;
         let end = start + 512;
         sum += count_if(kind, &f[start..end]);
-        i += 1;
     }
     sum
 }

@@ -11,13 +11,13 @@ use lib.Seq.{length-take-le, drop_at, take_all}
 use borrow.Author.Tests.{leb-true, le-leb}
 use Rattle.records.proofs.Laws.{by-test}
 use Rattle.checking.specs.Check.{check_answer_in}
-use Rattle.checking.specs.declared.check.CheckAnswer.{CheckAnswer}
-use Rattle.checking.specs.declared.check.CheckAnswer.TheVariants as check
+use Rattle.checking.specs.Answer.{CheckAnswer}
+use Rattle.checking.specs.Answer as check
 use Rattle.checking.proofs.Answers.{refused-numbered-in}
-use Rattle.files.specs.declared.save.SaveAnswer.{SaveAnswer}
-use Rattle.files.specs.declared.save.SaveAnswer.TheVariants as save
-use Rattle.files.specs.declared.load.LoadAnswer.{LoadAnswer}
-use Rattle.files.specs.declared.load.LoadAnswer.TheVariants as load
+use Rattle.files.specs.SaveAnswer.{SaveAnswer}
+use Rattle.files.specs.SaveAnswer as save
+use Rattle.files.specs.LoadAnswer.{LoadAnswer}
+use Rattle.files.specs.LoadAnswer as load
 use Rattle.file_blocks.specs.Format.{blocks_for, word_bytes, file_blocks, file_of, file_length, overwrite}
 use Rattle.file_structure.specs.Read.{structure_ok, held, total, root_of}
 use Rattle.files.specs.Answers.{save_if, save_answer, saved_bytes, save_bytes, room_ok, held_answer, load_if, load_answer}

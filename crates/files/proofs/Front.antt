@@ -18,7 +18,7 @@ use Rattle.records.proofs.Laws.{and_right}
 use Rattle.record_check.specs.Fit.{type_of, type_at, types_ok}
 use Rattle.checking.specs.Check.{sizes_ok_in, check_answer_in}
 use Rattle.checking.specs.Checked.{CheckedRecordIn, CheckedIn}
-use Rattle.checking.specs.declared.check.CheckAnswer.TheVariants as check
+use Rattle.checking.specs.Answer as check
 use Rattle.checking.proofs.Accepted.{Below, checked-in, checked-accepted_in, checked-used_in, checked-lent_in, inputs-below_in}
 
 module _ (t rs out p : List ℕ) (n : ℕ) (same : (m : ℕ) → m < n → record_at out (node m) ≡ record_at rs (node m)) where

@@ -13,9 +13,9 @@ use borrow.Author.Tests.{leb-true, eqb-true, eqb-false, lt-leb, ltb-true, ltb-fa
 use Rattle.records.proofs.Laws.{and_left, and_right, by-test, or_yes, or_no}
 use Rattle.records.specs.Bytes.{all}
 use Rattle.checking.specs.Check.{table_ok_in, sizes_ok_in, check_answer_in}
-use Rattle.checking.specs.declared.check.CheckAnswer.{CheckAnswer}
-use Rattle.checking.specs.declared.check.CheckAnswer.TheVariants as check
-use Rattle.files.specs.declared.load.LoadAnswer.TheVariants as load
+use Rattle.checking.specs.Answer.{CheckAnswer}
+use Rattle.checking.specs.Answer as check
+use Rattle.files.specs.LoadAnswer as load
 use Rattle.file_blocks.specs.Format.{item_size, overwrite}
 use Rattle.file_structure.specs.Read.{block_at, blocks_in, kind_of, count_of, content_size, content_of, taken, held_to, held, root_of}
 use Rattle.file_structure.specs.Read.{count_if, total_to, total, block_ok, blocks_ok, order_ok, ends_ok, used_ok, whole_ok, structure_ok}

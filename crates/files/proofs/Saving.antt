@@ -11,10 +11,10 @@ use lib.Seq.{length-take-le}
 use borrow.Author.Tests.{leb-true, eqb-true, le-leb, lt-leb}
 use Rattle.records.proofs.Laws.{and_left, and_right, by-test}
 use Rattle.checking.specs.Check.{types_known_in, table_ok_in, sizes_ok_in, check_answer_in}
-use Rattle.checking.specs.declared.check.CheckAnswer.TheVariants as check
+use Rattle.checking.specs.Answer as check
 use Rattle.checking.proofs.Accepted.{checked-in}
 use Rattle.checking.proofs.Sizes.{used-small_in, used-lent_in, pool-small_in}
-use Rattle.files.specs.declared.save.SaveAnswer.TheVariants as save
+use Rattle.files.specs.SaveAnswer as save
 use Rattle.file_blocks.specs.Format.{block, blocks_to, blocks_for, file_blocks, file_of, file_length, word_bytes, overwrite}
 use Rattle.files.specs.Answers.{save_answer, save_bytes}
 use Rattle.file_blocks.proofs.Lists.{overwrite-more}

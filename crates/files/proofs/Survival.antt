@@ -14,8 +14,8 @@ use borrow.Author.Tests.{eq-eqb, ne_eqb, lt-ltb, le-leb, eqb-true}
 use Rattle.records.specs.Bytes.{word, all}
 use Rattle.records.proofs.Laws.{by-test, or_no}
 use Rattle.checking.specs.Check.{check_answer_in}
-use Rattle.checking.specs.declared.check.CheckAnswer.TheVariants as check
-use Rattle.files.specs.declared.load.LoadAnswer.TheVariants as load
+use Rattle.checking.specs.Answer as check
+use Rattle.files.specs.LoadAnswer as load
 use Rattle.file_blocks.specs.Format.{item_size, capacity, repeats, place, block, piece, blocks_for, blocks_to, word_bytes}
 use Rattle.file_blocks.specs.Format.{sealed, unsealed, file_blocks, file_of}
 use Rattle.file_structure.specs.Read.{block_at, blocks_in, kind_of, count_of, taken, held_to, held, total_to, total, block_ok}

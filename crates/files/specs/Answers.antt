@@ -1,14 +1,14 @@
 -- What saving and loading answer: 02, 2.3 and 2.10. A refusal writes nothing.
 use Rattle.std.specs.Prelude.{ℕ, suc, ◌*◌, ◌/◌, List, Bool, cond, ◌&&◌, length, leb}
 use Rattle.checking.specs.Check.{check_answer_in}
-use Rattle.checking.specs.declared.check.CheckAnswer.{CheckAnswer}
-use Rattle.checking.specs.declared.check.CheckAnswer.TheVariants as check
+use Rattle.checking.specs.Answer.{CheckAnswer}
+use Rattle.checking.specs.Answer as check
 use Rattle.file_blocks.specs.Format.{file_of, file_length, overwrite}
 use Rattle.file_structure.specs.Read.{structure_ok, held, total, root_of}
-use Rattle.files.specs.declared.save.SaveAnswer.{SaveAnswer}
-use Rattle.files.specs.declared.save.SaveAnswer.TheVariants as save
-use Rattle.files.specs.declared.load.LoadAnswer.{LoadAnswer}
-use Rattle.files.specs.declared.load.LoadAnswer.TheVariants as load
+use Rattle.files.specs.SaveAnswer.{SaveAnswer}
+use Rattle.files.specs.SaveAnswer as save
+use Rattle.files.specs.LoadAnswer.{LoadAnswer}
+use Rattle.files.specs.LoadAnswer as load
 
 -- ---- saving the screen t, rs, p, text, used, root into a lent file of `room` bytes; checking is told one more than the bytes
 -- of the text pool

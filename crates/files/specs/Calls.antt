@@ -2,11 +2,11 @@
 -- saved or loaded, a number below is a refusal.
 use Rattle.std.specs.Prelude.{ℕ, suc, ◌*◌, ◌≤◌, ◌<◌, List, ◌≡◌, length, take, drop}
 use Rattle.checking.specs.Check.{check_answer_in}
-use Rattle.checking.specs.declared.check.CheckAnswer.TheVariants as check
-use Rattle.files.specs.declared.save.SaveAnswer.{SaveAnswer}
-use Rattle.files.specs.declared.save.SaveAnswer.TheVariants as save
-use Rattle.files.specs.declared.load.LoadAnswer.{LoadAnswer}
-use Rattle.files.specs.declared.load.LoadAnswer.TheVariants as load
+use Rattle.checking.specs.Answer as check
+use Rattle.files.specs.SaveAnswer.{SaveAnswer}
+use Rattle.files.specs.SaveAnswer as save
+use Rattle.files.specs.LoadAnswer.{LoadAnswer}
+use Rattle.files.specs.LoadAnswer as load
 use Rattle.file_blocks.specs.Format.{file_of}
 use Rattle.files.specs.Answers.{save_answer}
 use Rattle.files.specs.RoundTrip.{Survives}

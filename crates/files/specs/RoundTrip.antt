@@ -2,9 +2,9 @@
 -- writer would produce."
 use Rattle.std.specs.Prelude.{ℕ, suc, ◌*◌, ◌/◌, ◌≤◌, ◌<◌, List, ◌≡◌, true, length, get_or, take}
 use Rattle.checking.specs.Check.{check_answer_in}
-use Rattle.checking.specs.declared.check.CheckAnswer.TheVariants as check
-use Rattle.files.specs.declared.load.LoadAnswer.TheVariants as load
-use Rattle.files.specs.declared.save.SaveAnswer.TheVariants as save
+use Rattle.checking.specs.Answer as check
+use Rattle.files.specs.LoadAnswer as load
+use Rattle.files.specs.SaveAnswer as save
 use Rattle.file_blocks.specs.Format.{file_of}
 use Rattle.file_structure.specs.Read.{structure_ok, held, total, root_of}
 use Rattle.files.specs.Answers.{load_answer, save_answer}

@@ -30,11 +30,9 @@ pub fn gather(kind: u8, f: &[u8], dst: &mut [u8])
 {
     let n = f.len() / 512;
     let mut at: usize = 0;
-    let mut i: usize = 0;
-    while i < n {
+    for i in 0..n {
         let start = 512 * i;
         let end = start + 512;
         at = take_block(kind, &f[start..end], dst, at);
-        i += 1;
     }
 }

@@ -2,25 +2,30 @@
 // they are copied to local arrays of 64 KB each for the checks, which ask the length of the text alone; the lent buffers are
 // written when all is passed.
 ghost use Rattle.std.specs.Prelude.{◌≡◌, true, ◌&&◌, ◌||◌, suc, ◌+◌, ◌*◌, ◌/◌, ◌≤◌, ltb, leb, length};
+ghost use Rattle.checking.specs.Answer.{answered};
 ghost use Rattle.checking.specs.Check.{check_answer_in};
 ghost use Rattle.file_structure.specs.Read.{structure_ok, held, total, root_of};
 ghost use Rattle.files.specs.Answers.{held_answer, room_ok, load_answer, loaded_bytes};
+ghost use Rattle.files.specs.LoadAnswer.{load_answered};
 
 use crate::held::gather;
 use check_lent::check_lent;
-use checking::check::CheckAnswer;
 use file_structure::{end_word, structure_ok, total_of};
 use limits::{COLUMNS, FEW_RECORDS, RECORD, RECORDS, VALUE, VALUES};
+use refusal::Refusal;
 
-// What loading answers: a refusal with its number, or the root and the totals of columns, records, values and bytes of text.
+// What loading answers: the root, and the totals of columns, records, values and bytes of text.
 #[derive(Clone, Copy)]
-pub enum LoadAnswer {
-    Refused(u32),
-    Loaded(u64, u64, u64, u64, u64),
+pub struct LoadedScreen {
+    pub root: u64,
+    pub columns: u64,
+    pub used: u64,
+    pub values: u64,
+    pub bytes: u64,
 }
 
-fn check_table(t: &[u8]) -> CheckAnswer
-    ensures { result ≡ check_answer_in 1 t.now t.now t.now 4097 0 }
+fn check_table(t: &[u8]) -> Result<(), Refusal>
+    ensures { answered result ≡ check_answer_in 1 t.now t.now t.now 4097 0 }
 {
     check_lent(t, t, t, 0, 4097, 0)
 }
@@ -34,7 +39,7 @@ fn check_columns(
     text: usize,
     root: u32,
     t: &mut [u8],
-) -> CheckAnswer
+) -> Result<(), Refusal>
     requires f_value { structure_ok f.now ≡ true }
     requires columns_value { columns ≡ total 1 f.now }
     requires used_value { used ≡ total 2 f.now }
@@ -43,7 +48,7 @@ fn check_columns(
     requires root_value { root ≡ root_of f.now }
     requires text_value_2 { (ltb 4096 used || (ltb 8192 values || ltb 8192 text)) ≡ true }
     requires columns_in_bounds { columns ≤ length t.old }
-    ensures { result ≡ held_answer f.now }
+    ensures { answered result ≡ held_answer f.now }
 {
     gather(1, f, t);
     check_table(&t[..columns])
@@ -60,7 +65,7 @@ fn check_copies(
     t: &mut [u8],
     rs: &mut [u8],
     p: &mut [u8],
-) -> CheckAnswer
+) -> Result<(), Refusal>
     requires f_value { structure_ok f.now ≡ true }
     requires columns_value { columns ≡ total 1 f.now }
     requires used_value { used ≡ total 2 f.now }
@@ -70,7 +75,7 @@ fn check_copies(
     requires columns_in_bounds { columns ≤ length t.old }
     requires used_in_bounds { 16 * used ≤ length rs.old }
     requires values_in_bounds { 8 * values ≤ length p.old }
-    ensures { result ≡ held_answer f.now }
+    ensures { answered result ≡ held_answer f.now }
 {
     gather(1, f, t);
     gather(2, f, rs);
@@ -95,17 +100,17 @@ fn check_held(
     values: usize,
     text: usize,
     root: u32,
-) -> CheckAnswer
+) -> Result<(), Refusal>
     requires f_value { structure_ok f.now ≡ true }
     requires columns_value { columns ≡ total 1 f.now }
     requires used_value { used ≡ total 2 f.now }
     requires values_value { values ≡ total 3 f.now }
     requires text_value { text ≡ total 5 f.now }
     requires root_value { root ≡ root_of f.now }
-    ensures { result ≡ held_answer f.now }
+    ensures { answered result ≡ held_answer f.now }
 {
     if 64 < columns {
-        return CheckAnswer::Refused(1);
+        return Err(Refusal::Table);
     }
     let mut t = [0u8; COLUMNS];
     if (4096 < used) | ((8192 < values) | (8192 < text)) {
@@ -140,16 +145,22 @@ fn room_ok(
     (columns <= t) & ((used <= rs / 16) & ((values <= p / 8) & (text <= x)))
 }
 
-pub fn load_screen(f: &[u8], t: &mut [u8], rs: &mut [u8], p: &mut [u8], x: &mut [u8]) -> LoadAnswer
-    ensures answer { result ≡ load_answer f.now (length t.old) (length rs.old)
+pub fn load_screen(
+    f: &[u8],
+    t: &mut [u8],
+    rs: &mut [u8],
+    p: &mut [u8],
+    x: &mut [u8],
+) -> Result<LoadedScreen, Refusal>
+    ensures answer { load_answered result ≡ load_answer f.now (length t.old) (length rs.old)
         (length p.old) (length x.old) }
-    ensures table { t.new ≡ loaded_bytes result t.old (held 1 f.now) }
-    ensures records { rs.new ≡ loaded_bytes result rs.old (held 2 f.now) }
-    ensures pool { p.new ≡ loaded_bytes result p.old (held 3 f.now) }
-    ensures text { x.new ≡ loaded_bytes result x.old (held 5 f.now) }
+    ensures table { t.new ≡ loaded_bytes (load_answered result) t.old (held 1 f.now) }
+    ensures records { rs.new ≡ loaded_bytes (load_answered result) rs.old (held 2 f.now) }
+    ensures pool { p.new ≡ loaded_bytes (load_answered result) p.old (held 3 f.now) }
+    ensures text { x.new ≡ loaded_bytes (load_answered result) x.old (held 5 f.now) }
 {
     if !structure_ok(f) {
-        return LoadAnswer::Refused(15);
+        return Err(Refusal::File);
     }
     let columns = total_of(1, f);
     let used = total_of(2, f);
@@ -165,25 +176,19 @@ pub fn load_screen(f: &[u8], t: &mut [u8], rs: &mut [u8], p: &mut [u8], x: &mut 
         p.len(),
         x.len(),
     ) {
-        return LoadAnswer::Refused(14);
+        return Err(Refusal::Short);
     }
     let root = end_word(f, 20);
-    match check_held(f, columns, used, values, text, root) {
-        CheckAnswer::Refused(k) => {
-            return LoadAnswer::Refused(k);
-        }
-        CheckAnswer::Accepted => {
-            gather(1, f, t);
-            gather(2, f, rs);
-            gather(3, f, p);
-            gather(5, f, x);
-            return LoadAnswer::Loaded(
-                root as u64,
-                columns as u64,
-                used as u64,
-                values as u64,
-                text as u64,
-            );
-        }
-    }
+    check_held(f, columns, used, values, text, root)?;
+    gather(1, f, t);
+    gather(2, f, rs);
+    gather(3, f, p);
+    gather(5, f, x);
+    Ok(LoadedScreen {
+        root: root as u64,
+        columns: columns as u64,
+        used: used as u64,
+        values: values as u64,
+        bytes: text as u64,
+    })
 }

@@ -20,6 +20,8 @@ use columns::index::{INDEX, WIDE_INDEX, make_index, make_wide_index};
 use merge::answer::Rewriting;
 
 /// `merge_filter_constraints` with an index of the lists, each of which ends before place 8192.
+// The index has a frame of its own: one so large costs time even where it is not used.
+#[inline(never)]
 pub fn merge_indexed(
     t: &[u8],
     rs: &mut [u8],

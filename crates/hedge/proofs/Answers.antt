@@ -12,12 +12,12 @@ use borrow.Author.Tests.{lt-ltb, le-ltb, le-leb, lt-leb, eq-eqb, ne_eqb}
 use Rattle.records.specs.Bytes.{all}
 use Rattle.checking.specs.Check.{check_answer}
 use Rattle.checking.specs.Tree.{tree_count}
-use Rattle.checking.specs.declared.check.CheckAnswer.{CheckAnswer}
-use Rattle.checking.specs.declared.check.CheckAnswer.TheVariants as check
-use Rattle.row_test.specs.declared.test.RowAnswer.{RowAnswer}
+use Rattle.checking.specs.Answer.{CheckAnswer}
+use Rattle.checking.specs.Answer as check
+use Rattle.row_test.specs.Answer.{RowAnswer}
 use Rattle.tally.specs.declared.Tally.{Tally}
-use Rattle.hedge.specs.declared.list.HedgeAnswer.{HedgeAnswer}
-use Rattle.hedge.specs.declared.list.HedgeAnswer.TheVariants.{Refused, Listed}
+use Rattle.hedge.specs.Answer.{HedgeAnswer}
+use Rattle.hedge.specs.Answer.{Refused, Listed}
 use Rattle.chain_rows.specs.Chain.{answer_at, is_tested}
 use Rattle.hedge.specs.Hedge.{counts_answer, rows_answer, room_ok, checked_answer, answer_if}
 use Rattle.hedge.specs.Hedge.{hedge_answer, hedge_bytes, list_if}

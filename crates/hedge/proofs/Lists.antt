@@ -11,12 +11,12 @@ use lib.ListN.{get_or}
 use Rattle.file_blocks.specs.Format.{overwrite}
 use Rattle.three_valued.specs.declared.logic.Truth.{Truth}
 use Rattle.three_valued.specs.declared.logic.Truth.TheVariants.{False, Unknown, True}
-use Rattle.row_test.specs.declared.test.RowAnswer.{RowAnswer}
-use Rattle.row_test.specs.declared.test.RowAnswer.TheVariants.{Refused, Tested}
+use Rattle.row_test.specs.Answer.{RowAnswer}
+use Rattle.row_test.specs.Answer.{Refused, Tested}
 use Rattle.tally.specs.declared.Tally.{Tally}
 use Rattle.tally.specs.Sums.{sums_fit}
-use Rattle.hedge.specs.declared.list.HedgeAnswer.{HedgeAnswer}
-use Rattle.hedge.specs.declared.list.HedgeAnswer.TheVariants as hedge
+use Rattle.hedge.specs.Answer.{HedgeAnswer}
+use Rattle.hedge.specs.Answer as hedge
 use Rattle.chain_rows.specs.Chain.{passes, is_false, is_unknown}
 use Rattle.row_list.specs.Numbers.{count, numbers, bytes_of}
 use Rattle.hedge.specs.Hedge.{sums_answer, counts_answer}

@@ -3,14 +3,14 @@ use Rattle.std.specs.Prelude.{Bool, cond, ◌&&◌, List, ℕ, ◌*◌, ◌/◌,
 use Rattle.records.specs.Bytes.{all}
 use Rattle.checking.specs.Check.{check_answer}
 use Rattle.checking.specs.Tree.{tree_count}
-use Rattle.checking.specs.declared.check.CheckAnswer.{CheckAnswer}
-use Rattle.checking.specs.declared.check.CheckAnswer.TheVariants as check
-use Rattle.row_test.specs.declared.test.RowAnswer.{RowAnswer}
+use Rattle.checking.specs.Answer.{CheckAnswer}
+use Rattle.checking.specs.Answer as check
+use Rattle.row_test.specs.Answer.{RowAnswer}
 use Rattle.file_blocks.specs.Format.{overwrite}
 use Rattle.tally.specs.declared.Tally.{Tally}
 use Rattle.tally.specs.Sums.{grown, sums_fit}
-use Rattle.hedge.specs.declared.list.HedgeAnswer.{HedgeAnswer}
-use Rattle.hedge.specs.declared.list.HedgeAnswer.TheVariants.{Refused, Listed}
+use Rattle.hedge.specs.Answer.{HedgeAnswer}
+use Rattle.hedge.specs.Answer.{Refused, Listed}
 use Rattle.chain_rows.specs.Chain.{answer_at, passes, is_false, is_unknown, is_tested}
 use Rattle.row_list.specs.Numbers.{count, numbers, bytes_of}
 

@@ -3,46 +3,58 @@ ghost use Rattle.std.specs.Prelude.{◌≡◌, cond, ℕ, ◌+◌, ◌*◌, ◌/
 ghost use Rattle.checking.specs.Check.{check_answer};
 ghost use Rattle.checking.specs.Checked.{Checked};
 ghost use Rattle.checking.specs.Tree.{Counted, tree_count};
-ghost use Rattle.checking.specs.declared.check.CheckAnswer.TheVariants.{Accepted};
+ghost use Rattle.checking.specs.Answer.{Accepted, answered};
 ghost use Rattle.file_blocks.specs.Format.{overwrite};
-ghost use Rattle.row_test.specs.declared.test.RowAnswer.{RowAnswer};
+ghost use Rattle.row_test.specs.Answer.{RowAnswer};
 ghost use Rattle.chain_rows.specs.Chain.{answer_at};
 ghost use Rattle.row_list.specs.Numbers.{count, numbers, bytes_of};
+ghost use Rattle.hedge.specs.Answer.{hedge_answered};
 ghost use Rattle.hedge.specs.Hedge.{counts_answer, checked_answer, list_if, hedge_answer, hedge_bytes};
 ghost use Rattle.chain_rows.specs.Classes.{Judged};
 
 use chain_rows::judge::judge_rows;
-use checking::check::{CheckAnswer, check_counted};
+use checking::check::check_counted;
 use limits::{FEW_RECORDS, RECORDS, ROWS};
 use records::record::Node;
+use refusal::Refusal;
 use row_list::{count_class, write_list};
 use tally::{Tally, sums_fit};
 
-// A refusal with its number, or how many rows passed, were false, were unknown.
+// How many rows passed, were false, were unknown.
 #[derive(Clone, Copy)]
-pub enum HedgeAnswer {
-    Refused(u32),
-    Listed(u64, u64, u64),
+pub struct ListedRows {
+    pub passed: u64,
+    pub is_false: u64,
+    pub unknown: u64,
 }
 
 /// The rows are judged. 21, or the list is written.
-pub fn list_rows(classes: &[u8], rows: usize, list: &mut [u8], tally: Tally) -> HedgeAnswer
+pub fn list_rows(
+    classes: &[u8],
+    rows: usize,
+    list: &mut [u8],
+    tally: Tally,
+) -> Result<ListedRows, Refusal>
     requires rows_in_bounds { rows ≤ length classes.now }
     requires rows_bound { rows ≤ 1024 }
     requires rows_in_bounds_2 { 2 * rows ≤ length list.old }
     ensures by_index { (answers : ℕ → RowAnswer) → Judged answers classes.now rows
-        → result ≡ counts_answer answers rows tally }
+        → hedge_answered result ≡ counts_answer answers rows tally }
     ensures by_index_2 { (answers : ℕ → RowAnswer) → Judged answers classes.now rows
-        → list.new ≡ list_if result list.old answers rows }
+        → list.new ≡ list_if (hedge_answered result) list.old answers rows }
 {
     let passed = count_class(classes, rows, 2);
     let is_false = count_class(classes, rows, 0);
     let unknown = count_class(classes, rows, 1);
     if !sums_fit(tally, passed, is_false, unknown) {
-        return HedgeAnswer::Refused(21);
+        return Err(Refusal::Tally);
     }
     write_list(classes, rows, list);
-    HedgeAnswer::Listed(passed, is_false, unknown)
+    Ok(ListedRows {
+        passed,
+        is_false,
+        unknown,
+    })
 }
 
 // The screen was accepted, and its root has the tree count: 8, 20, 12, 13, then the list.
@@ -58,31 +70,31 @@ fn list_checked(
     list: &mut [u8],
     tally: Tally,
     classes: &mut [u8],
-) -> HedgeAnswer
+) -> Result<ListedRows, Refusal>
     requires checked { Checked table.now records.now pool.now used root.0 }
     requires tree_value { tree ≡ min (tree_count records.now root.0) 4097 }
     requires in_bounds { 1024 ≤ length classes.old }
-    ensures value { result ≡ checked_answer table.now records.now pool.now used root.0
+    ensures value { hedge_answered result ≡ checked_answer table.now records.now pool.now used root.0
         values.now nulls.now (length list.old) tally }
-    ensures list_after { list.new ≡ list_if result list.old (answer_at table.now records.now
+    ensures list_after { list.new ≡ list_if (hedge_answered result) list.old (answer_at table.now records.now
         pool.now used root.0 values.now nulls.now) (length nulls.now) }
 {
     if 4096 < tree {
-        return HedgeAnswer::Refused(8);
+        return Err(Refusal::Tree);
     }
     if 1024 < nulls.len() {
-        return HedgeAnswer::Refused(20);
+        return Err(Refusal::Chain);
     }
     if list.len() / 2 < nulls.len() {
-        return HedgeAnswer::Refused(20);
+        return Err(Refusal::Chain);
     }
     if values.len() != 8 * table.len() * nulls.len() {
-        return HedgeAnswer::Refused(12);
+        return Err(Refusal::RowLength);
     }
     if !judge_rows(
         table, records, pool, used, root, tree, values, nulls, classes,
     ) {
-        return HedgeAnswer::Refused(13);
+        return Err(Refusal::Row);
     }
     list_rows(classes, nulls.len(), list, tally)
 }
@@ -90,7 +102,7 @@ fn list_checked(
 // The screen was checked: its refusal, or the list. A function of its own with two callers, so that the tables of judging
 // take no stack while the screen is checked.
 fn list_answered(
-    answer: CheckAnswer,
+    answer: Result<(), Refusal>,
     table: &[u8],
     records: &[u8],
     pool: &[u8],
@@ -102,32 +114,30 @@ fn list_answered(
     tally: Tally,
     trees: &[u16],
     classes: &mut [u8],
-) -> HedgeAnswer
-    requires answer_value { answer ≡ check_answer table.now records.now pool.now used root }
-    requires counted { answer ≡ Accepted → Counted records.now trees.now used }
+) -> Result<ListedRows, Refusal>
+    requires answer_value { answered answer ≡ check_answer table.now records.now pool.now used root }
+    requires counted { answered answer ≡ Accepted → Counted records.now trees.now used }
     requires used_in_bounds { used ≤ 4096 → used ≤ length trees.now }
     requires in_bounds { 1024 ≤ length classes.old }
-    ensures value { result ≡ hedge_answer table.now records.now pool.now used root
+    ensures value { hedge_answered result ≡ hedge_answer table.now records.now pool.now used root
         values.now nulls.now (length list.old) tally }
     ensures list_after { list.new ≡ hedge_bytes table.now records.now pool.now used root
         values.now nulls.now list.old tally }
 {
-    match answer {
-        CheckAnswer::Refused(number) => HedgeAnswer::Refused(number),
-        CheckAnswer::Accepted => list_checked(
-            table,
-            records,
-            pool,
-            used,
-            Node(root as u32),
-            trees[root as usize],
-            values,
-            nulls,
-            list,
-            tally,
-            classes,
-        ),
-    }
+    answer?;
+    list_checked(
+        table,
+        records,
+        pool,
+        used,
+        Node(root as u32),
+        trees[root as usize],
+        values,
+        nulls,
+        list,
+        tally,
+        classes,
+    )
 }
 
 // The screen is checked once; then all rows, and only then is the list written. Most screens have few records, and small
@@ -142,8 +152,8 @@ pub fn hedge_list(
     nulls: &[u64],
     list: &mut [u8],
     tally: Tally,
-) -> HedgeAnswer
-    ensures value { result ≡ hedge_answer table.now records.now pool.now used root
+) -> Result<ListedRows, Refusal>
+    ensures value { hedge_answered result ≡ hedge_answer table.now records.now pool.now used root
         values.now nulls.now (length list.old) tally }
     ensures list_after { list.new ≡ hedge_bytes table.now records.now pool.now used root
         values.now nulls.now list.old tally }

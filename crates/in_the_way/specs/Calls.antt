@@ -7,8 +7,8 @@ use Rattle.truth.specs.FromBytes.{aexpr_at, truth_in}
 use Rattle.merge.specs.Minterms.{minterms}
 use Rattle.merge.specs.Plain.{plain_screen}
 use Rattle.merge.specs.Demand.{Row, IsRow, passes}
-use Rattle.judge_lines.specs.declared.answer.WayAnswer.{WayAnswer}
-use Rattle.judge_lines.specs.declared.answer.WayAnswer.TheVariants as way
+use Rattle.judge_lines.specs.WayAnswer.{WayAnswer}
+use Rattle.judge_lines.specs.WayAnswer as way
 
 -- 256 a row passes already, 257 the line is found, 258 no single line
 abbrev pub way_number : WayAnswer → ℕ

@@ -5,7 +5,7 @@ ghost use Rattle.std.specs.Prelude.{◌≡◌, true};
 ghost use Rattle.way_answer.specs.Answer.{way_answer};
 ghost use Rattle.in_the_way.specs.Calls.{way_number, line_out, way_listed, WayPromise};
 
-use judge_lines::answer::WayAnswer;
+use judge_lines::answer::Way;
 use way_answer::line_in_the_way;
 
 // Below 256: the refusal's number, and nothing is written. 256: a row passes already. 257: no row passes, and `line` has the first
@@ -27,12 +27,14 @@ pub fn line_of_screen(
         line.new }
 {
     match line_in_the_way(table, records, pool, used, root) {
-        WayAnswer::Refused(k) => k,
-        WayAnswer::Passes => 256,
-        WayAnswer::Line(number) => {
-            *line = number;
-            257
-        }
-        WayAnswer::NoLine => 258,
+        Err(r) => r.number(),
+        Ok(way) => match way {
+            Way::Passes => 256,
+            Way::Line(number) => {
+                *line = number;
+                257
+            }
+            Way::NoLine => 258,
+        },
     }
 }

@@ -8,7 +8,7 @@ use borrow.Author.Tests.{lt-ltb, le-ltb, not-true, not-false}
 use Rattle.truth.specs.AExpr.{AExpr}
 use Rattle.read_operands.specs.Walk.{first_of}
 use Rattle.read_operands.proofs.Walks.{first-length}
-use Rattle.judge_lines.specs.declared.answer.WayAnswer.TheVariants as way
+use Rattle.judge_lines.specs.WayAnswer as way
 use Rattle.judge_lines.specs.Lines.{without, nothing_passes, first_true}
 use Rattle.judge_lines.specs.Answer.{line_of, line_answer}
 

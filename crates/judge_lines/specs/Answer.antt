@@ -2,8 +2,8 @@
 -- makes some row pass.
 use Rattle.std.specs.Prelude.{cond, not, List, ℕ, ltb, length}
 use Rattle.truth.specs.AExpr.{AExpr}
-use Rattle.judge_lines.specs.declared.answer.WayAnswer.{WayAnswer}
-use Rattle.judge_lines.specs.declared.answer.WayAnswer.TheVariants as way
+use Rattle.judge_lines.specs.WayAnswer.{WayAnswer}
+use Rattle.judge_lines.specs.WayAnswer as way
 use Rattle.judge_lines.specs.Lines.{without, nothing_passes, first_true}
 
 -- Line i, or that none of n lines is it.

@@ -1,2 +1,3 @@
+pub mod WayAnswer
 pub mod Lines
 pub mod Answer

@@ -11,8 +11,9 @@ ghost use Rattle.reading.specs.Columns.{ColumnsBelow};
 ghost use Rattle.column_table.specs.Rows.{stride};
 ghost use Rattle.judge_lines.specs.Lines.{without, nothing_passes, first_true};
 ghost use Rattle.judge_lines.specs.Answer.{line_answer};
+ghost use Rattle.judge_lines.specs.WayAnswer.{way_found};
 
-use crate::answer::WayAnswer;
+use crate::answer::Way;
 use crate::merged::lets_nothing_pass;
 
 /// The first line whose removal makes some row pass; n if no single one does.
@@ -34,8 +35,7 @@ fn first_line(
     ensures { result ≡ first_true (λ i. not (nothing_passes (aexpr_of rs.now p.now)
         (without i (first_of nodes.old n)))) n }
 {
-    let mut i: usize = 0;
-    while i < n {
+    for i in 0..n {
         let node = nodes[i];
         nodes[i] = 0;
         let nothing = lets_nothing_pass(rs, p, nodes, n, told, index, marks);
@@ -43,7 +43,6 @@ fn first_line(
         if !nothing {
             return i;
         }
-        i += 1;
     }
     n
 }
@@ -57,21 +56,21 @@ pub fn judge_lines(
     told: &[u64],
     index: &[u64],
     marks: &mut [u8],
-) -> WayAnswer
+) -> Way
     requires n_bound { (n ≤ stride marks.old) × (stride marks.old ≤ 128) × (n ≤ length nodes.old)
         × Indexed told.now p.now index.now }
     requires by_index { (i : ℕ) → i < n → ToldConjunct (conjuncts told.now p.now) i
         (c.classify (aexpr_of rs.now p.now) (get_or nodes.old i 0)) }
     requires by_index_2 { (i : ℕ) → i < n → ColumnsBelow 64 (c.classify (aexpr_of rs.now p.now) (get_or nodes.old i 0)) }
     requires p_value { c.classify (aexpr_of rs.now p.now) 0 ≡ c.Opaque 0 }
-    ensures { result ≡ line_answer (aexpr_of rs.now p.now) (first_of nodes.old n) }
+    ensures { way_found result ≡ line_answer (aexpr_of rs.now p.now) (first_of nodes.old n) }
 {
     if !lets_nothing_pass(rs, p, nodes, n, told, index, marks) {
-        return WayAnswer::Passes;
+        return Way::Passes;
     }
     let i = first_line(rs, p, nodes, n, told, index, marks);
     if i < n {
-        return WayAnswer::Line(i as u64);
+        return Way::Line(i as u64);
     }
-    WayAnswer::NoLine
+    Way::NoLine
 }

@@ -10,10 +10,10 @@ ghost use Rattle.truth.specs.Halves.{key, bias_of};
 ghost use Rattle.masks.specs.Masks.{mask_to, Tells};
 ghost use Rattle.masks.specs.Block.{chain_value, cell_of, Wide, NullWord};
 
-use compare_masks::{high_code, low_code};
-use masks::block::biased;
 use masks::{Masks, and_masks, inverted, not_masks};
 use records::bytes::value_in;
+use truth::scalar::biased;
+use truth::value::{high_code, low_code};
 
 // A word is put together from its highest bit down: that takes fewer instructions than to set bit after bit.
 fn pushed(m: u64, b: bool) -> u64
@@ -37,9 +37,7 @@ fn mask_below(values: &[u8], columns: usize, c: u32, base: usize, rows: usize, v
     ensures wide { Wide columns values.now c base 0 rows }
 {
     let mut m: u64 = 0;
-    let mut i = rows;
-    while 0 < i {
-        i -= 1;
+    for i in (0..rows).rev() {
         let x = value_in(values, columns * (base + i) + c as usize);
         m = pushed(m, biased(x) < biased(v));
     }
@@ -57,9 +55,7 @@ fn mask_above(values: &[u8], columns: usize, c: u32, base: usize, rows: usize, v
     ensures wide { Wide columns values.now c base 0 rows }
 {
     let mut m: u64 = 0;
-    let mut i = rows;
-    while 0 < i {
-        i -= 1;
+    for i in (0..rows).rev() {
         let x = value_in(values, columns * (base + i) + c as usize);
         m = pushed(m, biased(v) < biased(x));
     }
@@ -77,9 +73,7 @@ fn mask_same(values: &[u8], columns: usize, c: u32, base: usize, rows: usize, v:
     ensures wide { Wide columns values.now c base 0 rows }
 {
     let mut m: u64 = 0;
-    let mut i = rows;
-    while 0 < i {
-        i -= 1;
+    for i in (0..rows).rev() {
         let x = value_in(values, columns * (base + i) + c as usize);
         m = pushed(m, biased(x) == biased(v));
     }

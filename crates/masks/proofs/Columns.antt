@@ -14,7 +14,7 @@ use borrow.Author.Tests.{ltb-true, ltb-false, eqb-true, eqb-false, ne_eqb}
 use Rattle.records.proofs.Laws.{by-test}
 use Rattle.checking.specs.Columns.{bit}
 use Rattle.checking.proofs.Bits.{bit-or}
-use Rattle.truth.specs.declared.scalar.Ordering.{Ordering}
+use Rattle.std.specs.declared.cmp.Ordering.{Ordering}
 use Rattle.truth.specs.Order.{is_less, is_equal}
 use Rattle.truth.specs.Comparison.{Eq, Lt}
 use Rattle.truth.specs.Halves.{ord_z, key, bias_of}

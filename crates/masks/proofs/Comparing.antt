@@ -14,7 +14,7 @@ use borrow.Author.Tests.{ne_eqb}
 use Rattle.checking.specs.Columns.{bit}
 use Rattle.checking.proofs.Bits.{bit-or, bit-zero}
 use Rattle.three_valued.specs.declared.logic.Truth.{Truth}
-use Rattle.truth.specs.declared.scalar.Ordering.{Ordering}
+use Rattle.std.specs.declared.cmp.Ordering.{Ordering}
 use Rattle.truth.specs.Order.{View, less_view, equal_view, greater_view, is_less, is_equal, is_greater}
 use Rattle.truth.specs.Comparison.{Eq, Lt, Gt}
 use Rattle.truth.specs.Halves.{ord_z, key}

@@ -1,21 +1,12 @@
 // A block of rows: one column of it as keys and a word of null marks.
 ghost use Rattle.std.specs.Prelude.{◌≡◌, ℕ, ◌+◌, ◌*◌, ◌≤◌, ◌<◌, length, get_or};
-ghost use Rattle.truth.specs.Halves.{bias_of};
 ghost use Rattle.masks.specs.Masks.{Shown};
 ghost use Rattle.masks.specs.Block.{chain_value};
 
 use crate::with_bit;
 use records::bytes::value_in;
 use truth::read::null_marked;
-
-pub fn biased(x: u64) -> u64
-    ensures { result ≡ bias_of x }
-{
-    if x < 9223372036854775808 {
-        return x + 9223372036854775808;
-    }
-    x - 9223372036854775808
-}
+use truth::scalar::biased;
 
 /// Column c of the rows from `base` on: its keys into `keys`, from `at` on, and the word of its nulls. What stands before `at`
 /// stays.
@@ -41,13 +32,11 @@ pub fn fill_column(
     ensures by_index { (j : ℕ) → j < at → get_or keys.new j 0 ≡ get_or keys.old j 0 }
 {
     let mut marks: u64 = 0;
-    let mut i: usize = 0;
-    while i < rows {
+    for i in 0..rows {
         let r = base + i;
         let v = value_in(values, columns * r + c as usize);
         keys[at + i] = biased(v);
         marks = with_bit(marks, i as u32, null_marked(nulls[r], c));
-        i += 1;
     }
     marks
 }

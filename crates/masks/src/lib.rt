@@ -87,10 +87,8 @@ pub fn mask_equal(keys: &[u64], at: usize, w: u64) -> u64
     ensures { result ≡ mask_to (λ (i : ℕ). eqb (get_or keys.now (at + i) 0) w) 64 }
 {
     let mut m: u64 = 0;
-    let mut i: usize = 0;
-    while i < 64 {
+    for i in 0..64 {
         m = with_bit(m, i as u32, keys[at + i] == w);
-        i += 1;
     }
     m
 }
@@ -117,10 +115,8 @@ fn mask_less_pairs(keys: &[u64], at: usize, other: usize) -> u64
         (get_or keys.now (other + i) 0)) 64 }
 {
     let mut m: u64 = 0;
-    let mut i: usize = 0;
-    while i < 64 {
+    for i in 0..64 {
         m = with_bit(m, i as u32, keys[at + i] < keys[other + i]);
-        i += 1;
     }
     m
 }
@@ -148,10 +144,8 @@ pub fn mask_equal_pairs(keys: &[u64], at: usize, other: usize) -> u64
         (get_or keys.now (other + i) 0)) 64 }
 {
     let mut m: u64 = 0;
-    let mut i: usize = 0;
-    while i < 64 {
+    for i in 0..64 {
         m = with_bit(m, i as u32, keys[at + i] == keys[other + i]);
-        i += 1;
     }
     m
 }

@@ -35,9 +35,7 @@ pub fn mark_reached(records: &[u8], root: Node, marks: &mut [u8])
     ensures closed { Closed records.now marks.new 0 root.0 }
 {
     marks[root.0 as usize] = 1;
-    let mut n = root.0 + 1;
-    while 0 < n {
-        n -= 1;
+    for n in (0..root.0 + 1).rev() {
         let f = fields_in(records, Node(n));
         if (marks[n as usize] == 1) & is_kept(f) {
             mark(marks, f.a, n);

@@ -7,23 +7,21 @@ ghost use Rattle.truth.specs.Evaluate.{keyed, holds_key, member_of};
 
 use records::bytes::value_in;
 use records::record::Fields;
-use three_valued::logic::{Truth, truth_of_bool};
+use three_valued::logic::Truth;
 use truth::scalar::{Scalar, scalar_cmp};
-use truth::value::{Value, is_equal};
+use truth::value::Value;
 
 // Whether one of `count` values of the pool, from the one numbered `start` on, equals `v`.
 fn listed(pool: &[u8], start: u32, count: u32, v: Scalar) -> bool
     requires { 8 * (start + count) ≤ length pool.now }
     ensures { result ≡ holds_key (key v.0) (values_from pool.now start count) }
 {
-    let mut i = start as usize;
     let end = start as usize + count as usize;
-    while i < end {
+    for i in start as usize..end {
         let w = Scalar(value_in(pool, i));
-        if is_equal(scalar_cmp(v, w)) {
+        if scalar_cmp(v, w).is_eq() {
             return true;
         }
-        i += 1;
     }
     false
 }
@@ -33,7 +31,7 @@ fn null_in(equal: bool, holds: bool, count: u32) -> Truth
     ensures { result ≡ null_in3 equal holds (eqb count 0) }
 {
     if equal {
-        return truth_of_bool(holds);
+        return Truth::from(holds);
     }
     if holds | (count != 0) {
         return Truth::Unknown;
@@ -41,8 +39,8 @@ fn null_in(equal: bool, holds: bool, count: u32) -> Truth
     Truth::False
 }
 
-// A value: where it is not found, a null in the list may still be it.
-fn known_in(equal: bool, holds: bool, found: bool) -> Truth
+/// A value: where it is not found, a null in the list may still be it.
+pub fn known_in(equal: bool, holds: bool, found: bool) -> Truth
     ensures { result ≡ known_in3 equal holds found }
 {
     if found {
@@ -60,7 +58,7 @@ pub fn member(pool: &[u8], list: Fields, equal: bool, x: Value) -> Truth
     ensures { result ≡ member_of pool.now list equal (keyed x) }
 {
     match x {
-        Value::Null => null_in(equal, list.code == 1, list.b),
-        Value::Known(v) => known_in(equal, list.code == 1, listed(pool, list.a, list.b, v)),
+        None => null_in(equal, list.code == 1, list.b),
+        Some(v) => known_in(equal, list.code == 1, listed(pool, list.a, list.b, v)),
     }
 }

@@ -5,7 +5,7 @@ use mathlib.Core.Option.{none, some}
 use Rattle.truth.proofs.Orders.{cmp-eq, cmp-gt, cmp-lt}
 use Rattle.truth.specs.Comparison.{Comparison, Eq, Gt, GtEq, Lt, LtEq, NotEq, comparison_holds}
 use Rattle.truth.specs.Order.{View, equal_view, greater_view, less_view}
-use Rattle.truth.specs.declared.scalar.Ordering.{Ordering}
+use Rattle.std.specs.declared.cmp.Ordering.{Ordering}
 use Rattle.constraints.proofs.Columns.{obeys_all}
 use Rattle.constraints.specs.Scalars.{Scalars}
 use Rattle.merge.specs.Classify.{comparison_constraints}

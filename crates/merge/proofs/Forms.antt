@@ -8,7 +8,7 @@ use Prim.Native.Nat.{ℕ}
 use Rattle.records.specs.Operator.{is_null_propagating_comparison, swap_operands, negate}
 use Rattle.records.specs.declared.operator.Operator.{Operator}
 use Rattle.records.specs.declared.operator.Operator.TheVariants as operator
-use Rattle.records.specs.declared.operator.Swapped.TheVariants.{To}
+use Rattle.std.specs.Prelude.{Some}
 use Rattle.truth.specs.Comparison.{Comparison, Eq, NotEq, Lt, LtEq, Gt, GtEq}
 use Rattle.truth.specs.AExpr.{AExpr, Column, Literal, Null, BinaryExpr, Not, IsNull, IsNotNull, IsBetween}
 use Rattle.truth.specs.AExpr.{ListLiteral, IsIn, Missing, BinaryOp, Compare, EqValidity, NotEqValidity, And, Or, Xor}
@@ -193,7 +193,7 @@ module _ {Val : Type 0} (R : ℕ → AExpr Val) (n : ℕ) (F : ℕ → Operand V
   -- the validity comparisons: a column beside a literal enters the table, and that is all
   not-enters :
       (r : AExpr Val) (o : Operator) (x y : ℕ) (s t : Operand Val) → is_null_propagating_comparison o ≡ false →
-      ordinary_comparison o ≡ none → swap_operands o ≡ To o → F x s → F y t →
+      ordinary_comparison o ≡ none → swap_operands o ≡ Some o → F x s → F y t →
       C r false (normalized (classify_comparison n o s t))
   not-enters r o x y (AColumn c) (AColumn d) h k l p q = rw h (f.opaque r)
   not-enters r o x y (AColumn c) (ALiteral v) h k l p q = rw k (f.entered r x c p)

@@ -2,7 +2,7 @@
 use mathlib.Core.Path.{◌≡◌, refl}
 use mathlib.Core.Option.{some}
 use Rattle.records.specs.Operator.{swap_operands}
-use Rattle.records.specs.declared.operator.Swapped.TheVariants.{To}
+use Rattle.std.specs.Prelude.{Some}
 use Rattle.truth.specs.Comparison.{Comparison, Eq, NotEq, Lt, LtEq, Gt, GtEq}
 use Rattle.merge.specs.Classify.{comparison_operator, ordinary_comparison}
 
@@ -23,7 +23,7 @@ ordinary_of LtEq = refl
 ordinary_of Gt = refl
 ordinary_of GtEq = refl
 
-pub swap_of : (o : Comparison) → swap_operands (comparison_operator o) ≡ To (comparison_operator (swap_comparison o))
+pub swap_of : (o : Comparison) → swap_operands (comparison_operator o) ≡ Some (comparison_operator (swap_comparison o))
 swap_of Eq = refl
 swap_of NotEq = refl
 swap_of Lt = refl

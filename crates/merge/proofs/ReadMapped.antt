@@ -11,10 +11,7 @@ use lib.ListN.{length, length-map}
 use Rattle.records.specs.Operator.{code_of, is_null_propagating_comparison, swap_operands, negate}
 use Rattle.records.specs.declared.operator.Operator.{Operator}
 use Rattle.records.specs.declared.operator.Operator.TheVariants as operator
-use Rattle.records.specs.declared.operator.Swapped.{Swapped}
-use Rattle.records.specs.declared.operator.Swapped.TheVariants.{Nothing, To}
-use Rattle.records.specs.declared.operator.Negated.{Negated}
-use Rattle.records.specs.declared.operator.Negated.TheVariants as negated
+use Rattle.std.specs.Prelude as code
 use Rattle.records.proofs.Courses.{course-agree}
 use Rattle.truth.specs.Comparison.{Comparison, Eq, NotEq, Lt, LtEq, Gt, GtEq}
 use Rattle.truth.specs.AExpr.{AExpr, Column, Literal, Null, BinaryExpr, Not, IsNull, IsNotNull, IsBetween}
@@ -71,10 +68,10 @@ module _ {A B : Type 0} (f : A → B) where
   literal-mapped n c v (some Gt) = refl
   literal-mapped n c v (some GtEq) = refl
 
-  swapped_mapped : (n c : ℕ) (v : A) (o : Swapped) →
+  swapped_mapped : (n c : ℕ) (v : A) (o : code.Option Operator) →
       classify_literal_column n c (f v) o ≡ map_conjunct f (classify_literal_column n c v o)
-  swapped_mapped n c v Nothing = refl
-  swapped_mapped n c v (To o) = literal-mapped n c v (ordinary_comparison o)
+  swapped_mapped n c v code.None = refl
+  swapped_mapped n c v (code.Some o) = literal-mapped n c v (ordinary_comparison o)
 
   columns-mapped : (n a b : ℕ) (o : Operator) → classify_column_column n a b o ≡ map_conjunct f (classify_column_column n a b o)
   columns-mapped n a b o = go (is_null_propagating_comparison o) (eqb (code_of o) (code_of operator.Eq))
@@ -106,10 +103,10 @@ module _ {A B : Type 0} (f : A → B) where
   normalized-mapped (NonNullPair n a b) = refl
   normalized-mapped (Opaque n) = refl
 
-  negated_mapped : (n : ℕ) (o : Negated) (x y : Operand A) →
+  negated_mapped : (n : ℕ) (o : code.Option Operator) (x y : Operand A) →
       classify_negated n o (map_operand x) (map_operand y) ≡ map_conjunct f (classify_negated n o x y)
-  negated_mapped n negated.Nothing x y = refl
-  negated_mapped n (negated.To o) x y =
+  negated_mapped n code.None x y = refl
+  negated_mapped n (code.Some o) x y =
       ap normalized (comparison_mapped n o x y) ∙ normalized-mapped (classify_comparison n o x y)
 
   -- ---- the other readers

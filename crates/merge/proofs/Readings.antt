@@ -19,8 +19,8 @@ use Rattle.three_valued.specs.Logic.{and3, is_true, not3, of_bool}
 use Rattle.truth.specs.Membership.{in3, known_in3, null_in3}
 use Rattle.truth.specs.Order.{View, equal_view, greater_view, less_view, is_equal}
 use Rattle.three_valued.specs.declared.logic.Truth.{Truth}
-use Rattle.truth.specs.declared.scalar.Ordering.{Ordering}
-use Rattle.truth.specs.declared.scalar.Ordering.TheVariants.{Equal, Greater, Less}
+use Rattle.std.specs.declared.cmp.Ordering.{Ordering}
+use Rattle.std.specs.declared.cmp.Ordering.TheVariants.{Equal, Greater, Less}
 use Rattle.constraints.proofs.Columns.{obeys, obeys_all, obeys_recorded_all}
 use Rattle.constraints.specs.Column.{Allow, Constraint, Disallow, Lower, Require, Upper}
 use Rattle.constraints.specs.Scalars.{Scalars}

@@ -14,8 +14,8 @@ use Rattle.truth.specs.Cell.{TruthKeys, cell_at, compare3, no_cell, step, truth_
 use Rattle.truth.specs.Comparison.{Eq, Gt, GtEq, Lt, LtEq, NotEq, comparison_holds}
 use Rattle.three_valued.specs.Logic.{is_true, of_bool}
 use Rattle.truth.specs.Order.{is_equal}
-use Rattle.truth.specs.declared.scalar.Ordering.{Ordering}
-use Rattle.truth.specs.declared.scalar.Ordering.TheVariants.{Equal, Greater, Less}
+use Rattle.std.specs.declared.cmp.Ordering.{Ordering}
+use Rattle.std.specs.declared.cmp.Ordering.TheVariants.{Equal, Greater, Less}
 use Rattle.constraints.proofs.Resolved.{comparison_true}
 use Rattle.constraints.specs.Bound.{at, clears}
 use Rattle.constraints.specs.Comparisons.{ColumnComparison, IsEq, IsLower, IsNotEq, IsUpper}

@@ -7,8 +7,8 @@ use mathlib.Core.List.{List, [], ◌∷◌, ◌++◌, append_assoc, append-nil}
 use mathlib.Core.Option.{Option, none, some, none-ne-some, some-injective}
 use Rattle.truth.proofs.Orders.{cmp-eq, cmp-gt, cmp-lt, cmp-refl, opp-total}
 use Rattle.truth.specs.Order.{View, above, equal_view, greater_view, less_view, is_equal, opp}
-use Rattle.truth.specs.declared.scalar.Ordering.{Ordering}
-use Rattle.truth.specs.declared.scalar.Ordering.TheVariants.{Equal, Greater, Less}
+use Rattle.std.specs.declared.cmp.Ordering.{Ordering}
+use Rattle.std.specs.declared.cmp.Ordering.TheVariants.{Equal, Greater, Less}
 use Rattle.constraints.proofs.Bounds.{SameBound, same-clears, same-of_still}
 use Rattle.constraints.proofs.Columns.{admits_emitted}
 use Rattle.constraints.proofs.Merges.{Implies, or_no}

@@ -7,7 +7,7 @@ use Prim.Native.Nat.{ℕ}
 use Rattle.checking.specs.Check.{check_answer}
 use Rattle.checking.specs.Checked.{Checked}
 use Rattle.checking.proofs.Accepted.{checked}
-use Rattle.checking.specs.declared.check.CheckAnswer.TheVariants as check
+use Rattle.checking.specs.Answer as check
 use Rattle.truth.specs.AExpr.{AExpr, Literal, WF}
 use Rattle.truth.specs.Cell.{TruthKeys, truth_of_value}
 use Rattle.three_valued.specs.declared.logic.Truth.TheVariants.{False}

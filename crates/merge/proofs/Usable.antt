@@ -11,13 +11,13 @@ use Rattle.record_check.specs.Fit.{type_of}
 use Rattle.checking.specs.Check.{sizes_ok_in, check_answer}
 use Rattle.checking.specs.Checked.{Checked, CheckedIn}
 use Rattle.checking.specs.Tree.{tree_count}
-use Rattle.checking.specs.declared.check.CheckAnswer.{CheckAnswer}
-use Rattle.checking.specs.declared.check.CheckAnswer.TheVariants as check
+use Rattle.checking.specs.Answer.{CheckAnswer}
+use Rattle.checking.specs.Answer as check
 use Rattle.checking.proofs.Accepted.{checked, checked-accepted_in}
 use Rattle.three_valued.specs.declared.logic.Truth.{Truth}
 use Rattle.three_valued.specs.declared.logic.Truth.TheVariants.{False, Unknown, True}
-use Rattle.row_test.specs.declared.test.RowAnswer.{RowAnswer}
-use Rattle.row_test.specs.declared.test.RowAnswer.TheVariants as row
+use Rattle.row_test.specs.Answer.{RowAnswer}
+use Rattle.row_test.specs.Answer as row
 use Rattle.three_valued.specs.Logic.{is_true}
 use Rattle.truth.specs.FromBytes.{aexpr_at, row_keys, truth_in}
 use Rattle.row_test.specs.RowTest.{row_fault, test_row_answer}

@@ -6,8 +6,8 @@ use mathlib.Core.Option.{Option, none, some}
 use mathlib.Core.Logic.{◌⊎◌, inl, inr}
 use Rattle.truth.proofs.Orders.{cmp-eq, cmp-lt, cmp-refl, opp-total}
 use Rattle.truth.specs.Order.{View, above, equal_view, greater_view, less_view, is_equal, opp}
-use Rattle.truth.specs.declared.scalar.Ordering.{Ordering}
-use Rattle.truth.specs.declared.scalar.Ordering.TheVariants.{Equal, Greater, Less}
+use Rattle.std.specs.declared.cmp.Ordering.{Ordering}
+use Rattle.std.specs.declared.cmp.Ordering.TheVariants.{Equal, Greater, Less}
 use Rattle.constraints.proofs.Bounds.{SameBound, same-clears, same-of_still}
 use Rattle.constraints.proofs.Columns.{admits, admits_emitted, admits_recorded, null_fits, value_fits}
 use Rattle.constraints.proofs.Merges.{Implies, Quiet, not-no, or_no}

@@ -2,14 +2,11 @@
 -- only by their form (`as_column`, `as_scalar_lit`, `as_value_set`). Everything not named here is opaque and stays as
 -- it is.
 use Rattle.std.proofs.Math.Option.{Option, none, some}
+use Rattle.std.specs.Prelude as code
 use Rattle.std.specs.Prelude.{Bool, true, false, not, ◌&&◌, cond, List, [], ◌∷◌, map, ℕ, leb, eqb, length}
 use Rattle.records.specs.Operator.{code_of, is_null_propagating_comparison, swap_operands, negate}
 use Rattle.records.specs.declared.operator.Operator.{Operator}
 use Rattle.records.specs.declared.operator.Operator.TheVariants as operator
-use Rattle.records.specs.declared.operator.Swapped.{Swapped}
-use Rattle.records.specs.declared.operator.Swapped.TheVariants.{Nothing, To}
-use Rattle.records.specs.declared.operator.Negated.{Negated}
-use Rattle.records.specs.declared.operator.Negated.TheVariants as negated
 use Rattle.truth.specs.Comparison.{Comparison, Eq, NotEq, Lt, LtEq, Gt, GtEq}
 use Rattle.truth.specs.AExpr.{AExpr, Column, Literal, Null, BinaryExpr, Not, IsNull, IsNotNull, IsBetween}
 use Rattle.truth.specs.AExpr.{ListLiteral}
@@ -118,9 +115,9 @@ classify_column_literal n c v (some o) = Bounds c (comparison_constraints o v)
 classify_column_literal n c v none = Recorded false n c []
 
 -- `lit op col` is read as `col op' lit`, with the operator of `swap_operands` where there is one.
-abbrev pub classify_literal_column : {Val : Type 0} → ℕ → ℕ → Val → Swapped → Conjunct Val
-classify_literal_column n c v Nothing = Opaque n
-classify_literal_column n c v (To o) = classify_column_literal n c v (ordinary_comparison o)
+abbrev pub classify_literal_column : {Val : Type 0} → ℕ → ℕ → Val → code.Option Operator → Conjunct Val
+classify_literal_column n c v code.None = Opaque n
+classify_literal_column n c v (code.Some o) = classify_column_literal n c v (ordinary_comparison o)
 
 -- Two columns: only the comparisons that propagate nulls say something, and enter the columns.
 abbrev pub classify_column_column : {Val : Type 0} → ℕ → ℕ → ℕ → Operator → Conjunct Val
@@ -150,9 +147,9 @@ normalized (Recorded stops n c l) = Recorded stops n c l
 normalized (NonNullPair n a b) = NonNullPair n a b
 normalized (Opaque n) = Opaque n
 
-abbrev pub classify_negated : {Val : Type 0} → ℕ → Negated → Operand Val → Operand Val → Conjunct Val
-classify_negated n negated.Nothing left right = Opaque n
-classify_negated n (negated.To o) left right = normalized (classify_comparison n o left right)
+abbrev pub classify_negated : {Val : Type 0} → ℕ → code.Option Operator → Operand Val → Operand Val → Conjunct Val
+classify_negated n code.None left right = Opaque n
+classify_negated n (code.Some o) left right = normalized (classify_comparison n o left right)
 
 -- ---- `classify_is_between`: a lower and an upper bound, inclusive or not.
 abbrev pub classify_is_between : {Val : Type 0} → ℕ → Bool → Bool → Operand Val → Operand Val → Operand Val →

@@ -3,8 +3,8 @@
 use Rattle.std.specs.Prelude.{Bool, cond, ◌&&◌, List, ◌++◌, ℕ, suc, ◌/◌, ltb, leb, length}
 use Rattle.checking.specs.Check.{check_answer}
 use Rattle.checking.specs.Tree.{tree_count}
-use Rattle.checking.specs.declared.check.CheckAnswer.{CheckAnswer}
-use Rattle.checking.specs.declared.check.CheckAnswer.TheVariants as check
+use Rattle.checking.specs.Answer.{CheckAnswer}
+use Rattle.checking.specs.Answer as check
 use Rattle.truth.specs.FromBytes.{aexpr_at}
 use Rattle.constraints.specs.Payload.{payload}
 use Rattle.merge.specs.declared.answer.RewriteAnswer.{RewriteAnswer}

@@ -3,10 +3,10 @@
 use Rattle.std.specs.Prelude.{◌≡◌, List, ◌↔◌, ℕ, ◌≤◌}
 use Rattle.checking.specs.Check.{check_answer_in}
 use Rattle.checking.specs.Tree.{tree_count}
-use Rattle.checking.specs.declared.check.CheckAnswer.TheVariants as check
+use Rattle.checking.specs.Answer as check
 use Rattle.three_valued.specs.declared.logic.Truth.TheVariants.{True}
-use Rattle.row_test.specs.declared.test.RowAnswer.{RowAnswer}
-use Rattle.row_test.specs.declared.test.RowAnswer.TheVariants as row
+use Rattle.row_test.specs.Answer.{RowAnswer}
+use Rattle.row_test.specs.Answer as row
 use Rattle.row_test.specs.RowTest.{test_row_answer}
 use Rattle.merge.specs.Rewrite.{rewrite_answer, rewrite_bytes}
 use Rattle.merge.specs.Demand.{root_after, used_after, AreBytes, AcceptedScreen}

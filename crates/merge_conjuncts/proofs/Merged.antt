@@ -12,7 +12,7 @@ use Rattle.records.proofs.Laws.{by-test, and_right}
 use Rattle.records.proofs.Loops.{all_holds}
 use Rattle.checking.specs.Check.{check_answer, table_ok_in, types_known_in}
 use Rattle.checking.specs.Tree.{tree_count}
-use Rattle.checking.specs.declared.check.CheckAnswer.TheVariants as check
+use Rattle.checking.specs.Answer as check
 use Rattle.checking.proofs.Accepted.{checked}
 use Rattle.truth.specs.FromBytes.{aexpr_of, aexpr_at}
 use Rattle.constraints.specs.Payload.{payload}

@@ -5,11 +5,12 @@
 
 ghost use Rattle.std.specs.Prelude.{◌≡◌, [], ◌∷◌, ℕ, ◌≤◌, min, length};
 ghost use Rattle.truth.specs.AExpr.{Inputs};
-ghost use Rattle.merge.specs.Minterms.{minterms};
+ghost use Rattle.std.specs.Iterator.{at_most};
+ghost use Rattle.merge.specs.Minterms.{minterms, pending};
 ghost use Rattle.read_operands.specs.Walk.{walked, first_of};
 ghost use Rattle.next_minterm.specs.Iter.{stack_in, Walkable, Next};
 
-use next_minterm::{Item, Stack, next_minterm, rooted, take};
+use next_minterm::{Over, Stack, next_minterm, rooted};
 use records::record::Node;
 
 #[derive(Clone, Copy)]
@@ -23,20 +24,25 @@ impl<'a> MintermIter<'a> {
         ensures { (result.records ≡ records.entry) × (stack_in result.stack ≡ (root.0 ∷ []))
             × (result.stack.len ≤ 128) }
     {
-        let stack = rooted(root);
         MintermIter {
-            records: records,
-            stack: stack,
+            records,
+            stack: rooted(root),
         }
     }
+}
 
-    pub fn next(&mut self) -> Item
-        requires { Walkable self.old.records.now self.old.stack }
-        ensures { (self.new.records ≡ self.old.records)
-            × Next (walked self.old.records.now) (stack_in self.old.stack) result
-            (stack_in self.new.stack)
-            × Walkable self.old.records.now self.new.stack }
-    {
+impl<'a> Iterator for MintermIter<'a> {
+    type Item = Result<Node, Over>;
+
+    ghost can_next = { λ s. Walkable s.records.now s.stack };
+
+    ghost next_gives = { λ s r t. (t.records ≡ s.records)
+        × Next (walked s.records.now) (stack_in s.stack) r (stack_in t.stack)
+        × Walkable s.records.now t.stack };
+
+    ghost remaining = { λ s. at_most (length (pending (walked s.records.now) (stack_in s.stack))) };
+
+    fn next(&mut self) -> Option<Result<Node, Over>> {
         let depth = self.stack.len;
         let m = next_minterm(self.records, &mut self.stack.nodes, depth);
         self.stack.len = m.depth;
@@ -52,14 +58,16 @@ pub fn minterms(rs: &[u8], root: Node, nodes: &mut [u32]) -> usize
     ensures all { length (minterms (walked rs.now) root.0) ≤ 128
         → first_of nodes.new result ≡ minterms (walked rs.now) root.0 }
 {
-    let mut it = MintermIter::new(root, rs);
     let mut len: usize = 0;
-    let mut more = true;
-    while more {
-        let item = it.next();
-        let found = take(nodes, len, item);
-        len = found.len;
-        more = found.more;
+    for item in MintermIter::new(root, rs) {
+        let Ok(n) = item else {
+            return 129;
+        };
+        if 128 <= len {
+            return 129;
+        }
+        nodes[len] = n.0;
+        len += 1;
     }
     len
 }

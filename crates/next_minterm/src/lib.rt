@@ -1,27 +1,22 @@
-// The walk of `MintermIter` (crate minterm_iter) on plain slices and stacks: its first stack, a step, and what a step gives taken
-// into an array.
+// The walk of `MintermIter` (crate minterm_iter) on plain slices and stacks: its first stack, and a step.
 #![tactic(auto)]
 
 ghost use Rattle.std.specs.Prelude.{◌≡◌, [], ◌∷◌, ◌≤◌, length};
 ghost use Rattle.read_operands.specs.Walk.{walked, stack_of, InputsBelow};
-ghost use Rattle.next_minterm.specs.Iter.{stack_in, Next, Taken};
+ghost use Rattle.next_minterm.specs.Iter.{stack_in, Next};
 
 use limits::CONJUNCTS;
-use read_operands::minterms::{Sides, sides_at};
+use read_operands::minterms::sides_at;
 use records::record::Node;
 
-/// `Option<Node>`; `Over` if the stack's 128 places do not suffice.
+/// The stack's 128 places do not suffice.
 #[derive(Clone, Copy)]
-pub enum Item {
-    None,
-    Some(Node),
-    Over,
-}
+pub struct Over;
 
 /// What one step gives, and how many nodes of the stack are left.
 #[derive(Clone, Copy)]
 pub struct Minterm {
-    pub item: Item,
+    pub item: Option<Result<Node, Over>>,
     pub depth: usize,
 }
 
@@ -37,34 +32,27 @@ pub fn next_minterm(rs: &[u8], stack: &mut [u32; 128], depth: usize) -> Minterm
 {
     if depth == 0 {
         return Minterm {
-            item: Item::None,
+            item: None,
             depth: 0,
         };
     }
     let mut left = depth - 1;
     let mut top = stack[left];
-    loop {
-        let s = sides_at(rs, Node(top));
-        match s {
-            Sides::One => {
-                return Minterm {
-                    item: Item::Some(Node(top)),
-                    depth: left,
-                };
-            }
-            Sides::Both(x, y) => {
-                if 127 <= left {
-                    return Minterm {
-                        item: Item::Over,
-                        depth: 0,
-                    };
-                }
-                stack[left] = y.0;
-                left += 1;
-                top = x.0;
-                continue;
-            }
+    // Down the left sides: how deep they go is not known before.
+    while let Some((x, y)) = sides_at(rs, Node(top)) {
+        if 127 <= left {
+            return Minterm {
+                item: Some(Err(Over)),
+                depth: 0,
+            };
         }
+        stack[left] = y.0;
+        left += 1;
+        top = x.0;
+    }
+    Minterm {
+        item: Some(Ok(Node(top))),
+        depth: left,
     }
 }
 
@@ -80,49 +68,5 @@ pub fn rooted(root: Node) -> Stack
 {
     let mut nodes = [0u32; CONJUNCTS];
     nodes[0] = root.0;
-    Stack {
-        nodes: nodes,
-        len: 1,
-    }
-}
-
-/// How many conjuncts are found, and whether there may be more. 129 stands for more than 128.
-#[derive(Clone, Copy)]
-pub struct Found {
-    pub len: usize,
-    pub more: bool,
-}
-
-/// An item taken into `nodes`, behind the `len` that are there.
-pub fn take(nodes: &mut [u32], len: usize, item: Item) -> Found
-    requires { 128 ≤ length nodes.old }
-    ensures { Taken nodes.old len item nodes.new result.len result.more }
-{
-    match item {
-        Item::None => {
-            return Found {
-                len: len,
-                more: false,
-            };
-        }
-        Item::Some(n) => {
-            if 128 <= len {
-                return Found {
-                    len: 129,
-                    more: false,
-                };
-            }
-            nodes[len] = n.0;
-            return Found {
-                len: len + 1,
-                more: true,
-            };
-        }
-        Item::Over => {
-            return Found {
-                len: 129,
-                more: false,
-            };
-        }
-    }
+    Stack { nodes, len: 1 }
 }

@@ -1,13 +1,12 @@
 -- The numbers of a checked screen with symbols are a checked screen without.
 use mathlib.Core.Path.{◌≡◌, refl, sym, ◌∙◌, ap, subst}
-use mathlib.Core.Bool.{Bool, true, false, not, cond, ◌&&◌, ◌||◌, true≢false}
-use mathlib.Core.List.{List, [], ◌∷◌}
+use mathlib.Core.Bool.{Bool, true, false, cond, ◌&&◌, ◌||◌, true≢false}
+use mathlib.Core.List.{List}
 use Prim.Native.Nat.{ℕ, zero, suc, ◌+◌, ◌-◌, ◌*◌, ◌/◌, ◌%◌, ◌≤◌, ◌<◌}
 use native.Mathlib.Omega.{arith}
 use lib.Dec.{ltb, leb, eqb}
-use lib.ListN.{length, get_or, take}
-use lib.Seq.{length-take-le, get_or-take}
-use borrow.Author.Tests.{eqb-true, eqb-false, eq-eqb, ltb-true, lt-ltb, leb-true, le-leb}
+use lib.ListN.{length, get_or}
+use borrow.Author.Tests.{eqb-true, eqb-false, eq-eqb, leb-true, le-leb}
 use Rattle.records.specs.Bytes.{all, value_at}
 use Rattle.records.specs.Operator.{is_comparison, is_division}
 use Rattle.records.specs.Record.{node, fields_at, record_at, inputs}
@@ -17,12 +16,11 @@ use Rattle.records.specs.declared.record.Fields.{Fields}
 use Rattle.records.specs.declared.record.Record.{Record}
 use Rattle.records.specs.declared.record.Record.TheVariants as kind
 use Rattle.records.proofs.Laws.{and_left, and_right}
-use Rattle.records.proofs.Loops.{all_holds}
 use Rattle.record_check.specs.Fit.{all_fit_in, list_ok_in, reach_ok_in, served_ok, type_of, type_at, same_type, binary_fits}
 use Rattle.record_check.specs.Fit.{between_fits, member_fits, types_ok}
 use Rattle.checking.specs.Check.{types_known_in, table_ok_in, sizes_ok_in}
 use Rattle.checking.specs.Checked.{CheckedRecordIn, CheckedIn, Checked}
-use Rattle.checking.proofs.Accepted.{Below, inputs-below_in, checked-used_in}
+use Rattle.checking.proofs.Accepted.{Below, inputs-below_in}
 use Rattle.numbered_screen.specs.Numbered.{number_type, Numbered}
 use Rattle.numbered_screen.proofs.Fields.{number_fields, number_record, fields-numbered, record_numbered}
 

@@ -4,17 +4,16 @@ use mathlib.Core.Bool.{Bool, true, false, cond}
 use mathlib.Core.List.{List, [], ◌∷◌}
 use Prim.Native.Nat.{ℕ, zero, suc, ◌+◌, ◌*◌, ◌≤◌, ◌<◌}
 use native.Mathlib.Omega.{arith}
-use lib.Dec.{ltb, eqb}
+use lib.Dec.{ltb}
 use lib.ListN.{length, get_or, take}
 use lib.Seq.{length-take-le, get_or-take}
 use borrow.Author.Tests.{ltb-true, ltb-false}
-use Rattle.records.specs.Course.{course}
 use Rattle.records.specs.Record.{node, record_at, inputs}
 use Rattle.records.specs.declared.record.Record.{Record}
 use Rattle.records.specs.declared.record.Record.TheVariants as kind
 use Rattle.records.proofs.Courses.{course-agree}
 use Rattle.checking.specs.Tree.{sum_at, tree_step, tree_count}
-use Rattle.truth.specs.AExpr.{AExpr, Missing}
+use Rattle.truth.specs.AExpr.{Missing}
 use Rattle.truth.specs.FromBytes.{to_aexpr, aexpr_of, aexpr_at}
 use Rattle.numbered_screen.specs.Numbered.{number_type, number_byte, Numbered}
 use Rattle.numbered_screen.proofs.Fields.{number_record, inputs-numbered, record_numbered}

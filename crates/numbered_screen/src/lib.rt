@@ -20,10 +20,8 @@ pub fn number_table(t: &[u8], table: &mut [u8])
     ensures { (c : ℕ) → c < length t.now →
         get_or table.new c 0 ≡ number_type (get_or t.now c 0) }
 {
-    let mut c: usize = 0;
-    while c < t.len() {
-        table[c] = number_type(t[c]);
-        c += 1;
+    for (c, ty) in t.iter().enumerate() {
+        table[c] = number_type(*ty);
     }
 }
 
@@ -42,9 +40,7 @@ pub fn number_records(rs: &[u8], n: usize, records: &mut [u8])
     requires { (n ≤ length rs.now) × (n ≤ length records.old) }
     ensures { (i : ℕ) → i < n → get_or records.new i 0 ≡ number_byte i (get_or rs.now i 0) }
 {
-    let mut i: usize = 0;
-    while i < n {
+    for i in 0..n {
         records[i] = number_byte(i, rs[i]);
-        i += 1;
     }
 }

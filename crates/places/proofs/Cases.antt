@@ -5,7 +5,7 @@ use mathlib.Core.List.{List, [], ◌∷◌, ◌++◌}
 use Prim.Native.Nat.{ℕ}
 use Rattle.records.specs.Bytes.{word, value_at, all}
 use Rattle.truth.specs.Halves.{ord_z, key}
-use Rattle.truth.specs.declared.scalar.Ordering.TheVariants.{Less, Equal, Greater}
+use Rattle.std.specs.declared.cmp.Ordering.TheVariants.{Less, Equal, Greater}
 use Rattle.places.specs.Places.{place_key, place_ok, places_ok}
 
 -- (3, +1) and (4, -1) are one value, three and a half.

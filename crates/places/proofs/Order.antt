@@ -8,8 +8,8 @@ use mir.Syntax.{w64}
 use mir.Val.{to_z}
 use Rattle.truth.specs.Order.{View, less_view, equal_view, greater_view}
 use Rattle.truth.specs.Halves.{less_z, cmp_z, ord_z, twice, key}
-use Rattle.truth.specs.declared.scalar.Ordering.{Ordering}
-use Rattle.truth.specs.declared.scalar.Ordering.TheVariants.{Less, Equal, Greater}
+use Rattle.std.specs.declared.cmp.Ordering.{Ordering}
+use Rattle.std.specs.Ordering.{ordering_then}
 use Rattle.truth.proofs.Orders.{cmp-lt, cmp-gt, cmp-eq, total-z}
 use Rattle.truth.proofs.HalfPoints.{suc-above, pred_below, half_below}
 use Rattle.places.specs.declared.place.Half.{Half}
@@ -33,9 +33,7 @@ above-pred (negsuc (suc m)) (negsuc n) h = omega (arith, h)
 
 -- What the order of the whole parts and the half part say.
 abbrev pub whole_first : Ordering → Half → Ordering
-whole_first Less half = Less
-whole_first Equal half = half_order half
-whole_first Greater half = Greater
+whole_first o half = ordering_then o (half_order half)
 
 module _ (a b : ℤ) where
   less : (h : Half) → less_z (twice a) (twice b) → less_z (twice a +ℤ half_in h) (twice b)

@@ -13,7 +13,7 @@ use borrow.Author.Tests.{lt-ltb, le-ltb, eq-eqb, eqb-true, eqb-false}
 use Rattle.records.proofs.Laws.{by-test}
 use Rattle.truth.specs.Order.{View, less_view, equal_view, greater_view, is_equal}
 use Rattle.truth.specs.Halves.{less_z, cmp_z, ord_z, key}
-use Rattle.truth.specs.declared.scalar.Ordering.{Ordering}
+use Rattle.std.specs.declared.cmp.Ordering.{Ordering}
 use Rattle.truth.proofs.Orders.{total-z}
 use Rattle.truth.proofs.Keys.{lt-or_le}
 use Rattle.truth.proofs.HalfPoints.{half_is_no_whole}

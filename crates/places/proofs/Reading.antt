@@ -21,7 +21,7 @@ use Rattle.truth.specs.FromBytes.{null_marked}
 use Rattle.truth.proofs.Keys.{lt-or_le}
 use Rattle.places.specs.declared.place.Half.{Half}
 use Rattle.places.specs.declared.place.Half.TheVariants.{Minus, Zero, Plus}
-use Rattle.places.specs.declared.place.Place.TheVariants as place
+use Rattle.std.specs.declared.option.Option.TheVariants as place
 use Rattle.places.specs.Places.{whole_at, half_at, places_row, is_half, place_ok, places_ok}
 use Rattle.places.specs.Held.{half_in, place_in, Halved}
 
@@ -39,7 +39,7 @@ half_minus bits a b h =
 -- A place that was read.
 pub known-place : (row : List ℕ) (nulls c w h : ℕ) (half : Half) (b : Bool) → b ≡ null_marked nulls c → b ≡ false
     → w ≡ whole_at row c → h ≡ half_at row c → Halved row nulls → (is_half h ≡ true → half_in half ≡ to_z w64 h)
-    → place_in (place.Known (record { 0 = w }) half) ≡ places_row row nulls c
+    → place_in (place.Some (record { 0 = w }, half)) ≡ places_row row nulls c
 unfolding places_row
 known-place row nulls c w h half b m e p q fit f =
     let k : null_marked nulls c ≡ false = sym m ∙ e in

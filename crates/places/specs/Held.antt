@@ -3,12 +3,13 @@ use Rattle.std.specs.Prelude.{◌≡◌, Bool, false, true, cond, List, ℕ, ◌
 use Rattle.std.proofs.Math.Option.{Option, none, some}
 use Rattle.truth.specs.Halves.{key}
 use Rattle.truth.specs.FromBytes.{null_marked}
-use Rattle.truth.specs.declared.scalar.Ordering.{Ordering}
-use Rattle.truth.specs.declared.scalar.Ordering.TheVariants.{Less, Equal, Greater}
+use Rattle.std.specs.declared.cmp.Ordering.{Ordering}
+use Rattle.std.specs.declared.cmp.Ordering.TheVariants.{Less, Equal, Greater}
 use Rattle.places.specs.declared.place.Half.{Half}
 use Rattle.places.specs.declared.place.Half.TheVariants.{Minus, Zero, Plus}
-use Rattle.places.specs.declared.place.Place.{Place}
-use Rattle.places.specs.declared.place.Place.TheVariants as place
+use Rattle.std.specs.declared.option.Option as lang
+use Rattle.std.specs.declared.option.Option.TheVariants as place
+use Rattle.truth.specs.declared.scalar.Scalar.{Scalar}
 use Rattle.places.specs.Places.{half_at, is_half}
 
 abbrev pub half_in : Half → ℤ
@@ -20,9 +21,9 @@ half_in Plus = pos 1
 abbrev pub key_in : ℕ → Half → ℤ
 key_in whole half = key whole +ℤ half_in half
 
-abbrev pub place_in : Place → Option ℤ
-place_in place.Null = none
-place_in (place.Known whole half) = some (key_in whole.0 half)
+abbrev pub place_in : lang.Option (Scalar × Half) → Option ℤ
+place_in place.None = none
+place_in (place.Some (whole, half)) = some (key_in whole.0 half)
 
 -- Each column that is not null has a half part of -1, 0 or +1.
 abbrev pub Halved : List ℕ → ℕ → Type 0

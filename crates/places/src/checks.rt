@@ -2,10 +2,10 @@
 ghost use Rattle.std.specs.Prelude.{◌≡◌, ℕ, ◌≤◌};
 ghost use Rattle.records.specs.Bytes.{all};
 ghost use Rattle.truth.specs.FromBytes.{null_marked};
-ghost use Rattle.row_test.specs.RowTest.{marks_ok};
 ghost use Rattle.places.specs.Places.{whole_at, half_at, is_half, place_ok, places_ok};
 
 use records::bytes::value_at;
+use row_test::row::marks_ok;
 use truth::read::null_marked;
 
 fn is_half(half: u64) -> bool
@@ -28,26 +28,13 @@ fn each_ok(columns: usize, row: &[u8], nulls: u64) -> bool
     ensures { result ≡ all (λ (c : ℕ). place_ok (null_marked nulls c) (whole_at row.now c)
         (half_at row.now c)) columns }
 {
-    let mut c: usize = 0;
-    while c < columns {
+    for c in 0..columns {
         let null = null_marked(nulls, c as u32);
         if !place_ok(null, value_at(row, 2 * c), value_at(row, 2 * c + 1)) {
             return false;
         }
-        c += 1;
     }
     true
-}
-
-// With 64 columns no mark is too high.
-fn marks_ok(columns: usize, nulls: u64) -> bool
-    requires { columns ≤ 64 }
-    ensures { result ≡ marks_ok columns nulls }
-{
-    if columns == 64 {
-        return true;
-    }
-    nulls >> (columns as u32) == 0
 }
 
 /// Whether the row is one of `columns` places: not so, it is refused with 18.

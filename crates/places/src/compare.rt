@@ -5,7 +5,8 @@ ghost use Rattle.truth.specs.Halves.{ord_z, key};
 ghost use Rattle.places.specs.Held.{key_in, half_order, is_next};
 
 use crate::place::Half;
-use truth::scalar::{Ordering, Scalar, scalar_cmp};
+use std::cmp::Ordering;
+use truth::scalar::{Scalar, scalar_cmp};
 
 fn half_cmp(half: Half) -> Ordering
     ensures { result ≡ half_order half }
@@ -21,12 +22,7 @@ fn half_cmp(half: Half) -> Ordering
 pub fn place_cmp(whole: Scalar, half: Half, v: Scalar) -> Ordering
     ensures { result ≡ ord_z.cmp (key_in whole.0 half) (key v.0) }
 {
-    let o = scalar_cmp(whole, v);
-    match o {
-        Ordering::Less => Ordering::Less,
-        Ordering::Equal => half_cmp(half),
-        Ordering::Greater => Ordering::Greater,
-    }
+    scalar_cmp(whole, v).then(half_cmp(half))
 }
 
 // The bits of -1 are all ones, and 0 comes after it.

@@ -18,11 +18,8 @@ pub enum Half {
     Plus,
 }
 
-#[derive(Clone, Copy)]
-pub enum Place {
-    Null,
-    Known(Scalar, Half),
-}
+/// The whole part and the half part; None is null.
+pub type Place = Option<(Scalar, Half)>;
 
 fn half_of(bits: u64) -> Half
     ensures { is_half bits ≡ true → half_in result ≡ to_z w64 bits }
@@ -42,9 +39,9 @@ pub fn place_at(row: &[u8], nulls: u64, c: Column) -> Place
     ensures { place_in result ≡ places_row row.now nulls c.0 }
 {
     if null_marked(nulls, c.0) {
-        return Place::Null;
+        return None;
     }
     let whole = value_at(row, 2 * (c.0 as usize));
     let half = value_at(row, 2 * (c.0 as usize) + 1);
-    Place::Known(Scalar(whole), half_of(half))
+    Some((Scalar(whole), half_of(half)))
 }

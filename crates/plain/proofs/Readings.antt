@@ -3,30 +3,21 @@ use mathlib.Core.Path.{◌≡◌, refl, sym, ◌∙◌, ap}
 use mathlib.Core.Bool.{Bool, true, false, not, ◌&&◌, ◌||◌, and-true, true≢false}
 use mathlib.Core.List.{List, [], ◌∷◌}
 use Prim.Native.Nat.{ℕ}
-use types.Run.{OneOf, miss}
-use denote.Enum.Declared.{tag_of}
 use Rattle.records.specs.Record.{record_at}
 use Rattle.records.specs.declared.record.Node.{Node}
 use Rattle.records.specs.declared.record.Record.{Record}
 use Rattle.records.specs.declared.record.Record.TheVariants as kind
-use Rattle.records.specs.contracts.record.Record.{the_type}
 use Rattle.truth.specs.AExpr.{AExpr, Column, Literal, Null, BinaryExpr, Not, IsNull, IsNotNull, IsBetween}
 use Rattle.truth.specs.AExpr.{ListLiteral, IsIn, Missing}
 use Rattle.truth.specs.FromBytes.{to_aexpr, aexpr_of}
-use Rattle.truth.specs.Comparison as truth
 use Rattle.merge.specs.Classify.{Conjunct, Bounds, Normalized, Equality, Recorded, NonNullPair, Opaque, classify}
-use Rattle.merge.specs.Classify.{comparison_constraints}
 use Rattle.merge.specs.Plain.{plain_conjunct}
 use Rattle.merge.proofs.PlainForms as forms
 use Rattle.merge.proofs.PlainForms.{plain-same}
 use Rattle.merge.proofs.Forms.{read_ind}
 use Rattle.merge.proofs.Accepted.{binary-ind}
-use Rattle.truth.specs.declared.scalar.Scalar.{Scalar}
-use Rattle.read_operands.specs.Read.{conjunct_in, comparison_in, says_in}
-use Rattle.read_operands.specs.declared.operands.Says.{Says}
-use Rattle.read_operands.specs.declared.operands.Says.TheVariants as says
+use Rattle.read_operands.specs.Read.{conjunct_in}
 use Rattle.read_operands.specs.declared.operands.Conjunct as code
-use Rattle.read_operands.specs.declared.operands.Comparison.{Comparison}
 use Rattle.plain.specs.Forms.{is_negation, says_something}
 
 abbrev pub is_not : AExpr ℕ → Bool
@@ -100,30 +91,6 @@ plain-arm rs p n k a e f =
     ∙ ap (read_plain (is_not (aexpr_of rs p n.0))) e
     ∙ sym (plain-read (aexpr_of rs p) n.0)
 
--- A comparison always says something.
-compared-says : (k : truth.Comparison) (v : ℕ) → true ≡ says_something (comparison_constraints k v)
-compared-says truth.Eq v = refl
-compared-says truth.NotEq v = refl
-compared-says truth.Lt v = refl
-compared-says truth.LtEq v = refl
-compared-says truth.Gt v = refl
-compared-says truth.GtEq v = refl
-
--- The default arm of the match on a record.
-pub no_negation : (r : Record) → OneOf (0 ∷ 1 ∷ 2 ∷ 3 ∷ 4 ∷ 6 ∷ 7 ∷ 8 ∷ 9 ∷ 10 ∷ []) (tag_of the_type r)
-    → false ≡ is_negation r
-no_negation kind.Invalid h = refl
-no_negation (kind.Column c) h = refl
-no_negation (kind.Literal ty v) h = refl
-no_negation (kind.Null ty) h = refl
-no_negation (kind.Binary o x y) h = refl
-no_negation (kind.Not x) h = absurd (miss (0 ∷ 1 ∷ 2 ∷ 3 ∷ 4 ∷ 6 ∷ 7 ∷ 8 ∷ 9 ∷ 10 ∷ []) 5 tt h)
-no_negation (kind.IsNull x) h = refl
-no_negation (kind.IsNotNull x) h = refl
-no_negation (kind.IsBetween ends x low high) h = refl
-no_negation (kind.List ty marked start count) h = refl
-no_negation (kind.IsIn equal x list) h = refl
-
 -- What the test `set & !number` leaves of `not set || number`.
 pub set_other : (r s a b : Bool) → r ≡ a → s ≡ b → (r && not s) ≡ true → (not a || b) ≡ false
 set_other r s a b e f h = rw (← e, ← f) (go r s h)
@@ -140,8 +107,3 @@ set-not_other r s a b e f h = rw (← e, ← f) (go r s h)
     go true true h = refl
     go true false h = absurd (true≢false h)
     go false s h = refl
-
-pub says-compared : (p : List ℕ) (s : Says) (k : Comparison) (v : Scalar) → s ≡ says.Compare k v
-    → true ≡ says_something (says_in p s)
-says-compared p s k v e =
-    compared-says (comparison_in k) v.0 ∙ ap (λ x. says_something (says_in p x)) (sym e)

@@ -21,37 +21,24 @@ use records::record::{Node, Record, record_at};
 fn is_negation(r: Record) -> bool
     ensures { result ≡ is_negation r }
 {
-    match r {
-        Record::Not(_) => true,
-        _ => false,
-    }
+    matches!(r, Record::Not(_))
 }
 
 fn says_something(s: Says) -> bool
     ensures { (p : List ℕ) → result ≡ says_something (says_in p s) }
 {
-    match s {
-        Says::Nothing => false,
-        Says::Compare(_, _) => true,
-        Says::Between(_, _, _) => true,
-        Says::Allow(_, _) => true,
-        Says::Disallow(_, _, _) => true,
-        Says::Require(_) => true,
-    }
+    !matches!(s, Says::Nothing)
 }
 
 // Not of a difference of two columns is read as their equality, but it is no plain conjunct.
 fn plain_conjunct(rs: &[u8], n: Node) -> bool
     ensures { (p : List ℕ) → result ≡ plain_conjunct (aexpr_of rs.now p) n.0 }
 {
-    let k = classify(rs, n);
-    match k {
-        Conjunct::Bounds(_, _) => true,
-        Conjunct::Normalized(_, _) => true,
+    match classify(rs, n) {
+        Conjunct::Bounds(_, _) | Conjunct::Normalized(_, _) => true,
         Conjunct::Equality(_, _) => !is_negation(record_at(rs, n)),
         Conjunct::Recorded(_, _, s) => says_something(s),
-        Conjunct::NonNullPair(_, _) => false,
-        Conjunct::Opaque => false,
+        Conjunct::NonNullPair(_, _) | Conjunct::Opaque => false,
     }
 }
 
@@ -60,12 +47,10 @@ fn plain_conjuncts(rs: &[u8], nodes: &[u32], n: usize) -> bool
     ensures { (p : List ℕ) → result ≡ all (λ i. plain_conjunct (aexpr_of rs.now p)
         (get_or nodes.now i 0)) n }
 {
-    let mut i: usize = 0;
-    while i < n {
+    for i in 0..n {
         if !plain_conjunct(rs, Node(nodes[i])) {
             return false;
         }
-        i += 1;
     }
     true
 }
@@ -84,20 +69,12 @@ fn is_set(word: u64, c: u32) -> bool
     (word >> c) % 2 == 1
 }
 
-// No column whose bit is set in the word is of another type.
-fn only_numbers(t: &[u8], word: u64) -> bool
+/// No column whose bit is set in the word is of another type.
+pub fn only_numbers(t: &[u8], word: u64) -> bool
     requires { length t.now ≤ 64 }
     ensures { result ≡ all (λ c. not (bit word c) || is_number_column t.now c) (length t.now) }
 {
-    let mut c: usize = 0;
-    while c < t.len() {
-        let other = !is_number(t[c]);
-        if is_set(word, c as u32) & other {
-            return false;
-        }
-        c += 1;
-    }
-    true
+    (0..t.len()).all(|c| !is_set(word, c as u32) | is_number(t[c]))
 }
 
 /// Whether the screen is plain; the first n of `nodes` are its conjuncts.

@@ -11,8 +11,8 @@ use Rattle.records.proofs.Laws.{and_left}
 use Rattle.checking.specs.Check.{check_answer, table_ok, table_ok_in, types_known}
 use Rattle.checking.specs.Checked.{Checked}
 use Rattle.checking.specs.Tree.{tree_count}
-use Rattle.checking.specs.declared.check.CheckAnswer.{CheckAnswer}
-use Rattle.checking.specs.declared.check.CheckAnswer.TheVariants as check
+use Rattle.checking.specs.Answer.{CheckAnswer}
+use Rattle.checking.specs.Answer as check
 use Rattle.checking.proofs.Accepted.{checked}
 use Rattle.truth.specs.FromBytes.{aexpr_at}
 use Rattle.merge.specs.Minterms.{minterms}

@@ -5,21 +5,15 @@
 ghost use Rattle.std.specs.Prelude.{◌≡◌, ℕ, ◌≤◌, ◌<◌, min, length, get_or};
 ghost use Rattle.checking.specs.Check.{check_answer};
 ghost use Rattle.checking.specs.Tree.{tree_count};
-ghost use Rattle.checking.specs.declared.check.CheckAnswer.TheVariants as check;
+ghost use Rattle.checking.specs.Answer as check;
 ghost use Rattle.plain_lines.specs.Refusal.{plain_refusal, refusal_in, LinesIn};
 
-use checking::check::{CheckAnswer, check_counted};
+use checking::check::check_counted;
 use limits::{FEW_RECORDS, RECORDS};
 use minterm_iter::minterms;
 use plain::is_plain;
 use records::record::Node;
-
-/// The number of a refusal, or how many lines there are.
-#[derive(Clone, Copy)]
-pub enum PlainLines {
-    Refused(u32),
-    Lines(u32),
-}
+use refusal::Refusal;
 
 // An accepted screen with a tree of at most 4,096 records: 9, then 17.
 fn lines_counted(
@@ -29,7 +23,7 @@ fn lines_counted(
     used: u32,
     root: Node,
     nodes: &mut [u32],
-) -> PlainLines
+) -> Result<u32, Refusal>
     requires accepted { check_answer t.now rs.now p.now used root.0 ≡ check.Accepted }
     requires small { tree_count rs.now root.0 ≤ 4096 }
     requires room { 128 ≤ length nodes.old }
@@ -38,12 +32,12 @@ fn lines_counted(
 {
     let n = minterms(rs, root, nodes);
     if 128 < n {
-        return PlainLines::Refused(9);
+        return Err(Refusal::Conjuncts);
     }
     if !is_plain(t, rs, root, nodes, n) {
-        return PlainLines::Refused(17);
+        return Err(Refusal::Plain);
     }
-    PlainLines::Lines(n as u32)
+    Ok(n as u32)
 }
 
 // An accepted screen: 8, and the rest.
@@ -55,7 +49,7 @@ fn lines_checked(
     root: Node,
     trees: &[u16],
     nodes: &mut [u32],
-) -> PlainLines
+) -> Result<u32, Refusal>
     requires root_value { check_answer t.now rs.now p.now used root.0 ≡ check.Accepted }
     requires counted { (a : ℕ) → a ≤ root.0 → get_or trees.now a 0 ≡ min (tree_count rs.now a) 4097 }
     requires root_in_bounds { root.0 < length trees.now }
@@ -65,7 +59,7 @@ fn lines_checked(
 {
     let top = trees[root.0 as usize];
     if 4096 < top {
-        return PlainLines::Refused(8);
+        return Err(Refusal::Tree);
     }
     lines_counted(t, rs, p, used, root, nodes)
 }
@@ -79,23 +73,18 @@ fn lines_within(
     types: &mut [u8],
     trees: &mut [u16],
     nodes: &mut [u32],
-) -> PlainLines
+) -> Result<u32, Refusal>
     requires used_in_bounds { used ≤ 4096 → used ≤ length types.old }
     requires used_in_bounds_2 { used ≤ 4096 → used ≤ length trees.old }
     requires in_bounds { 128 ≤ length nodes.old }
     ensures answer { refusal_in result ≡ plain_refusal t.now rs.now p.now used root }
     ensures lines { LinesIn rs.now root nodes.new result }
 {
-    let answer = check_counted(t, rs, p, used, root, types, trees);
-    match answer {
-        CheckAnswer::Refused(number) => PlainLines::Refused(number),
-        CheckAnswer::Accepted => {
-            lines_checked(t, rs, p, used as u32, Node(root as u32), trees, nodes)
-        }
-    }
+    check_counted(t, rs, p, used, root, types, trees)?;
+    lines_checked(t, rs, p, used as u32, Node(root as u32), trees, nodes)
 }
 
-/// The lines of a plain screen, into `nodes`.
+/// The lines of a plain screen, into `nodes`: how many there are.
 // The tables of checking are as long as the screen needs: most have few records.
 pub fn plain_lines(
     t: &[u8],
@@ -104,7 +93,7 @@ pub fn plain_lines(
     used: u64,
     root: u64,
     nodes: &mut [u32],
-) -> PlainLines
+) -> Result<u32, Refusal>
     requires room { 128 ≤ length nodes.old }
     ensures answer { refusal_in result ≡ plain_refusal t.now rs.now p.now used root }
     ensures lines { LinesIn rs.now root nodes.new result }

@@ -14,8 +14,8 @@ use Rattle.checking.specs.Check.{check_answer, check_answer_in, table_ok_in, typ
 use Rattle.checking.specs.Checked.{Checked, CheckedIn}
 use Rattle.checking.specs.Columns.{bit, columns_word}
 use Rattle.checking.specs.Tree.{tree_count}
-use Rattle.checking.specs.declared.check.CheckAnswer.{CheckAnswer}
-use Rattle.checking.specs.declared.check.CheckAnswer.TheVariants as check
+use Rattle.checking.specs.Answer.{CheckAnswer}
+use Rattle.checking.specs.Answer as check
 use Rattle.checking.proofs.Accepted.{checked-accepted, checked-in}
 use Rattle.checking.proofs.Answers.{refused-numbered-in}
 use Rattle.truth.specs.AExpr.{AExpr}
@@ -23,8 +23,9 @@ use Rattle.truth.specs.FromBytes.{aexpr_at}
 use Rattle.merge.specs.Minterms.{minterms}
 use Rattle.merge.specs.Plain.{reads_column, is_number_column, reads_only_numbers, plain_conjuncts, plain_screen}
 use Rattle.plain_lines.specs.Refusal.{checked_refusal, refusal_if, plain_refusal, refusal_in}
-use Rattle.plain_lines.specs.declared.PlainLines.{PlainLines}
-use Rattle.plain_lines.specs.declared.PlainLines.TheVariants as plain
+use Rattle.refusal.specs.declared.Refusal.{Refusal}
+use Rattle.refusal.specs.Numbers.{number}
+use Rattle.std.specs.Prelude.{Result, Ok, Err}
 use Rattle.symbol_screens.specs.Rewriting.{lent}
 use Rattle.numbered_screen.specs.Numbered.{number_type, Numbered}
 use Rattle.numbered_screen.proofs.Reading.{numbers-read, trees_same}
@@ -106,16 +107,16 @@ module _ (t rs p : List ℕ) (used root : ℕ) (table records : List ℕ) (are :
       ∙ ap (λ (S : ℕ → AExpr ℕ). steps (ltb 4096 (tree_count rs root)) (ltb 128 (length (minterms S root))) (plain_screen table S root))
       (numbers-read t rs used table records are p)
 
-  pub refused-alike : (a : PlainLines) → refusal_in a ≡ plain_refusal table records p used root → (k : ℕ) → a ≡ plain.Refused k
-      → k ≡ refusal_number (checked_refusal t rs p used root)
-  refused-alike a e k h =
+  pub refused-alike : (a : Result ℕ Refusal) → refusal_in a ≡ plain_refusal table records p used root → (r : Refusal) → a ≡ Err r
+      → number r ≡ refusal_number (checked_refusal t rs p used root)
+  refused-alike a e r h =
       number_of (ltb 4096 (tree_count rs root)) (ltb 128 (length (minterms (aexpr_at rs p used) root)))
       (reads_only_numbers table (aexpr_at rs p used) root) (reads_only_numbers t (aexpr_at rs p used) root)
-      (plain_conjuncts (aexpr_at rs p used) (minterms (aexpr_at rs p used) root)) k
+      (plain_conjuncts (aexpr_at rs p used) (minterms (aexpr_at rs p used) root)) (number r)
       (numbers-only t rs used table records are (aexpr_at rs p used) root) (sym (ap refusal_in h) ∙ e ∙ refusal_is)
 
-  pub plain-alike : length t ≤ 64 → (a : PlainLines) → refusal_in a ≡ plain_refusal table records p used root
-      → (n : ℕ) → a ≡ plain.Lines n → (w : ℕ) → w ≡ columns_word records root
+  pub plain-alike : length t ≤ 64 → (a : Result ℕ Refusal) → refusal_in a ≡ plain_refusal table records p used root
+      → (n : ℕ) → a ≡ Ok n → (w : ℕ) → w ≡ columns_word records root
       → (b : Bool) → b ≡ all (λ c. not (bit w c) || is_number_column t c) (length t)
       → (b ≡ true → 0 ≡ refusal_number (checked_refusal t rs p used root))
       × (b ≡ false → 17 ≡ refusal_number (checked_refusal t rs p used root))

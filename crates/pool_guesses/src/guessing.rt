@@ -37,15 +37,13 @@ fn enter_tree(tree: &[u64], targets: &[u64], n: usize, spots: &mut [u64], at: us
     requires n_in_bounds { n ≤ length targets.now }
     requires n_in_bounds_2 { at + n ≤ length spots.old }
 {
-    let mut i: usize = 0;
-    while i < n {
+    for i in 0..n {
         let w = targets[i];
         let a = child(1, tree[1], w);
         let b = child(a, tree[a], w);
         let c = child(b, tree[b], w);
         let d = child(c, tree[c], w);
         spots[at + i] = child(d, tree[d], w) as u64;
-        i += 1;
     }
 }
 
@@ -55,8 +53,7 @@ fn leave_tree(tree: &[u64], targets: &[u64], n: usize, spots: &mut [u64], at: us
     requires n_in_bounds { n ≤ length targets.now }
     requires n_in_bounds_2 { at + n ≤ length spots.old }
 {
-    let mut i: usize = 0;
-    while i < n {
+    for i in 0..n {
         let w = targets[i];
         let e = (spots[at + i] % 64) as usize;
         let f = child(e, tree[e], w);
@@ -64,7 +61,6 @@ fn leave_tree(tree: &[u64], targets: &[u64], n: usize, spots: &mut [u64], at: us
         let h = child(g, tree[g], w);
         let k = child(h, tree[h], w);
         spots[at + i] = child(k, tree[k], w) as u64;
-        i += 1;
     }
 }
 
@@ -74,14 +70,12 @@ fn end_part(words: &[u64], targets: &[u64], n: usize, spots: &mut [u64], at: usi
     requires n_in_bounds { n ≤ length targets.now }
     requires n_in_bounds_2 { at + n ≤ length spots.old }
 {
-    let mut i: usize = 0;
-    while i < n {
+    for i in 0..n {
         let w = targets[i];
         let lo = 8 * (spots[at + i] % 1024) as usize;
         let a = lo + 4 * flag(words[lo + 4] <= w);
         let b = a + 2 * flag(words[a + 2] <= w);
         spots[at + i] = (b + flag(words[b + 1] <= w)) as u64;
-        i += 1;
     }
 }
 
@@ -121,15 +115,13 @@ fn take_known(
     ensures { result ≤ 64 }
 {
     let mut n: usize = 0;
-    let mut i: usize = 0;
-    while i < 64 {
+    for i in 0..64 {
         let w = keys[i];
         let g = number_in(order, slot_of(w));
         spots[i] = g;
         few[n] = w;
         rows[n] = i as u64;
         n = n + flag(order[g as usize] != w);
-        i += 1;
     }
     n
 }
@@ -140,10 +132,8 @@ fn put_found(rows: &[u64], found: &[u64], n: usize, spots: &mut [u64], at: usize
     requires n_in_bounds_2 { n ≤ length found.now }
     requires at_in_bounds { at + 64 ≤ length spots.old }
 {
-    let mut k: usize = 0;
-    while k < n {
+    for k in 0..n {
         spots[at + (rows[k] % 64) as usize] = found[k];
-        k += 1;
     }
 }
 
@@ -191,10 +181,8 @@ fn at_most(x: u64, y: u64) -> u64
 fn lower_numbers(spots: &mut [u64], most: u64)
     requires { 128 ≤ length spots.old }
 {
-    let mut i: usize = 0;
-    while i < 64 {
+    for i in 0..64 {
         spots[i] = at_most(spots[i], most);
-        i += 1;
     }
 }
 
@@ -215,10 +203,8 @@ fn set_targets(spots: &[u64], end: u64, targets: &mut [u64])
     requires in_bounds_2 { 64 ≤ length targets.old }
 {
     let last = one_less(end % 8193);
-    let mut i: usize = 0;
-    while i < 64 {
+    for i in 0..64 {
         targets[i] = 8192 * (spots[i] % 8192) + last;
-        i += 1;
     }
 }
 
@@ -230,46 +216,38 @@ fn enter_groups(order: &[u64], targets: &[u64], spots: &mut [u64]) -> u64
 {
     let shift = order[16386] % 64;
     let mut sizes: u64 = 0;
-    let mut i: usize = 0;
-    while i < 64 {
+    for i in 0..64 {
         let g = (targets[i] >> shift) % 4096;
         let e = order[16388 + (g / 4) as usize] >> (16 * (g % 4));
         sizes = sizes | e;
         spots[64 + i] = e % 65536;
-        i += 1;
     }
     sizes / 8192 % 8
 }
 
-// Two levels, from a seat on.
-fn far_seats(order: &[u64], targets: &[u64], spots: &mut [u64])
-    requires in_bounds { 19464 ≤ length order.now }
-    requires in_bounds_2 { 64 ≤ length targets.now }
-    requires in_bounds_3 { 128 ≤ length spots.old }
+fn step<const SIZE: usize>(b: bool) -> usize
+    requires { SIZE ≤ 8192 }
+    ensures { result ≤ SIZE }
 {
-    let mut i: usize = 0;
-    while i < 64 {
-        let w = targets[i];
-        let lo = 8192 + at_most(spots[64 + i] % 8192, 7936) as usize;
-        let a = lo + 128 * flag(order[lo + 128] <= w);
-        spots[64 + i] = (a + 64 * flag(order[a + 64] <= w)) as u64;
-        i += 1;
-    }
+    SIZE * flag(b)
 }
 
-// Two more.
-fn near_seats(order: &[u64], targets: &[u64], spots: &mut [u64])
+// Two levels, from a seat on: steps of FIRST and of SECOND seats, of which there are as many behind seat LAST.
+fn two_levels<const FIRST: usize, const SECOND: usize, const LAST: u64>(
+    order: &[u64],
+    targets: &[u64],
+    spots: &mut [u64],
+)
+    requires sizes { FIRST + SECOND + LAST < 8192 }
     requires in_bounds { 19464 ≤ length order.now }
     requires in_bounds_2 { 64 ≤ length targets.now }
     requires in_bounds_3 { 128 ≤ length spots.old }
 {
-    let mut i: usize = 0;
-    while i < 64 {
+    for i in 0..64 {
         let w = targets[i];
-        let lo = 8192 + at_most(spots[64 + i] % 8192, 8128) as usize;
-        let a = lo + 32 * flag(order[lo + 32] <= w);
-        spots[64 + i] = (a + 16 * flag(order[a + 16] <= w)) as u64;
-        i += 1;
+        let lo = 8192 + at_most(spots[64 + i] % 8192, LAST) as usize;
+        let a = lo + step::<FIRST>(order[lo + FIRST] <= w);
+        spots[64 + i] = (a + step::<SECOND>(order[a + SECOND] <= w)) as u64;
     }
 }
 
@@ -279,31 +257,13 @@ fn end_seats(order: &[u64], targets: &[u64], spots: &mut [u64])
     requires in_bounds_2 { 64 ≤ length targets.now }
     requires in_bounds_3 { 128 ≤ length spots.old }
 {
-    let mut i: usize = 0;
-    while i < 64 {
+    for i in 0..64 {
         let w = targets[i];
         let lo = 8192 + at_most(spots[64 + i] % 8192, 8176) as usize;
         let a = lo + 8 * flag(order[lo + 8] <= w);
         let b = a + 4 * flag(order[a + 4] <= w);
         let c = b + 2 * flag(order[b + 2] <= w);
         spots[64 + i] = (c + flag(order[c + 1] <= w)) as u64;
-        i += 1;
-    }
-}
-
-// The last two of these.
-fn last_seats(order: &[u64], targets: &[u64], spots: &mut [u64])
-    requires in_bounds { 19464 ≤ length order.now }
-    requires in_bounds_2 { 64 ≤ length targets.now }
-    requires in_bounds_3 { 128 ≤ length spots.old }
-{
-    let mut i: usize = 0;
-    while i < 64 {
-        let w = targets[i];
-        let lo = 8192 + at_most(spots[64 + i] % 8192, 8188) as usize;
-        let b = lo + 2 * flag(order[lo + 2] <= w);
-        spots[64 + i] = (b + flag(order[b + 1] <= w)) as u64;
-        i += 1;
     }
 }
 
@@ -314,7 +274,7 @@ fn find_near(order: &[u64], targets: &[u64], sizes: u64, spots: &mut [u64])
     requires in_bounds_3 { 128 ≤ length spots.old }
 {
     if sizes % 2 == 0 {
-        last_seats(order, targets, spots);
+        two_levels::<2, 1, 8188>(order, targets, spots);
     } else {
         end_seats(order, targets, spots);
     }
@@ -330,8 +290,8 @@ fn find_far(order: &[u64], targets: &[u64], sizes: u64, spots: &mut [u64])
         seek_seats(order, targets, 64, spots, 64);
         return;
     }
-    far_seats(order, targets, spots);
-    near_seats(order, targets, spots);
+    two_levels::<128, 64, 7936>(order, targets, spots);
+    two_levels::<32, 16, 8128>(order, targets, spots);
     end_seats(order, targets, spots);
 }
 
@@ -354,13 +314,11 @@ fn take_crowded(
     ensures { result ≤ 64 }
 {
     let mut n: usize = 0;
-    let mut i: usize = 0;
-    while i < 64 {
+    for i in 0..64 {
         few[n] = targets[i];
         rows[n] = i as u64;
         let known = order[(spots[i] % 8192) as usize] == keys[i];
         n = n + flag((16384 <= spots[64 + i]) & known);
-        i += 1;
     }
     n
 }
@@ -408,13 +366,11 @@ fn take_seats(order: &[u64], end: u64, spots: &mut [u64])
     requires in_bounds { 19464 ≤ length order.now }
     requires in_bounds_2 { 128 ≤ length spots.old }
 {
-    let mut i: usize = 0;
-    while i < 64 {
+    for i in 0..64 {
         let r = spots[i] % 8192;
         let z = 8192 * r + end % 8193;
         let own = flag((order[8192 + r as usize] < z) & (r != 0));
         spots[64 + i] = one_less(r) + own as u64;
-        i += 1;
     }
 }
 
@@ -436,10 +392,8 @@ fn put_numbers(spots: &[u64], keys: &mut [u64], at: usize, stamp: u64)
     requires at_in_bounds { at + 17 ≤ length keys.old }
     ensures { (j : ℕ) → j < at → get_or keys.new j 0 ≡ get_or keys.old j 0 }
 {
-    let mut i: usize = 0;
-    while i < 17 {
+    for i in 0..17 {
         keys[at + i] = packed(spots, i, stamp);
-        i += 1;
     }
 }
 
@@ -447,10 +401,8 @@ fn take_numbers(keys: &[u64], at: usize, spots: &mut [u64])
     requires at_in_bounds { at + 16 ≤ length keys.now }
     requires in_bounds { 128 ≤ length spots.old }
 {
-    let mut i: usize = 0;
-    while i < 64 {
+    for i in 0..64 {
         spots[i] = (keys[at + i / 4] >> (13 * (i % 4))) % 8192;
-        i += 1;
     }
 }
 

@@ -9,11 +9,9 @@ fn plant_level(order: &mut [u64], from: usize, tree: usize, size: usize)
 {
     let half = 4096 / size % 8192;
     let mut word = half;
-    let mut p: usize = 0;
-    while p < size {
+    for p in 0..size {
         order[tree + size + p] = order[from + word % 8192];
         word = (word + 2 * half) % 16384;
-        p += 1;
     }
 }
 
@@ -23,10 +21,8 @@ fn plant_tree(order: &mut [u64], from: usize, tree: usize)
     requires { (from + 8192 ≤ length order.old) × (tree + 1024 ≤ length order.old) }
     ensures { (q : ℕ) → q < tree → get_or order.new q 0 ≡ get_or order.old q 0 }
 {
-    let mut size: usize = 1;
-    while size <= 512 {
-        plant_level(order, from, tree, size);
-        size = 2 * size;
+    for level in 0u32..10 {
+        plant_level(order, from, tree, 1 << level);
     }
 }
 
@@ -35,13 +31,10 @@ fn plant_tree(order: &mut [u64], from: usize, tree: usize)
 fn group_shift(k: usize) -> u64
     requires { k ≤ 8192 }
 {
-    let mut s: u64 = 1;
-    let mut size: usize = 2;
-    while size < 2 * k {
-        s += 1;
-        size = 2 * size;
+    if k < 2 {
+        return 1;
     }
-    s
+    (2 * k - 1).ilog2() as u64 + 1
 }
 
 fn write_shift(order: &mut [u64], shift: u64)
@@ -97,9 +90,7 @@ fn note_groups(order: &mut [u64], shift: u64)
     let mut from: usize = 0;
     let mut p: usize = 0;
     let mut g: usize = 0;
-    let mut t: usize = 0;
-    while t < 12288 {
-        t += 1;
+    for _turn in 0usize..12288 {
         let own = order[8192 + p % 8192] >> (shift % 64);
         if (p < 8192) & (own <= g as u64) {
             p += 1;
@@ -139,10 +130,8 @@ fn note_keys(order: &mut [u64], k: usize)
     requires in_bounds { 21512 ≤ length order.old }
     ensures { (q : ℕ) → q < 16386 → get_or order.new q 0 ≡ get_or order.old q 0 }
 {
-    let mut r: usize = 0;
-    while r < k {
+    for r in 0..k {
         note_key(order, r);
-        r += 1;
     }
 }
 

@@ -10,13 +10,13 @@ ghost use Rattle.masks.specs.Block.{Finds};
 ghost use Rattle.pool_order.specs.Order.{Full, OrderedPart, Ordered};
 ghost use Rattle.pool_lists.specs.Truths.{Truths};
 
-use masks::block::biased;
 use masks::{Masks, inverted, mask_equal, with_bit};
 use pool_guesses::guessing::guess;
 use pool_order::asking::{holds, holds_from};
 use pool_order::making::part_end;
 use records::bytes::value_in;
 use records::record::Fields;
+use truth::scalar::biased;
 
 // Every bit, or none.
 fn all_if(b: bool) -> u64
@@ -34,14 +34,12 @@ fn find_key(pool: &[u8], start: u32, count: u32, w: u64) -> bool
     ensures { (bits : ℕ) → bits < 2 ^ 64 → w ≡ bias_of bits
         → result ≡ holds_key (key bits) (values_from pool.now start count) }
 {
-    let mut i = start as usize;
     let end = start as usize + count as usize;
-    while i < end {
+    for i in start as usize..end {
         let x = biased(value_in(pool, i));
         if x == w {
             return true;
         }
-        i += 1;
     }
     false
 }
@@ -69,10 +67,8 @@ fn find_keys(pool: &[u8], start: u32, count: u32, keys: &[u64], at: usize) -> u6
     ensures { Finds keys.now at (values_from pool.now start count) result }
 {
     let mut m: u64 = 0;
-    let mut i: usize = 0;
-    while i < 64 {
+    for i in 0..64 {
         m = with_bit(m, i as u32, find_key(pool, start, count, keys[at + i]));
-        i += 1;
     }
     m
 }
@@ -95,15 +91,13 @@ fn find_guessed(
     ensures { Finds keys.now at (values_from pool.now start count) result }
 {
     let mut m: u64 = 0;
-    let mut i: usize = 0;
-    while i < 64 {
+    for i in 0..64 {
         let w = keys[at + i];
         m = with_bit(
             m,
             i as u32,
             holds_from(pool, order, start, count, w, spots[i], spots[64 + i]),
         );
-        i += 1;
     }
     m
 }

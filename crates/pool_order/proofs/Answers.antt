@@ -1,6 +1,6 @@
 -- Asking the order of the pool. Assumes nothing.
 use mathlib.Core.Path.{◌≡◌, refl, sym, ◌∙◌}
-use mathlib.Core.Logic.{◌⊎◌, ⊎_elim}
+use mathlib.Core.Logic.{⊎_elim}
 use mathlib.Core.Bool.{Bool, true, false, cond, ◌&&◌, ◌||◌, not, or-true, true≢false}
 use mathlib.Core.List.{List}
 use Prim.Native.Nat.{ℕ, zero, suc, ◌+◌, ◌-◌, ◌*◌, ◌/◌, ◌^◌, ◌≤◌, ◌<◌}
@@ -17,7 +17,7 @@ use Rattle.truth.specs.FromBytes.{values_from}
 use Rattle.truth.specs.Evaluate.{holds_key}
 use Rattle.masks.proofs.Columns.{order-tests}
 use Rattle.sorted.specs.Rising.{In, Rising, Found}
-use Rattle.pool_order.specs.Order.{key_at, key_count, seat_count, Numbered, Seat, Full, Has, Between, Below}
+use Rattle.pool_order.specs.Order.{key_at, key_count, seat_count, Full, Has, Between, Below}
 
 -- ---- the halving
 pub below_all : (l : List ℕ) (count z : ℕ) → 0 < count → Below l (8192 + count) z 8192 count

@@ -25,6 +25,7 @@ fn has_between(order: &[u64], count: usize, x: u64, z: u64) -> bool
 {
     let mut lo: usize = 8192;
     let mut len = count;
+    // Halves what is left: no count of turns is known before.
     while 1 < len {
         let h = len / 2;
         let at = lo + h;

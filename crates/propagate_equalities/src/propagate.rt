@@ -199,8 +199,7 @@ pub fn propagate_pass(
     let mut emitted = false;
     let mut any = false;
     let mut word: u64 = 0;
-    let mut e: usize = 0;
-    while e < edges {
+    for e in 0..edges {
         let m = sweep_edge(
             index,
             told,
@@ -214,7 +213,6 @@ pub fn propagate_pass(
         emitted = emitted | m.emitted;
         any = any | m.any;
         word = word | m.word;
-        e += 1;
     }
     Swept {
         emitted: emitted,
@@ -248,6 +246,7 @@ pub fn propagate_equalities(
     let mut going = 0 < edges;
     let mut passes: usize = 0;
     let mut before: u64 = 18446744073709551615;
+    // It ends with the first pass that changes nothing, and answers how many passes there were.
     while (passes < columns) & going {
         let m = propagate_pass(
             index, told, pool, cells, marks, lefts, rights, edges, before,

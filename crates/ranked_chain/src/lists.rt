@@ -34,9 +34,7 @@ pub fn raise_lists(out: &mut [u8], used: usize, words: u32)
     requires lists_pooled { ListsPooled out.old used }
     ensures { RaisedLists words used out.old out.new }
 {
-    let mut i: usize = 0;
-    while i < used {
+    for i in 0..used {
         raise_list(out, i, words);
-        i += 1;
     }
 }

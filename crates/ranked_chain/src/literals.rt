@@ -33,9 +33,7 @@ pub fn rank_literals(records: &[u8], ranks: &[u64], used: usize, out: &mut [u8])
     requires copied { Copied records.now out.old (16 * used) }
     ensures { RankedLiterals records.now ranks.now used used out.new }
 {
-    let mut i: usize = 0;
-    while i < used {
+    for i in 0..used {
         rank_literal(records, i, ranks[i], out);
-        i += 1;
     }
 }

@@ -9,9 +9,7 @@ pub fn number_all(codes: &[u64], values: &[u64], n: usize, numbers: &mut [u64])
     requires { (8192 ≤ length codes.now) × (n ≤ length values.now) × (n ≤ length numbers.old) }
     ensures { Numbered codes.now values.now n numbers.new }
 {
-    let mut i: usize = 0;
-    while i < n {
+    for i in 0..n {
         numbers[i] = number(codes, values[i]);
-        i += 1;
     }
 }

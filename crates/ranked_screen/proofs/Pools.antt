@@ -3,22 +3,12 @@ use mathlib.Core.Path.{◌≡◌, sym, ◌∙◌, ap, subst}
 use mathlib.Core.List.{List, ◌++◌}
 use Prim.Native.Nat.{ℕ, ◌+◌, ◌*◌, ◌/◌, ◌%◌, ◌≤◌, ◌<◌}
 use native.Mathlib.Omega.{arith}
-use lib.ListN.{length, get_or, set}
+use lib.ListN.{length, get_or}
 use Rattle.records.specs.Bytes.{word, value_at}
 use Rattle.sorted.proofs.Parts.{last}
 use Rattle.merge.specs.Write.{splice, word_bytes}
-use Rattle.merge.proofs.Splices.{set4, splice-then, splice-before, splice-in, word_back}
+use Rattle.merge.proofs.Splices.{splice-before, splice-in, word_back}
 use Rattle.ranked_screen.specs.Screen.{pool_value, RankedPool, write_value}
-
-pub word-put : (l : List ℕ) (i x a b c d : ℕ) → a ≡ x % 256 → b ≡ x / 256 % 256 → c ≡ x / 65536 % 256 → d ≡ x / 16777216 % 256
-    → i + 4 ≤ length l → set (set (set (set l i a) (i + 1) b) (i + 2) c) (i + 3) d ≡ splice l i (word_bytes x)
-word-put l i x a b c d ea eb ec ed h = rw (ea, eb, ec, ed) (set4 l i _ _ _ _ h)
-
-pub value-put : (l mid out : List ℕ) (k x : ℕ) → 8 * k + 8 ≤ length l → mid ≡ splice l (8 * k) (word_bytes (x % 4294967296))
-    → out ≡ splice mid (8 * k + 4) (word_bytes (x / 4294967296)) → out ≡ write_value l k x
-unfolding write_value
-value-put l mid out k x h e f =
-    splice-then l (8 * k) (8 * k + 4) (word_bytes (x % 4294967296)) (word_bytes (x / 4294967296)) e f (omega arith) (omega arith)
 
 module _ (l : List ℕ) (k x : ℕ) (room : 8 * k + 8 ≤ length l) where
   abbrev bytes : List ℕ

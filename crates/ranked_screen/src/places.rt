@@ -39,9 +39,7 @@ pub fn fill_values(size: u32, rs: &[u8], p: &[u8], used: usize, values: &mut [u6
     ensures { Standing size rs.now p.now used values.new }
 {
     let n = used + p.len() / 8;
-    let mut i: usize = 0;
-    while i < n {
+    for i in 0..n {
         values[i] = symbol_or_empty(size, place_word(rs, p, used, i));
-        i += 1;
     }
 }

@@ -41,10 +41,8 @@ pub fn rank_records(rs: &[u8], ranks: &[u64], words: u32, used: u32, src: &mut [
     requires used_in_bounds { (used ≤ length ranks.now) × (16 * used ≤ length src.old) }
     ensures { RankedRecords rs.now ranks.now words used src.new }
 {
-    let mut i: u32 = 0;
-    while i < used {
+    for i in 0..used {
         let r = record_at(rs, Node(i));
         put_record(src, Node(i), ranked_record(words, ranks[i as usize], r));
-        i += 1;
     }
 }

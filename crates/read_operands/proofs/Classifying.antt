@@ -1,16 +1,16 @@
 -- Reading a conjunct in code: what its matches leave of the definitions.
 use mathlib.Core.Path.{◌≡◌, refl, sym, ◌∙◌, ap}
-use mathlib.Core.Bool.{Bool, true, cond}
-use mathlib.Core.List.{List, [], ◌∷◌}
+use mathlib.Core.Bool.{true, cond}
+use mathlib.Core.List.{List}
 use Prim.Native.Nat.{ℕ, zero, suc, ◌≤◌, ◌<◌}
 use lib.Dec.{leb}
 use lib.ListN.{length}
 use borrow.Author.Tests.{le-leb, lt-leb, eq-eqb, ne_eqb}
 use Rattle.records.specs.Operator.{code_of, is_null_propagating_comparison, negate}
-use Rattle.records.specs.Record.{node, record_at}
+use Rattle.records.specs.Record.{record_at}
 use Rattle.records.specs.declared.operator.Operator.{Operator}
 use Rattle.records.specs.declared.operator.Operator.TheVariants as operator
-use Rattle.records.specs.declared.operator.Negated.{Negated}
+use Rattle.std.specs.Prelude as code
 use Rattle.records.specs.declared.record.Node.{Node}
 use Rattle.records.specs.declared.record.Record.{Record}
 use Rattle.records.specs.declared.record.Record.TheVariants as kind
@@ -55,10 +55,6 @@ no_operand operator.Or x y = refl
 no_operand operator.Xor x y = refl
 no_operand operator.LogicalAnd x y = refl
 no_operand operator.LogicalOr x y = refl
-
-pub operand-binary : (p : List ℕ) (r : Record) (o : Operator) (x y : Node) → r ≡ kind.Binary o x y
-    → Other ≡ operand (to_aexpr p r)
-operand-binary p r o x y e = no_operand o x.0 y.0 ∙ ap (λ q. operand (to_aexpr p q)) (sym e)
 
 pub negation-law : (rs p : List ℕ) (n : ℕ) (r s : Record) (x : Node) → r ≡ kind.Not x → s ≡ record_at rs x
     → classify_negation (aexpr_of rs p) n (to_aexpr p s) ≡ classify_record (aexpr_of rs p) n (to_aexpr p r)
@@ -143,7 +139,7 @@ negated_same R n x y operator.Xor = refl
 negated_same R n x y operator.LogicalAnd = refl
 negated_same R n x y operator.LogicalOr = refl
 
-pub negation-binary : (rs p : List ℕ) (n : ℕ) (r : Record) (o : Operator) (x y : Node) (k : Negated) (a b : Operand ℕ)
+pub negation-binary : (rs p : List ℕ) (n : ℕ) (r : Record) (o : Operator) (x y : Node) (k : code.Option Operator) (a b : Operand ℕ)
     → r ≡ kind.Binary o x y → k ≡ negate o → a ≡ operand (aexpr_of rs p x.0) → b ≡ operand (aexpr_of rs p y.0)
     → classify_negated n k a b ≡ classify_negation (aexpr_of rs p) n (to_aexpr p r)
 negation-binary rs p n r o x y k a b e f g h =

@@ -1,6 +1,7 @@
 -- What the code reads of a conjunct, and what that stands for: `Conjunct` of the code is `Conjunct` of Classify, with
 -- lists by their place in the pool p. n is the conjunct's node.
 use Rattle.std.proofs.Math.Option.{Option, none, some}
+use Rattle.std.specs.Prelude as code
 use Rattle.std.specs.Prelude.{Bool, cond, List, [], ◌∷◌, ℕ}
 use Rattle.records.specs.Operator.{is_left_out}
 use Rattle.records.specs.declared.operator.Operator.{Operator}
@@ -10,8 +11,6 @@ use Rattle.constraints.specs.Column.{Constraint, Lower, Upper, Allow, Disallow, 
 use Rattle.merge.specs.Classify as c
 use Rattle.read_operands.specs.declared.operands.Comparison.{Comparison}
 use Rattle.read_operands.specs.declared.operands.Comparison.TheVariants.{Eq, NotEq, Lt, LtEq, Gt, GtEq}
-use Rattle.read_operands.specs.declared.operands.Ordinary.{Ordinary}
-use Rattle.read_operands.specs.declared.operands.Ordinary.TheVariants as ordinary
 use Rattle.read_operands.specs.declared.operands.Operand.{Operand}
 use Rattle.read_operands.specs.declared.operands.Operand.TheVariants as operand
 use Rattle.read_operands.specs.declared.operands.Listing.{Listing}
@@ -29,9 +28,9 @@ comparison_in LtEq = truth.LtEq
 comparison_in Gt = truth.Gt
 comparison_in GtEq = truth.GtEq
 
-abbrev pub ordinary_in : Ordinary → Option truth.Comparison
-ordinary_in ordinary.Nothing = none
-ordinary_in (ordinary.To k) = some (comparison_in k)
+abbrev pub ordinary_in : code.Option Comparison → Option truth.Comparison
+ordinary_in code.None = none
+ordinary_in (code.Some k) = some (comparison_in k)
 
 abbrev pub operand_in : List ℕ → Operand → c.Operand ℕ
 operand_in p (operand.Column a) = c.AColumn a.0

@@ -1,17 +1,17 @@
 -- What the code's arrays hold during the walk.
+use Rattle.std.specs.Prelude as code
 use Rattle.std.specs.Prelude.{List, [], ◌∷◌, ◌++◌, ℕ, zero, suc, ◌≤◌, get_or}
 use Rattle.std.proofs.Math.Option.{Option, none, some}
+use Rattle.records.specs.declared.record.Node.{Node}
 use Rattle.records.specs.declared.record.Record.{Record}
 use Rattle.truth.specs.AExpr.{AExpr, Inputs}
 use Rattle.truth.specs.FromBytes.{to_aexpr, aexpr_of}
 use Rattle.merge.specs.Minterms.{and_sides}
-use Rattle.read_operands.specs.declared.minterms.Sides.{Sides}
-use Rattle.read_operands.specs.declared.minterms.Sides.TheVariants as code
 
 -- The two sides of an And or LogicalAnd, as the code holds them.
-abbrev pub sides_in : Sides → Option (ℕ × ℕ)
-sides_in code.One = none
-sides_in (code.Both x y) = some (x.0, y.0)
+abbrev pub sides_in : code.Option (Node × Node) → Option (ℕ × ℕ)
+sides_in code.None = none
+sides_in (code.Some both) = some (both.0.0, both.1.0)
 
 -- A record's sides; they do not depend on the pool.
 abbrev pub record_sides : Record → Option (ℕ × ℕ)

@@ -20,13 +20,6 @@ pub enum Comparison {
     GtEq,
 }
 
-/// The ordinary comparison that an operator is, if it is one of the six.
-#[derive(Clone, Copy)]
-pub enum Ordinary {
-    Nothing,
-    To(Comparison),
-}
-
 /// `List`: at most 100 values and no null; its start and count in the pool.
 #[derive(Clone, Copy)]
 pub enum Operand {
@@ -87,17 +80,10 @@ fn operand_of(r: Record) -> Operand
     ensures { (p : List ℕ) → operand_in p result ≡ c.operand (to_aexpr p r) }
 {
     match r {
-        Record::Invalid => Operand::Other,
         Record::Column(a) => Operand::Column(a),
         Record::Literal(_, v) => Operand::Literal(Scalar(v)),
-        Record::Null(_) => Operand::Other,
-        Record::Binary(_, _, _) => Operand::Other,
-        Record::Not(_) => Operand::Other,
-        Record::IsNull(_) => Operand::Other,
-        Record::IsNotNull(_) => Operand::Other,
-        Record::IsBetween(_, _, _, _) => Operand::Other,
         Record::List(_, marked, start, count) => list_operand(marked, start, count),
-        Record::IsIn(_, _, _) => Operand::Other,
+        _ => Operand::Other,
     }
 }
 

@@ -9,7 +9,6 @@ use classify_operands::conjuncts::{
     binary_conjunct, classify_is_between, classify_is_in, classify_negated, classify_null,
 };
 use constraints::column::Nullability;
-use operators::negate;
 use read_operands::operands::{Conjunct, Listing, operand_at};
 use records::bytes::word_in;
 use records::operator::operator_at;
@@ -21,25 +20,19 @@ fn classify_negation(rs: &[u8], r: Record) -> Conjunct
         (to_aexpr p r) }
 {
     match r {
-        Record::Invalid => Conjunct::Opaque,
-        Record::Column(_) => Conjunct::Opaque,
-        Record::Literal(_, _) => Conjunct::Opaque,
-        Record::Null(_) => Conjunct::Opaque,
         Record::Binary(o, x, y) => classify_negated(
-            negate(o),
+            o.negate(),
             operand_at(rs, x),
             operand_at(rs, y),
         ),
-        Record::Not(_) => Conjunct::Opaque,
         Record::IsNull(x) => classify_null(Nullability::NonNull, operand_at(rs, x)),
         Record::IsNotNull(x) => classify_null(Nullability::Null, operand_at(rs, x)),
-        Record::IsBetween(_, _, _, _) => Conjunct::Opaque,
-        Record::List(_, _, _, _) => Conjunct::Opaque,
         Record::IsIn(equal, x, list) => classify_is_in(
             Listing::Disallow(!equal),
             operand_at(rs, x),
             operand_at(rs, list),
         ),
+        _ => Conjunct::Opaque,
     }
 }
 
@@ -48,10 +41,6 @@ fn classify_record(rs: &[u8], r: Record) -> Conjunct
         (to_aexpr p r) }
 {
     match r {
-        Record::Invalid => Conjunct::Opaque,
-        Record::Column(_) => Conjunct::Opaque,
-        Record::Literal(_, _) => Conjunct::Opaque,
-        Record::Null(_) => Conjunct::Opaque,
         Record::Binary(o, x, y) => binary_conjunct(o, operand_at(rs, x), operand_at(rs, y)),
         Record::Not(x) => classify_negation(rs, record_at(rs, x)),
         Record::IsNull(x) => classify_null(Nullability::Null, operand_at(rs, x)),
@@ -62,12 +51,12 @@ fn classify_record(rs: &[u8], r: Record) -> Conjunct
             operand_at(rs, low),
             operand_at(rs, high),
         ),
-        Record::List(_, _, _, _) => Conjunct::Opaque,
         Record::IsIn(_, x, list) => classify_is_in(
             Listing::Allow,
             operand_at(rs, x),
             operand_at(rs, list),
         ),
+        _ => Conjunct::Opaque,
     }
 }
 
@@ -98,11 +87,8 @@ pub fn classify(rs: &[u8], n: Node) -> Conjunct
     ensures { (p : List ℕ) → conjunct_in p n.0 result ≡ c.classify (aexpr_of rs.now p) n.0 }
 {
     let at = 16 * (n.0 as usize);
-    if at + 15 < rs.len() {
-        if rs[at] == 4 {
-            return classify_binary(rs, n);
-        }
-        return classify_record(rs, record_at(rs, n));
+    if at + 15 < rs.len() && rs[at] == 4 {
+        return classify_binary(rs, n);
     }
     classify_record(rs, record_at(rs, n))
 }

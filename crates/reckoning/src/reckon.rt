@@ -38,10 +38,8 @@ fn kept_trees(trees: &[u16], nodes: &[u32], kept: usize) -> usize
     ensures upper_bound { result ≤ 65536 * kept }
 {
     let mut sum: usize = 0;
-    let mut i: usize = 0;
-    while i < kept {
+    for i in 0..kept {
         sum = sum + tree_at(trees, nodes[i]);
-        i += 1;
     }
     sum
 }

@@ -11,13 +11,11 @@ fn all_fit(text: u32, p: &[u8], ty: u8, start: u32, count: u32) -> bool
     requires { start + count ≤ length p.now / 8 }
     ensures { result ≡ all_fit_in text p.now ty start count }
 {
-    let mut k: u32 = 0;
-    while k < count {
+    for k in 0..count {
         let v = value_in(p, (start as usize) + (k as usize));
         if !in_type(text, ty, v) {
             return false;
         }
-        k += 1;
     }
     true
 }

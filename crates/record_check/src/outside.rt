@@ -23,12 +23,10 @@ pub fn fill_outside(text: u32, p: &[u8], ty: u8, counts: &mut [u16])
 {
     let n = p.len() / 8;
     let mut d: u16 = 0;
-    let mut k: usize = 0;
-    while k < n {
+    for k in 0..n {
         let v = value_in(p, k);
         counts[k] = d;
         d = d + miss(text, ty, v);
-        k += 1;
     }
     counts[n] = d;
 }

@@ -3,3 +3,4 @@ pub mod Inputs
 pub mod Loops
 pub mod Courses
 pub mod RoundTrips
+pub mod Ranges

@@ -1,11 +1,7 @@
 -- `Operator` of the Rust (src/dsl/expr/mod.rs): the twenty variants in its order, their codes, and three of its methods.
-use Rattle.std.specs.Prelude.{ℕ, Bool, true, false, ◌&&◌, List, [], ◌∷◌, get_or, leb}
+use Rattle.std.specs.Prelude.{ℕ, Bool, true, false, ◌&&◌, List, [], ◌∷◌, get_or, leb, Option, Some, None}
 use Rattle.records.specs.declared.operator.Operator.{Operator}
 use Rattle.records.specs.declared.operator.Operator.TheVariants.{Eq, EqValidity, NotEq, NotEqValidity, Lt, LtEq, Gt, GtEq, Plus, Minus, Multiply, RustDivide, TrueDivide, FloorDivide, Modulus, And, Or, Xor, LogicalAnd, LogicalOr}
-use Rattle.records.specs.declared.operator.Swapped.{Swapped}
-use Rattle.records.specs.declared.operator.Swapped.TheVariants.{Nothing, To}
-use Rattle.records.specs.declared.operator.Negated.{Negated}
-use Rattle.records.specs.declared.operator.Negated.TheVariants as negated
 
 -- the Rust's order; the code of an operator is its place here
 abbrev pub operators : List Operator
@@ -76,47 +72,47 @@ is_null_propagating_comparison LogicalAnd = false
 is_null_propagating_comparison LogicalOr = false
 
 -- `b (swap_operands o) a` is equivalent to `a o b`; arithmetic that does not commute has none
-abbrev pub swap_operands : Operator → Swapped
-swap_operands Eq = To Eq
-swap_operands EqValidity = To EqValidity
-swap_operands NotEq = To NotEq
-swap_operands NotEqValidity = To NotEqValidity
-swap_operands Lt = To Gt
-swap_operands LtEq = To GtEq
-swap_operands Gt = To Lt
-swap_operands GtEq = To LtEq
-swap_operands Plus = To Plus
-swap_operands Minus = Nothing
-swap_operands Multiply = To Multiply
-swap_operands RustDivide = Nothing
-swap_operands TrueDivide = Nothing
-swap_operands FloorDivide = Nothing
-swap_operands Modulus = Nothing
-swap_operands And = To And
-swap_operands Or = To Or
-swap_operands Xor = To Xor
-swap_operands LogicalAnd = To LogicalAnd
-swap_operands LogicalOr = To LogicalOr
+abbrev pub swap_operands : Operator → Option Operator
+swap_operands Eq = Some Eq
+swap_operands EqValidity = Some EqValidity
+swap_operands NotEq = Some NotEq
+swap_operands NotEqValidity = Some NotEqValidity
+swap_operands Lt = Some Gt
+swap_operands LtEq = Some GtEq
+swap_operands Gt = Some Lt
+swap_operands GtEq = Some LtEq
+swap_operands Plus = Some Plus
+swap_operands Minus = None
+swap_operands Multiply = Some Multiply
+swap_operands RustDivide = None
+swap_operands TrueDivide = None
+swap_operands FloorDivide = None
+swap_operands Modulus = None
+swap_operands And = Some And
+swap_operands Or = Some Or
+swap_operands Xor = Some Xor
+swap_operands LogicalAnd = Some LogicalAnd
+swap_operands LogicalOr = Some LogicalOr
 
 -- `a (negate o) b` is equivalent to `!(a o b)`, null or not; only the comparisons have such an operator
-abbrev pub negate : Operator → Negated
-negate Eq = negated.To NotEq
-negate EqValidity = negated.To NotEqValidity
-negate NotEq = negated.To Eq
-negate NotEqValidity = negated.To EqValidity
-negate Lt = negated.To GtEq
-negate LtEq = negated.To Gt
-negate Gt = negated.To LtEq
-negate GtEq = negated.To Lt
-negate Plus = negated.Nothing
-negate Minus = negated.Nothing
-negate Multiply = negated.Nothing
-negate RustDivide = negated.Nothing
-negate TrueDivide = negated.Nothing
-negate FloorDivide = negated.Nothing
-negate Modulus = negated.Nothing
-negate And = negated.Nothing
-negate Or = negated.Nothing
-negate Xor = negated.Nothing
-negate LogicalAnd = negated.Nothing
-negate LogicalOr = negated.Nothing
+abbrev pub negate : Operator → Option Operator
+negate Eq = Some NotEq
+negate EqValidity = Some NotEqValidity
+negate NotEq = Some Eq
+negate NotEqValidity = Some EqValidity
+negate Lt = Some GtEq
+negate LtEq = Some Gt
+negate Gt = Some LtEq
+negate GtEq = Some Lt
+negate Plus = None
+negate Minus = None
+negate Multiply = None
+negate RustDivide = None
+negate TrueDivide = None
+negate FloorDivide = None
+negate Modulus = None
+negate And = None
+negate Or = None
+negate Xor = None
+negate LogicalAnd = None
+negate LogicalOr = None

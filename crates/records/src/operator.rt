@@ -1,9 +1,10 @@
 // `Operator` of src/dsl/expr/mod.rs, its variants in the Rust's order; a binary record holds its place there as a code.
-// Three of its methods are crate operators.
+// Its methods answer as the Rust's.
 ghost use Rattle.std.specs.Prelude.{◌≡◌, ◌<◌};
-ghost use Rattle.records.specs.Operator.{code_of, operator_at, is_comparison, is_left_out};
+ghost use Rattle.records.specs.Operator.{code_of, operator_at};
+ghost use Rattle.records.specs.Operator as operator;
 
-#[derive(Clone, Copy)]
+#[derive(Clone, Copy, PartialEq, Eq)]
 pub enum Operator {
     Eq,
     EqValidity,
@@ -27,49 +28,82 @@ pub enum Operator {
     LogicalOr,
 }
 
-// What `swap_operands` answers: arithmetic that does not commute has no such operator.
-#[derive(Clone, Copy)]
-pub enum Swapped {
-    Nothing,
-    To(Operator),
-}
+impl Operator {
+    // The code of an operator in a binary record.
+    pub fn code(self) -> u8
+        ensures { result ≡ code_of self }
+    {
+        self as u8
+    }
 
-// What `negate` answers: only a comparison has a complement.
-#[derive(Clone, Copy)]
-pub enum Negated {
-    Nothing,
-    To(Operator),
-}
+    // Eq to GtEq: they take two values of one type.
+    pub fn is_comparison(self) -> bool
+        ensures { result ≡ operator.is_comparison self }
+    {
+        self.code() <= 7
+    }
 
-// The code of an operator in a binary record.
-pub fn operator_code(o: Operator) -> u8
-    ensures { result ≡ code_of o }
-{
-    match o {
-        Operator::Eq => 0,
-        Operator::EqValidity => 1,
-        Operator::NotEq => 2,
-        Operator::NotEqValidity => 3,
-        Operator::Lt => 4,
-        Operator::LtEq => 5,
-        Operator::Gt => 6,
-        Operator::GtEq => 7,
-        Operator::Plus => 8,
-        Operator::Minus => 9,
-        Operator::Multiply => 10,
-        Operator::RustDivide => 11,
-        Operator::TrueDivide => 12,
-        Operator::FloorDivide => 13,
-        Operator::Modulus => 14,
-        Operator::And => 15,
-        Operator::Or => 16,
-        Operator::Xor => 17,
-        Operator::LogicalAnd => 18,
-        Operator::LogicalOr => 19,
+    // Plus to TrueDivide: left out, refused with number 6.
+    pub fn is_left_out(self) -> bool
+        ensures { result ≡ operator.is_left_out self }
+    {
+        matches!(self.code(), 8..=12)
+    }
+
+    // Comparisons for which a null operand gives null. The validity variants take null as a value.
+    pub fn is_null_propagating_comparison(self) -> bool
+        ensures { result ≡ operator.is_null_propagating_comparison self }
+    {
+        match self {
+            Operator::Eq
+            | Operator::NotEq
+            | Operator::Lt
+            | Operator::LtEq
+            | Operator::Gt
+            | Operator::GtEq => true,
+            _ => false,
+        }
+    }
+
+    // The operator such that `b op.swap_operands() a` is equivalent to `a op b`; arithmetic that does not commute has
+    // none.
+    pub fn swap_operands(self) -> Option<Operator>
+        ensures { result ≡ operator.swap_operands self }
+    {
+        match self {
+            Operator::Lt => Some(Operator::Gt),
+            Operator::LtEq => Some(Operator::GtEq),
+            Operator::Gt => Some(Operator::Lt),
+            Operator::GtEq => Some(Operator::LtEq),
+            Operator::Minus
+            | Operator::RustDivide
+            | Operator::TrueDivide
+            | Operator::FloorDivide
+            | Operator::Modulus => None,
+            _ => Some(self),
+        }
+    }
+
+    // The operator such that `a op.negate() b` is equivalent to `!(a op b)`; only a comparison has one.
+    pub fn negate(self) -> Option<Operator>
+        ensures { result ≡ operator.negate self }
+    {
+        match self {
+            Operator::Eq => Some(Operator::NotEq),
+            Operator::EqValidity => Some(Operator::NotEqValidity),
+            Operator::NotEq => Some(Operator::Eq),
+            Operator::NotEqValidity => Some(Operator::EqValidity),
+            Operator::Lt => Some(Operator::GtEq),
+            Operator::LtEq => Some(Operator::Gt),
+            Operator::Gt => Some(Operator::LtEq),
+            Operator::GtEq => Some(Operator::Lt),
+            _ => None,
+        }
     }
 }
 
 // The operator of a code. Checking refuses codes above 19; here they read as `Eq`.
+#[tactic(auto, unfolding(crate::specs::Operator::operator_at))]
 pub fn operator_at(code: u8) -> Operator
     ensures { result ≡ operator_at code }
 {
@@ -96,19 +130,4 @@ pub fn operator_at(code: u8) -> Operator
         19 => Operator::LogicalOr,
         _ => Operator::Eq,
     }
-}
-
-// Eq to GtEq: they take two values of one type.
-pub fn is_comparison(o: Operator) -> bool
-    ensures { result ≡ is_comparison o }
-{
-    operator_code(o) <= 7
-}
-
-// Plus to TrueDivide: left out, refused with number 6.
-pub fn is_left_out(o: Operator) -> bool
-    ensures { result ≡ is_left_out o }
-{
-    let code = operator_code(o);
-    (8 <= code) & (code <= 12)
 }

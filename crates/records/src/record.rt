@@ -4,7 +4,7 @@ ghost use Rattle.std.specs.Prelude.{◌≡◌, ◌+◌, ◌*◌, ◌<◌, length
 ghost use Rattle.records.specs.Record.{fields_at, closed_at, decode, record_at, closed_code, flag_code, encode, inputs, list_of};
 
 use crate::bytes::{byte, word_at, word_in};
-use crate::operator::{Operator, operator_at, operator_code};
+use crate::operator::{Operator, operator_at};
 
 // The number of a record, as the Rust's `Node`.
 #[derive(Clone, Copy)]
@@ -66,6 +66,7 @@ pub enum Inputs {
 }
 
 // Sixteen bytes that are there.
+#[tactic(auto, unfolding(crate::specs::Record::fields_at))]
 pub fn fields_in(rs: &[u8], n: Node) -> Fields
     requires { 16 * n.0 + 15 < length rs.now }
     ensures { result ≡ fields_at rs.now n }
@@ -82,6 +83,7 @@ pub fn fields_in(rs: &[u8], n: Node) -> Fields
     }
 }
 
+#[tactic(auto, unfolding(crate::specs::Record::fields_at))]
 fn fields_past(rs: &[u8], n: Node) -> Fields
     ensures { result ≡ fields_at rs.now n }
 {
@@ -107,6 +109,7 @@ pub fn fields_at(rs: &[u8], n: Node) -> Fields
     fields_past(rs, n)
 }
 
+#[tactic(auto, unfolding(crate::specs::Record::closed_at))]
 fn closed_at(code: u8) -> ClosedInterval
     ensures { result ≡ closed_at code }
 {
@@ -119,6 +122,7 @@ fn closed_at(code: u8) -> ClosedInterval
 }
 
 // The record that the fields mean. Fields that its kind does not use are not looked at.
+#[tactic(auto, unfolding(crate::specs::Record::decode))]
 pub fn decode_fields(f: Fields) -> Record
     ensures { result ≡ decode f }
 {
@@ -138,6 +142,7 @@ pub fn decode_fields(f: Fields) -> Record
     }
 }
 
+#[tactic(auto, unfolding(crate::specs::Record::record_at))]
 pub fn record_at(rs: &[u8], n: Node) -> Record
     ensures { result ≡ record_at rs.now n }
 {
@@ -147,37 +152,33 @@ pub fn record_at(rs: &[u8], n: Node) -> Record
 fn closed_code(k: ClosedInterval) -> u8
     ensures { result ≡ closed_code k }
 {
-    match k {
-        ClosedInterval::Both => 0,
-        ClosedInterval::Left => 1,
-        ClosedInterval::Right => 2,
-        ClosedInterval::None => 3,
-    }
+    k as u8
 }
 
 fn flag_code(flag: bool) -> u8
     ensures { result ≡ flag_code flag }
 {
-    if flag { 1 } else { 0 }
+    flag as u8
 }
 
 fn fields_of(kind: u8, code: u8, ty: u8, a: u32, b: u32, c: u32) -> Fields
     ensures { result ≡ fields kind code ty a b c }
 {
     Fields {
-        kind: kind,
-        code: code,
-        ty: ty,
+        kind,
+        code,
+        ty,
         zero: 0,
-        a: a,
-        b: b,
-        c: c,
+        a,
+        b,
+        c,
     }
 }
 
 ghost use Rattle.records.specs.Record.{fields};
 
 // The fields that say a record; those that its kind does not use are zero.
+#[tactic(auto, unfolding(crate::specs::Record::encode))]
 pub fn encode_record(r: Record) -> Fields
     ensures { result ≡ encode r }
 {
@@ -193,7 +194,7 @@ pub fn encode_record(r: Record) -> Fields
             (v / 4294967296) as u32,
         ),
         Record::Null(ty) => fields_of(3, 0, ty, 0, 0, 0),
-        Record::Binary(o, x, y) => fields_of(4, operator_code(o), 0, x.0, y.0, 0),
+        Record::Binary(o, x, y) => fields_of(4, o.code(), 0, x.0, y.0, 0),
         Record::Not(x) => fields_of(5, 0, 0, x.0, 0, 0),
         Record::IsNull(x) => fields_of(6, 0, 0, x.0, 0, 0),
         Record::IsNotNull(x) => fields_of(7, 0, 0, x.0, 0, 0),
@@ -214,17 +215,10 @@ pub fn inputs_of(r: Record) -> Inputs
     ensures { list_of result ≡ inputs r }
 {
     match r {
-        Record::Invalid => Inputs::Zero,
-        Record::Column(_) => Inputs::Zero,
-        Record::Literal(_, _) => Inputs::Zero,
-        Record::Null(_) => Inputs::Zero,
-        Record::Binary(_, x, y) => Inputs::Two(x, y),
-        Record::Not(x) => Inputs::One(x),
-        Record::IsNull(x) => Inputs::One(x),
-        Record::IsNotNull(x) => Inputs::One(x),
+        Record::Binary(_, x, y) | Record::IsIn(_, x, y) => Inputs::Two(x, y),
+        Record::Not(x) | Record::IsNull(x) | Record::IsNotNull(x) => Inputs::One(x),
         Record::IsBetween(_, x, y, z) => Inputs::Three(x, y, z),
-        Record::List(_, _, _, _) => Inputs::Zero,
-        Record::IsIn(_, x, list) => Inputs::Two(x, list),
+        _ => Inputs::Zero,
     }
 }
 

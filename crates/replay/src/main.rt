@@ -3,112 +3,101 @@
 // A read or a write that fails ends the program with its error.
 #![tactic(auto)]
 
-ghost use Rattle.std.specs.Prelude.{◌+◌, ◌<◌, ◌≤◌, length, IfOk};
+ghost use Rattle.std.specs.Prelude.{◌+◌, ◌<◌, ◌≤◌, length, IfOk, IfSome};
 
+use records::bytes::{byte, word_at};
 use std::io;
 use std::io::{Read, Write};
 
+/// Where the next line starts, and how many bytes this one spelled.
 #[derive(Clone, Copy)]
 pub struct Line {
     pub next: usize,
     pub len: usize,
 }
 
-// 0 to 15, or 16 of what is no hex digit.
-fn digit(b: u8) -> u8 {
-    if b < 48 {
-        return 16;
-    }
-    if b < 58 {
-        return b - 48;
-    }
-    if b < 97 {
-        return 16;
-    }
-    if b < 103 {
-        return b - 87;
-    }
-    16
+/// The calls that a screen was recorded for.
+#[derive(Clone, Copy)]
+pub enum Call {
+    CheckAndColumns,
+    TestRow,
+    Rewrite,
 }
 
-fn pair(h: u8, l: u8) -> u16 {
-    if h < 16 {
-        if l < 16 {
-            return h as u16 * 16 + l as u16;
-        }
-    }
-    256
+/// What the first line of a screen says: the call, and the numbers that it takes.
+#[derive(Clone, Copy)]
+pub struct Head {
+    pub call: Call,
+    pub used: u64,
+    pub root: u64,
+    pub nulls: u64,
 }
 
-// The byte that two hex digits at i spell, or 256.
-fn hex_byte(src: &[u8], i: usize) -> u16
-    ensures { result < 256 → i + 1 < length src.now }
+fn digit(b: u8) -> Option<u8>
+    ensures { IfSome result (λ d. d < 16) }
 {
-    if i < src.len() {
-        if i + 1 < src.len() {
-            return pair(digit(src[i]), digit(src[i + 1]));
-        }
+    match b {
+        b'0'..=b'9' => Some(b - b'0'),
+        b'a'..=b'f' => Some(b - b'a' + 10),
+        _ => None,
     }
-    256
 }
 
-// A byte below 256 goes to dst[n], if there is room. Answers the next n.
-fn put(dst: &mut [u8], n: usize, b: u16) -> usize
-    requires { n ≤ length dst.old }
-    ensures { result ≤ length dst.new }
+// The byte that two hex digits at i spell.
+fn hex_byte(src: &[u8], i: usize) -> Option<u8>
+    requires { i < length src.now }
+    ensures { IfSome result (λ b. i + 1 < length src.now) }
 {
-    if b < 256 {
-        if n < dst.len() {
-            dst[n] = b as u8;
-            return n + 1;
-        }
-    }
-    n
+    let high = digit(src[i])?;
+    let low = digit(*src.get(i + 1)?)?;
+    Some(high * 16 + low)
 }
 
-fn past(src: &[u8], i: usize, b: u16) -> usize
-    requires { (i < length src.now) × (b < 256 → i + 1 < length src.now) }
-    ensures { (i < result) × (result ≤ length src.now) }
-{
-    if b < 256 { i + 2 } else { i + 1 }
-}
-
-// The bytes of the hex from `from` on go into dst; answers where the next line starts and how many bytes there were.
+// The bytes of the hex from `from` on go into dst, those that it has room for; what is no hex is passed over.
 fn read_line(src: &[u8], from: usize, dst: &mut [u8]) -> Line
     requires { from ≤ length src.now }
     ensures { (result.next ≤ length src.now) × (result.len ≤ length dst.new) }
 {
     let mut i = from;
-    let mut n = 0;
+    let mut len = 0;
+    // A turn passes one byte or two.
     while i < src.len() {
-        if src[i] == 10 {
-            return Line {
-                next: i + 1,
-                len: n,
-            };
+        if src[i] == b'\n' {
+            return Line { next: i + 1, len };
         }
-        let b = hex_byte(src, i);
-        n = put(dst, n, b);
-        i = past(src, i, b);
+        match hex_byte(src, i) {
+            None => i += 1,
+            Some(b) => {
+                if len < dst.len() {
+                    dst[len] = b;
+                    len += 1;
+                }
+                i += 2;
+            }
+        }
     }
-    Line { next: i, len: n }
+    Line { next: i, len }
 }
 
 // The number of the eight bytes from `at` on.
 fn number_at(s: &[u8], at: usize) -> u64
     requires { at < 64 }
 {
-    wide(records::bytes::word_at(s, at)) + 4294967296 * wide(records::bytes::word_at(s, at + 4))
+    u64::from(word_at(s, at)) + 4294967296 * u64::from(word_at(s, at + 4))
 }
 
-fn wide(x: u32) -> u64
-    ensures { result < 4294967296 }
-{
-    x as u64
-}
-
-fn print_number<W: Write>(out: &mut W, x: u64) -> io::Result<()> {
-    write!(out, "{x} ")
+fn head_of(s: &[u8]) -> Head {
+    let call = match byte(s, 0) {
+        1 => Call::CheckAndColumns,
+        2 => Call::TestRow,
+        _ => Call::Rewrite,
+    };
+    Head {
+        call,
+        used: number_at(s, 1),
+        root: number_at(s, 9),
+        nulls: number_at(s, 17),
+    }
 }
 
 // Checking and columns read, whose out-parameters stand at 7 and 9 before the call.
@@ -118,26 +107,22 @@ fn check_and_columns<W: Write>(
     records: &[u8],
     pool: &[u8],
     text: &[u8],
-    used: u64,
-    root: u64,
+    head: Head,
 ) -> io::Result<()> {
     let mut columns: u64 = 7;
     let mut count: u64 = 9;
-    let checked = screen_rows::screen_check(table, records, pool, text, used, root);
+    let checked = screen_rows::screen_check(table, records, pool, text, head.used, head.root);
     let read = screen_rows::screen_columns_read(
         table,
         records,
         pool,
         text,
-        used,
-        root,
+        head.used,
+        head.root,
         &mut columns,
         &mut count,
     );
-    print_number(out, wide(checked))?;
-    print_number(out, wide(read))?;
-    print_number(out, columns)?;
-    writeln!(out, "{count}")
+    writeln!(out, "{checked} {read} {columns} {count}")
 }
 
 fn test_row<W: Write>(
@@ -147,12 +132,11 @@ fn test_row<W: Write>(
     pool: &[u8],
     text: &[u8],
     row: &[u8],
-    head: &[u8],
+    head: Head,
 ) -> io::Result<()> {
-    let used = number_at(head, 1);
-    let root = number_at(head, 9);
-    let nulls = number_at(head, 17);
-    let answer = screen_rows::screen_test_row(table, records, pool, text, used, root, row, nulls);
+    let answer = screen_rows::screen_test_row(
+        table, records, pool, text, head.used, head.root, row, head.nulls,
+    );
     writeln!(out, "{answer}")
 }
 
@@ -164,17 +148,11 @@ fn place(record: u64) -> usize {
     65536
 }
 
-fn byte_of(s: &[u8], i: usize) -> u64 {
-    records::bytes::byte(s, i) as u64
-}
-
 // The bytes from `from` up to `to` in hex; 00 for one past the end.
 fn print_bytes<W: Write>(out: &mut W, s: &[u8], from: usize, to: usize) -> io::Result<()> {
-    let mut i = from;
-    while i < to {
-        let b = byte_of(s, i);
+    for i in from..to {
+        let b = byte(s, i);
         write!(out, "{b:02x}")?;
-        i += 1;
     }
     Ok(())
 }
@@ -187,8 +165,7 @@ fn rewrite<W: Write>(
     records: &mut [u8],
     pool: &[u8],
     text: &[u8],
-    used: u64,
-    root: u64,
+    head: Head,
 ) -> io::Result<()> {
     let mut new_root: u64 = 7;
     let mut new_used: u64 = 9;
@@ -200,63 +177,40 @@ fn rewrite<W: Write>(
         records,
         pool,
         text,
-        used,
-        root,
+        head.used,
+        head.root,
         &mut reasons,
         &mut new_root,
         &mut new_used,
         &mut reasons_used,
         &mut passes,
     );
-    print_number(out, wide(answer))?;
-    print_number(out, new_root)?;
-    print_number(out, new_used)?;
-    write!(out, "{passes}")?;
+    write!(out, "{answer} {new_root} {new_used} {passes}")?;
     if answer > 256 {
         write!(out, " ")?;
-        print_bytes(out, records, place(used), place(new_used))?;
+        print_bytes(out, records, place(head.used), place(new_used))?;
     }
     writeln!(out)
 }
 
-// The call that the first byte of head names: 1 checking and columns read, 2 the row test, 3 rewriting.
-fn call<W: Write>(
+fn make_call<W: Write>(
     out: &mut W,
     table: &[u8],
     records: &mut [u8],
     pool: &[u8],
     text: &[u8],
     row: &[u8],
-    head: &[u8],
+    head: Head,
 ) -> io::Result<()> {
-    let name = records::bytes::byte(head, 0);
-    if name == 1 {
-        return check_and_columns(
-            out,
-            table,
-            records,
-            pool,
-            text,
-            number_at(head, 1),
-            number_at(head, 9),
-        );
+    match head.call {
+        Call::CheckAndColumns => check_and_columns(out, table, records, pool, text, head),
+        Call::TestRow => test_row(out, table, records, pool, text, row, head),
+        Call::Rewrite => rewrite(out, table, records, pool, text, head),
     }
-    if name == 2 {
-        return test_row(out, table, records, pool, text, row, head);
-    }
-    rewrite(
-        out,
-        table,
-        records,
-        pool,
-        text,
-        number_at(head, 1),
-        number_at(head, 9),
-    )
 }
 
-// One screen, whose first line is in head: its answers are written. Answers where the next screen starts.
-fn replay<W: Write>(out: &mut W, src: &[u8], from: usize, head: &[u8]) -> io::Result<usize>
+// One screen, behind its first line: its answers are written. Answers where the next screen starts.
+fn replay<W: Write>(out: &mut W, src: &[u8], from: usize, head: Head) -> io::Result<usize>
     requires { from ≤ length src.now }
     ensures { IfOk result (λ next. next ≤ length src.now) }
 {
@@ -270,18 +224,13 @@ fn replay<W: Write>(out: &mut W, src: &[u8], from: usize, head: &[u8]) -> io::Re
     let p = read_line(src, r.next, &mut pool);
     let x = read_line(src, p.next, &mut text);
     let w = read_line(src, x.next, &mut row);
-    let tn = t.len;
-    let rn = r.len;
-    let pn = p.len;
-    let xn = x.len;
-    let wn = w.len;
-    call(
+    make_call(
         out,
-        &table[..tn],
-        &mut records[..rn],
-        &pool[..pn],
-        &text[..xn],
-        &row[..wn],
+        &table[..t.len],
+        &mut records[..r.len],
+        &pool[..p.len],
+        &text[..x.len],
+        &row[..w.len],
         head,
     )?;
     Ok(w.next)
@@ -290,15 +239,16 @@ fn replay<W: Write>(out: &mut W, src: &[u8], from: usize, head: &[u8]) -> io::Re
 // The screens of a block; an empty first line ends it.
 fn block<W: Write>(out: &mut W, src: &[u8]) -> io::Result<()> {
     let mut at = 0;
-    let mut turns: u64 = 100000;
-    while turns > 0 && at < src.len() {
-        let mut head = [0u8; 32];
-        let h = read_line(src, at, &mut head);
-        if h.len == 0 {
-            return Ok(());
+    for _ in 0..100000 {
+        if src.len() <= at {
+            break;
         }
-        at = replay(out, src, h.next, &head)?;
-        turns -= 1;
+        let mut head = [0u8; 32];
+        let line = read_line(src, at, &mut head);
+        if line.len == 0 {
+            break;
+        }
+        at = replay(out, src, line.next, head_of(&head))?;
     }
     Ok(())
 }
@@ -308,6 +258,7 @@ fn read_full<R: Read>(input: &mut R, buf: &mut [u8]) -> io::Result<usize>
     ensures { IfOk result (λ n. n ≤ length buf.new) }
 {
     let mut done = 0;
+    // A read gives as many bytes as it likes.
     while done < buf.len() {
         let n = input.read(&mut buf[done..])?;
         if n == 0 {
@@ -322,14 +273,12 @@ fn main(rt: HostRuntime) -> io::Result<()> {
     let mut input = rt.stdin();
     let mut out = io::writer(&rt);
     let mut buf = [0u8; 65536];
-    let mut blocks: u64 = 1000;
-    while blocks > 0 {
+    for _ in 0..1000 {
         let n = read_full(&mut input, &mut buf)?;
         if n == 0 {
-            return out.flush();
+            break;
         }
         block(&mut out, &buf[..n])?;
-        blocks -= 1;
     }
     out.flush()
 }

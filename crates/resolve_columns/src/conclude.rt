@@ -48,15 +48,13 @@ pub fn keep_equalities(
 {
     let mut next = keeps;
     let mut dropped = false;
-    let mut e: usize = 0;
-    while e < edges {
+    for e in 0..edges {
         let x = slot(Column(lefts[e]));
         let c = load(cells, x);
         let fixed = is_fixed(c);
         kept[next] = equals[e];
         next = bump(fixed, next);
         dropped = dropped | fixed;
-        e += 1;
     }
     KeptNodes {
         keeps: next,
@@ -86,15 +84,13 @@ pub fn resolve_all(
 {
     let mut unsat = false;
     let mut total: usize = 0;
-    let mut o: usize = 0;
-    while o < columns {
+    for o in 0..columns {
         let x = slot(Column(order[o]));
         let c = load(cells, x);
         let d = resolve_row(index, told, pool, marks, x, c);
         store(cells, x, d);
         unsat = unsat | d.unsat;
         total = total + count_row(told, marks, x, d);
-        o += 1;
     }
     ResolvedColumns {
         unsat: unsat,
@@ -125,13 +121,11 @@ pub fn write_comparisons(
         (shown s (columns_of cells.now) marks.now)) result rs.new }
 {
     let mut u = used;
-    let mut w: usize = 0;
-    while w < columns {
+    for w in 0..columns {
         let a = Column(order[w]);
         let x = slot(a);
         let c = load(cells, x);
         u = write_row(t, rs, u, a, told, marks, x, c);
-        w += 1;
     }
     u
 }

@@ -17,12 +17,12 @@ ghost use Rattle.constraints.specs.declared.column.ExcludedResolution.TheVariant
 
 use column_changes::changes::any_allowed;
 use column_constraints::bound::{Bound, Limit, compare, is_absent};
-use column_constraints::column::{ColumnConstraints, FixedValue, check_bound_consistency, is_null};
+use column_constraints::column::{ColumnConstraints, check_bound_consistency, is_null};
 use column_sets::marks::{copied, disallows, has_kind, insert_excluded, insert_list, limit_at};
 use column_sets::told::kind_at;
 use constraints::column::ExcludedResolution;
 use records::bytes::byte;
-use truth::scalar::Ordering;
+use std::cmp::Ordering;
 
 fn classify_upper_by(o: Ordering, inclusive: bool) -> ExcludedResolution
     ensures { result ≡ z.classify_by o inclusive TightenUpper Keep }
@@ -84,46 +84,14 @@ fn classify_at(l: Bound, u: Bound, e: Limit) -> ExcludedResolution
     }
 }
 
-fn fixed_by(o: Ordering, v: Limit) -> FixedValue
-    ensures { fixed_of result ≡ cond (is_equal o) (some (limit_of v)) none }
-{
-    match o {
-        Ordering::Less => FixedValue::Nothing,
-        Ordering::Equal => FixedValue::At(v),
-        Ordering::Greater => FixedValue::Nothing,
-    }
-}
-
-fn fixed_upper(v: Limit, u: Bound) -> FixedValue
-    ensures { fixed_of result ≡ z.fixed_at lined (at true (limit_of v)) (bound_of u) }
-{
-    match u {
-        Bound::Absent => FixedValue::Nothing,
-        Bound::Open(_) => FixedValue::Nothing,
-        Bound::Closed(w) => {
-            let o = compare(v, w);
-            fixed_by(o, v)
-        }
-    }
-}
-
-fn fixed_at(l: Bound, u: Bound) -> FixedValue
-    ensures { fixed_of result ≡ z.fixed_at lined (bound_of l) (bound_of u) }
-{
-    match l {
-        Bound::Absent => FixedValue::Nothing,
-        Bound::Open(_) => FixedValue::Nothing,
-        Bound::Closed(v) => fixed_upper(v, u),
-    }
-}
-
-/// The value that the bounds pin the column to.
-pub fn fixed_value(c: ColumnConstraints) -> FixedValue
+/// The value that the bounds pin the column to: the single value of a closed range that is a point.
+pub fn fixed_value(c: ColumnConstraints) -> Option<Limit>
     ensures { (t : Conjuncts) (a : List ℕ) → fixed_of result ≡ z.fixed_value lined (column_of t (numbered a c)) }
 {
-    let low = c.lower;
-    let upp = c.upper;
-    fixed_at(low, upp)
+    match (c.lower, c.upper) {
+        (Bound::Closed(v), Bound::Closed(w)) if matches!(compare(v, w), Ordering::Equal) => Some(v),
+        _ => None,
+    }
 }
 
 /// What becomes of the excluded value e under the column's bounds.
@@ -278,11 +246,9 @@ fn step_marks(
     ensures fine { Fine (length own.old) own.new result.len }
 {
     let mut c = c0;
-    let mut i: usize = 0;
-    while i < n {
+    for i in 0..n {
         let j = byte(marks, i);
         c = step_mark(told, own, c, j);
-        i += 1;
     }
     c
 }
@@ -323,10 +289,9 @@ fn fixed_disallowed(told: &[u64], pool: &[u8], marks: &[u8], c: ColumnConstraint
     ensures { (t : Conjuncts) → Lists t told.now
         pool.now → result ≡ z.fixed_disallowed lined (column_of t (numbered marks.now c)) (z.fixed_value lined (column_of t (numbered marks.now c))) }
 {
-    let f = fixed_value(c);
-    match f {
-        FixedValue::Nothing => false,
-        FixedValue::At(v) => disallows(told, pool, marks, c.len, v.value),
+    match fixed_value(c) {
+        None => false,
+        Some(v) => disallows(told, pool, marks, c.len, v.value),
     }
 }
 

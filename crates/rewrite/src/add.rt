@@ -22,18 +22,14 @@ fn with_lower(c: ColumnConstraints, v: Limit, inclusive: bool) -> ColumnConstrai
     ensures result_value { (t : Conjuncts) (a : List ℕ) → column_of t (numbered a result) ≡ q.add_lower lined (limit_of v) inclusive (column_of t (numbered a c)) }
     ensures len_value { result.len ≡ c.len }
 {
-    let b = add_lower(c, v, inclusive);
-    let d = b.column;
-    d
+    add_lower(c, v, inclusive).column
 }
 
 fn with_upper(c: ColumnConstraints, v: Limit, inclusive: bool) -> ColumnConstraints
     ensures result_value { (t : Conjuncts) (a : List ℕ) → column_of t (numbered a result) ≡ q.add_upper lined (limit_of v) inclusive (column_of t (numbered a c)) }
     ensures len_value { result.len ≡ c.len }
 {
-    let b = add_upper(c, v, inclusive);
-    let d = b.column;
-    d
+    add_upper(c, v, inclusive).column
 }
 
 // `==` is a lower and an upper bound, both inclusive.
@@ -80,23 +76,13 @@ fn add_comparison(
 fn closes_low(ends: ClosedInterval) -> bool
     ensures { result ≡ closes_low ends }
 {
-    match ends {
-        ClosedInterval::Both => true,
-        ClosedInterval::Left => true,
-        ClosedInterval::Right => false,
-        ClosedInterval::None => false,
-    }
+    matches!(ends, ClosedInterval::Both | ClosedInterval::Left)
 }
 
 fn closes_high(ends: ClosedInterval) -> bool
     ensures { result ≡ closes_high ends }
 {
-    match ends {
-        ClosedInterval::Both => true,
-        ClosedInterval::Left => false,
-        ClosedInterval::Right => true,
-        ClosedInterval::None => false,
-    }
+    matches!(ends, ClosedInterval::Both | ClosedInterval::Right)
 }
 
 fn add_between(c: ColumnConstraints, ends: ClosedInterval, v: Limit, w: Limit) -> ColumnConstraints

@@ -12,7 +12,7 @@ ghost use Rattle.read_operands.specs.Read.{comparison_in};
 ghost use Rattle.rewrite.specs.Written.{write_compared};
 
 use crate::write::write_comparison;
-use column_constraints::column::{ColumnConstraints, Compared, FixedValue};
+use column_constraints::column::{ColumnConstraints, Compared};
 use columns::comparisons::comparison_at;
 use read_operands::operands::Comparison;
 use records::record::Column;
@@ -24,11 +24,7 @@ pub fn is_fixed(c: ColumnConstraints) -> bool
     ensures { (t : Conjuncts) (a : List ℕ) → result ≡ is_fixed (fixed_at lined (column_of t (numbered a c)).lower
         (column_of t (numbered a c)).upper) }
 {
-    let f = fixed_value(c);
-    match f {
-        FixedValue::Nothing => false,
-        FixedValue::At(_) => true,
-    }
+    fixed_value(c).is_some()
 }
 
 fn write_one(t: &[u8], rs: &mut [u8], u: u32, a: Column, k: Comparison, v: Scalar) -> u32
@@ -81,11 +77,9 @@ pub fn write_column(
 {
     let places = c.len + 2;
     let mut at = u;
-    let mut p: usize = 0;
-    while p < places {
+    for p in 0..places {
         let k = comparison_at(told, marks, c, p);
         at = write_place(t, rs, at, a, k);
-        p += 1;
     }
     at
 }

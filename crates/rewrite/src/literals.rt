@@ -15,12 +15,8 @@ fn said_by(k: Conjunct) -> Says
     ensures { result ≡ said_by k }
 {
     match k {
-        Conjunct::Bounds(_, s) => s,
-        Conjunct::Normalized(_, s) => s,
-        Conjunct::Equality(_, _) => Says::Nothing,
-        Conjunct::Recorded(_, _, s) => s,
-        Conjunct::NonNullPair(_, _) => Says::Nothing,
-        Conjunct::Opaque => Says::Nothing,
+        Conjunct::Bounds(_, s) | Conjunct::Normalized(_, s) | Conjunct::Recorded(_, _, s) => s,
+        _ => Says::Nothing,
     }
 }
 
@@ -28,12 +24,8 @@ fn comparison_kind(k: Comparison) -> u64
     ensures { result ≡ comparison_kind k }
 {
     match k {
-        Comparison::Eq => 3,
         Comparison::NotEq => 0,
-        Comparison::Lt => 3,
-        Comparison::LtEq => 3,
-        Comparison::Gt => 3,
-        Comparison::GtEq => 3,
+        _ => 3,
     }
 }
 
@@ -41,12 +33,10 @@ fn kind_of(s: Says) -> u64
     ensures { result ≡ kind_of s }
 {
     match s {
-        Says::Nothing => 3,
         Says::Compare(k, _) => comparison_kind(k),
-        Says::Between(_, _, _) => 3,
         Says::Allow(_, _) => 1,
         Says::Disallow(_, _, _) => 2,
-        Says::Require(_) => 3,
+        _ => 3,
     }
 }
 
@@ -61,12 +51,9 @@ fn word_of(s: Says) -> u64
     ensures { Worded s result }
 {
     match s {
-        Says::Nothing => 0,
         Says::Compare(_, v) => v.0,
-        Says::Between(_, _, _) => 0,
-        Says::Allow(start, count) => list_word(start, count),
-        Says::Disallow(_, start, count) => list_word(start, count),
-        Says::Require(_) => 0,
+        Says::Allow(start, count) | Says::Disallow(_, start, count) => list_word(start, count),
+        _ => 0,
     }
 }
 
@@ -94,17 +81,13 @@ pub fn read_literals(rs: &[u8], nodes: &[u32], n: usize, told: &mut [u64])
         (c.classify (aexpr_of rs.now p) (get_or nodes.now i 0)) }
     ensures by_index_2 { (i : ℕ) → 2 * n ≤ i → get_or told.new i 0 ≡ get_or told.old i 0 }
 {
-    let mut i: usize = 0;
-    while i < n {
+    for i in 0..n {
         let node = Node(nodes[i]);
-        if tells_nothing(rs, node) {
-            i += 1;
-            continue;
+        if !tells_nothing(rs, node) {
+            let k = classify_by_record(rs, node);
+            let s = said_by(k);
+            told[2 * i] = word_of(s);
+            told[2 * i + 1] = kind_of(s);
         }
-        let k = classify_by_record(rs, node);
-        let s = said_by(k);
-        told[2 * i] = word_of(s);
-        told[2 * i + 1] = kind_of(s);
-        i += 1;
     }
 }

@@ -1,5 +1,5 @@
 // `comparison_node` and `fold_and`: the records that a rebuilt screen adds behind the used ones.
-ghost use Rattle.std.specs.Prelude.{◌≡◌, ◌∷◌, [], ℕ, ◌+◌, ◌*◌, ◌-◌, ◌≤◌, ◌<◌, ◌%◌, ◌^◌, length};
+ghost use Rattle.std.specs.Prelude.{◌≡◌, ◌∷◌, ◌++◌, [], ℕ, ◌+◌, ◌*◌, ◌-◌, ◌≤◌, ◌<◌, ◌%◌, ◌/◌, ◌^◌, length};
 ghost use Rattle.read_operands.specs.Read.{comparison_in};
 ghost use Rattle.merge.specs.Classify.{comparison_operator};
 ghost use Rattle.merge.specs.Write.{splice, word_bytes, field_bytes, write_record, write_comparison};
@@ -27,7 +27,8 @@ fn put_bytes(s: &mut [u8], at: usize, a: u8, b: u8, c: u8, d: u8)
     s[at + 3] = d;
 }
 
-fn put_word(s: &mut [u8], at: usize, x: u32)
+/// The four bytes of x from `at` on, the lowest first.
+pub fn put_word(s: &mut [u8], at: usize, x: u32)
     requires { at + 4 ≤ length s.old }
     ensures { s.new ≡ splice s.old at (word_bytes x) }
 {
@@ -39,6 +40,15 @@ fn put_word(s: &mut [u8], at: usize, x: u32)
         low_byte(x / 65536),
         low_byte(x / 16777216),
     );
+}
+
+/// The eight bytes of x from `at` on, the lowest first.
+pub fn put_value(s: &mut [u8], at: usize, x: u64)
+    requires { at + 8 ≤ length s.old }
+    ensures { s.new ≡ splice s.old at (word_bytes (x % 4294967296) ++ word_bytes (x / 4294967296)) }
+{
+    put_word(s, at, (x % 4294967296) as u32);
+    put_word(s, at + 4, (x / 4294967296) as u32);
 }
 
 fn put_fields(s: &mut [u8], at: usize, f: Fields)
@@ -115,8 +125,7 @@ pub fn write_ands(rs: &mut [u8], nodes: &[u32], kept: usize, used: u32, total: u
 {
     let mut acc = chain_at(nodes, kept, used, 0);
     let mut u = at;
-    let mut i: usize = 1;
-    while i < total {
+    for i in 1..total {
         let n = chain_at(nodes, kept, used, i);
         put_record(
             rs,
@@ -125,6 +134,5 @@ pub fn write_ands(rs: &mut [u8], nodes: &[u32], kept: usize, used: u32, total: u
         );
         acc = u;
         u += 1;
-        i += 1;
     }
 }

@@ -10,8 +10,8 @@ use borrow.Author.Tests.{leb-true}
 use Rattle.checking.specs.Check.{check_answer, check_answer_in}
 use Rattle.records.specs.Record.{node, column_number, encode}
 use Rattle.checking.specs.Tree.{tree_count}
-use Rattle.checking.specs.declared.check.CheckAnswer.{CheckAnswer}
-use Rattle.checking.specs.declared.check.CheckAnswer.TheVariants as check
+use Rattle.checking.specs.Answer.{CheckAnswer}
+use Rattle.checking.specs.Answer as check
 use Rattle.records.specs.declared.operator.Operator.TheVariants as operator
 use Rattle.records.specs.declared.record.Record.{Record}
 use Rattle.records.specs.declared.record.Record.TheVariants as kind

@@ -10,8 +10,8 @@ use lib.ListN.{length}
 use borrow.Author.Tests.{le-ltb}
 use Rattle.checking.specs.Check.{check_answer, check_answer_in}
 use Rattle.checking.specs.Tree.{tree_count}
-use Rattle.checking.specs.declared.check.CheckAnswer.{CheckAnswer}
-use Rattle.checking.specs.declared.check.CheckAnswer.TheVariants as check
+use Rattle.checking.specs.Answer.{CheckAnswer}
+use Rattle.checking.specs.Answer as check
 use Rattle.checking.proofs.Answers.{refused-numbered-in}
 use Rattle.truth.specs.FromBytes.{aexpr_at}
 use Rattle.merge.specs.declared.answer.RewriteAnswer.{RewriteAnswer}

@@ -4,7 +4,7 @@
 ghost use Rattle.std.specs.Prelude.{◌≡◌, ℕ, ◌*◌, ◌≤◌, min, length, get_or};
 ghost use Rattle.checking.specs.Check.{check_answer_in};
 ghost use Rattle.checking.specs.Tree.{tree_count};
-ghost use Rattle.checking.specs.declared.check.CheckAnswer.TheVariants as check;
+ghost use Rattle.checking.specs.Answer as check;
 ghost use Rattle.merge.specs.Demand.{AreBytes};
 ghost use Rattle.merge.specs.Minterms.{minterms};
 ghost use Rattle.read_operands.specs.Walk.{walked, first_of};
@@ -54,8 +54,8 @@ fn merge_ranked(
     )
 }
 
-// A screen of at most 64 records and 64 values in lists, as most are: clearing the tables of the largest takes longer than all else.
-fn merge_small(
+// In tables for that many places, bytes of records and bytes of ranks and values.
+fn merge_in<const PLACES: usize, const RECORDS: usize, const POOL: usize>(
     t: &[u8],
     rs: &mut [u8],
     p: &[u8],
@@ -72,15 +72,16 @@ fn merge_small(
     requires small { tree_count rs.old root.0 ≤ 4096 }
     requires walked { first_of nodes.now n ≡ minterms (walked rs.old) root.0 }
     requires there { (n ≤ 128) × (n ≤ length nodes.now) }
-    requires short { (used ≤ 64) × (length p.now ≤ 512) }
+    requires room { (place_count p.now used ≤ PLACES) × (PLACES ≤ 12288) }
+    requires copied { (16 * used ≤ RECORDS) × (RECORDS ≤ 65536) × (2 * length p.now ≤ POOL) × (POOL ≤ 131072) }
     ensures explains { AreBytes text.now → Explains text.now t.now rs.old
         p.now used root.0 reasons.old result rs.new reasons.new }
 {
-    let mut values = [0u64; 128];
-    let mut places = [0u64; 128];
-    let mut ranks = [0u64; 128];
-    let mut src = [0u8; 1024];
-    let mut pool = [0u8; 1024];
+    let mut values = [0u64; PLACES];
+    let mut places = [0u64; PLACES];
+    let mut ranks = [0u64; PLACES];
+    let mut src = [0u8; RECORDS];
+    let mut pool = [0u8; POOL];
     merge_ranked(
         t,
         rs,
@@ -100,51 +101,8 @@ fn merge_small(
     )
 }
 
-fn merge_large(
-    t: &[u8],
-    rs: &mut [u8],
-    p: &[u8],
-    text: &[u8],
-    used: u32,
-    root: Node,
-    trees: &[u16],
-    nodes: &[u32],
-    n: usize,
-    reasons: &mut [u8],
-) -> Rewriting
-    requires accepted { check_answer_in (lent text.now) t.now rs.old p.now used root.0 ≡ check.Accepted }
-    requires counted { (a : ℕ) → a ≤ root.0 → get_or trees.now a 0 ≡ min (tree_count rs.old a) 4097 }
-    requires small { tree_count rs.old root.0 ≤ 4096 }
-    requires walked { first_of nodes.now n ≡ minterms (walked rs.old) root.0 }
-    requires there { (n ≤ 128) × (n ≤ length nodes.now) }
-    ensures explains { AreBytes text.now → Explains text.now t.now rs.old
-        p.now used root.0 reasons.old result rs.new reasons.new }
-{
-    let mut values = [0u64; 12288];
-    let mut places = [0u64; 12288];
-    let mut ranks = [0u64; 12288];
-    let mut src = [0u8; 65536];
-    let mut pool = [0u8; 131072];
-    merge_ranked(
-        t,
-        rs,
-        p,
-        text,
-        used,
-        root,
-        trees,
-        nodes,
-        n,
-        &mut values,
-        &mut places,
-        &mut ranks,
-        &mut src,
-        &mut pool,
-        reasons,
-    )
-}
-
-/// The merging of the first n nodes, the conjuncts of an accepted screen with symbols, in tables as large as the screen needs.
+/// The merging of the first n nodes, the conjuncts of an accepted screen with symbols, in tables as large as it needs: most
+/// have at most 64 records and 64 values in lists, and clearing the tables of the largest takes longer than all else.
 pub fn merge_sized(
     t: &[u8],
     rs: &mut [u8],
@@ -166,10 +124,14 @@ pub fn merge_sized(
         p.now used root.0 reasons.old result rs.new reasons.new }
 {
     if 64 < used {
-        return merge_large(t, rs, p, text, used, root, trees, nodes, n, reasons);
+        return merge_in::<12288, 65536, 131072>(
+            t, rs, p, text, used, root, trees, nodes, n, reasons,
+        );
     }
     if 512 < p.len() {
-        return merge_large(t, rs, p, text, used, root, trees, nodes, n, reasons);
+        return merge_in::<12288, 65536, 131072>(
+            t, rs, p, text, used, root, trees, nodes, n, reasons,
+        );
     }
-    merge_small(t, rs, p, text, used, root, trees, nodes, n, reasons)
+    merge_in::<128, 1024, 1024>(t, rs, p, text, used, root, trees, nodes, n, reasons)
 }

@@ -1,6 +1,6 @@
 -- Divisions of a block: the keys of two columns are divided row by row. Assumes nothing.
 use Rattle.std.proofs.Common.{◌≡◌, ℕ, ◌+◌, ◌*◌, ◌^◌, ◌<◌, ◌≤◌, Bool, true, false, cond, ◌||◌, List, length, get_or, set, ℤ, sym, refl, ap, ◌∙◌, arith, get_or-set_other}
-use mathlib.Core.Option.{Option, none, some}
+use mathlib.Core.Option.{Option}
 use lib.Bits.{bit_or}
 use Rattle.records.specs.Record.{fields_at}
 use Rattle.records.specs.declared.record.Fields.{Fields}

@@ -1,12 +1,11 @@
 -- Divisions by keys: what the code works out is the quotient, or the remainder, or that there is none. Assumes nothing.
-use Rattle.std.proofs.Common.{◌≡◌, ℕ, zero, suc, ◌+◌, ◌-◌, ◌*◌, ◌/◌, ◌%◌, ◌^◌, ◌<◌, ◌≤◌, Bool, true, false, cond, ◌&&◌, ◌||◌, eqb, ltb, ◌⊎◌, ℤ, sym, refl, ap, ◌∙◌, ⊎_elim, true≢false, mod-lt, div-add-mod', div-le_self, arith, w64, to_z, le-ltb, lt-ltb, eq-eqb, ne_eqb, eqb-true}
+use Rattle.std.proofs.Common.{◌≡◌, ℕ, zero, suc, ◌+◌, ◌-◌, ◌*◌, ◌/◌, ◌%◌, ◌^◌, ◌<◌, ◌≤◌, Bool, true, false, cond, ◌&&◌, ◌||◌, eqb, ltb, ℤ, sym, refl, ap, ◌∙◌, ⊎_elim, true≢false, mod-lt, div-add-mod', div-le_self, arith, w64, to_z, le-ltb, lt-ltb, eq-eqb, ne_eqb, eqb-true}
 use mathlib.Core.Option.{Option, none, some}
 use native.Mathlib.Nat.{zero-div, zero-mod}
 use lib.Bits.{bit_and, bit_xor, xor_add_and, and_mask, xor_zero_r}
 use borrow.Author.Tests.{eqb-false}
 use Rattle.records.proofs.Laws.{by-test}
-use Rattle.division.specs.declared.divide.Division.{Division}
-use Rattle.division.specs.declared.divide.Division.TheVariants.{Null, Exact}
+use Rattle.std.specs.Prelude.{Some, None}
 use Rattle.division.specs.Division.{Divides, minus_of}
 use Rattle.division.proofs.Bits.{by_zero, up_by_up, down_by_up, zero-by_down, up_by_down, beyond, down_by_down}
 use Rattle.truth.specs.Halves.{key, bias_of}
@@ -176,7 +175,7 @@ module _ (p q u v n size x m y : ℕ) (eu : u ≡ cond (ltb q half) half p) (ev 
         whole : size + b ≡ 18446744073709551616
         whole = omega (arith, q-is, lb, size-short)
 
-        zero-down : a ≡ 0 → Divides (to_z w64 a) (to_z w64 b) (Exact x y)
+        zero-down : a ≡ 0 → Divides (to_z w64 a) (to_z w64 b) (Some (x, y))
         unfolding minus_of
         zero-down e =
             let c : p ≡ half = ep ∙ ap bias_of e ∙ bias_low 0 (omega arith) in
@@ -188,7 +187,7 @@ module _ (p q u v n size x m y : ℕ) (eu : u ≡ cond (ltb q half) half p) (ev 
             let ey' : y ≡ 0 = y_is ∙ ap minus_of em' in
             rw (ex', ey') (zero-by_down a b lb hb size whole e)
 
-        up_down : (a ≡ 0 → ⊥) → a < half → Divides (to_z w64 a) (to_z w64 b) (Exact x y)
+        up_down : (a ≡ 0 → ⊥) → a < half → Divides (to_z w64 a) (to_z w64 b) (Some (x, y))
         up_down d h =
             let c : p ≡ a + half = ep ∙ bias_low a h in
             let l : u < v = omega (arith, u_is, v_is, c, d) in
@@ -197,7 +196,7 @@ module _ (p q u v n size x m y : ℕ) (eu : u ≡ cond (ltb q half) half p) (ev 
             let z : n ≡ a - 1 = omega (arith, k, u_is, v_is, c, d) in
             rw w.0 (up_by_down a b lb hb size whole d h n z y (y_is ∙ ap minus_of w.1))
 
-        down_down : half ≤ a → Divides (to_z w64 a) (to_z w64 b) (Exact x y)
+        down_down : half ≤ a → Divides (to_z w64 a) (to_z w64 b) (Some (x, y))
         down_down h =
             let c : p ≡ a - half = ep ∙ bias_high a h in
             let l : v ≤ u = omega (arith, u_is, v_is, c, ha) in
@@ -242,7 +241,7 @@ module _ (p q u v n size x m y : ℕ) (eu : u ≡ cond (ltb q half) half p) (ev 
             let k = long (omega (arith, q-up, b_some)) in
             omega (arith, k, q-up)
 
-        up_up : a < half → Divides (to_z w64 a) (to_z w64 b) (Exact x y)
+        up_up : a < half → Divides (to_z w64 a) (to_z w64 b) (Some (x, y))
         up_up h =
             let c : p ≡ a + half = ep ∙ bias_low a h in
             let l : v ≤ u = omega (arith, u_up, v_up, c) in
@@ -251,7 +250,7 @@ module _ (p q u v n size x m y : ℕ) (eu : u ≡ cond (ltb q half) half p) (ev 
             let z : n ≡ a = omega (arith, k, u_up, v_up, c) in
             rw (w.0, y_up, w.1, z, size-up) (up_by_up a b b_some lb h)
 
-        down_up : half ≤ a → Divides (to_z w64 a) (to_z w64 b) (Exact x y)
+        down_up : half ≤ a → Divides (to_z w64 a) (to_z w64 b) (Some (x, y))
         down_up h =
             let c : p ≡ a - half = ep ∙ bias_high a h in
             let l : u < v = omega (arith, u_up, v_up, c, ha) in
@@ -260,7 +259,7 @@ module _ (p q u v n size x m y : ℕ) (eu : u ≡ cond (ltb q half) half p) (ev 
             let z : n ≡ most - a = omega (arith, k, u_up, v_up, c, h, ha) in
             rw (w.0, y_up, w.1, size-up) (down_by_up a b b_some lb h ha n z)
 
-      worked : Divides (to_z w64 a) (to_z w64 b) (Exact x y)
+      worked : Divides (to_z w64 a) (to_z w64 b) (Some (x, y))
       worked =
           ⊎_elim
           (λ (lb : b < half). ⊎_elim (up_up lb) (down_up lb) (lt-or_le a half))
@@ -279,7 +278,7 @@ module _ (p q u v n size x m y : ℕ) (eu : u ≡ cond (ltb q half) half p) (ev 
   quotient-part r hn er code ec some_one s t (is_key a ha e ea es) (is_null f et) = absurd (true≢false (sym f))
   quotient-part r hn er code ec some_one s t (is_key a ha e ea es) (is_key b hb f eb et) =
       let d : some (key (cond (eqb code 13) x y)) ≡ divided_of code (some (key a)) (some (key b)) =
-      divided-keys code (to_z w64 a) (to_z w64 b) (Exact x y) (worked a b ha hb ea eb some_one) in
+      divided-keys code (to_z w64 a) (to_z w64 b) (Some (x, y)) (worked a b ha hb ea eb some_one) in
       let c : cond (eqb code 13) x y ≡ x = ap (λ (z : Bool). cond z x y) (eq-eqb code 13 ec) in
       is_key x fits refl er (rw (es, et) (sym d ∙ ap (λ (z : ℕ). some (key z)) c))
     where
@@ -298,7 +297,7 @@ module _ (p q u v n size x m y : ℕ) (eu : u ≡ cond (ltb q half) half p) (ev 
   remainder-part r c hs ls ec er code nc some_one s t (is_key a ha e ea es) (is_null f et) = absurd (true≢false (sym f))
   remainder-part r c hs ls ec er code nc some_one s t (is_key a ha e ea es) (is_key b hb f eb et) =
       let d : some (key (cond (eqb code 13) x y)) ≡ divided_of code (some (key a)) (some (key b)) =
-      divided-keys code (to_z w64 a) (to_z w64 b) (Exact x y) (worked a b ha hb ea eb some_one) in
+      divided-keys code (to_z w64 a) (to_z w64 b) (Some (x, y)) (worked a b ha hb ea eb some_one) in
       let c : cond (eqb code 13) x y ≡ y = ap (λ (z : Bool). cond z x y) (ne_eqb code 13 nc) in
       is_key y fits refl is (rw (es, et) (sym d ∙ ap (λ (z : ℕ). some (key z)) c))
     where
@@ -339,12 +338,12 @@ unfolding has_none
 none-null code p q v w n (is_null e ev) _ = absurd (true≢false (sym e))
 none-null code p q v w n (is_key a ha e ep ev) (is_null f ew) = absurd (true≢false (sym f))
 none-null code p q v w n (is_key a ha e ep ev) (is_key b hb f eq ew) =
-    rw (ev, ew) (sym (divided-keys code (to_z w64 a) (to_z w64 b) Null (by-test (eqb q half) by-nothing by-minus)))
+    rw (ev, ew) (sym (divided-keys code (to_z w64 a) (to_z w64 b) None (by-test (eqb q half) by-nothing by-minus)))
   where
-    by-nothing : eqb q half ≡ true → Divides (to_z w64 a) (to_z w64 b) Null
+    by-nothing : eqb q half ≡ true → Divides (to_z w64 a) (to_z w64 b) None
     by-nothing z = by_zero a b (zero-key b hb (sym eq ∙ eqb-true q half z))
 
-    by-minus : eqb q half ≡ false → Divides (to_z w64 a) (to_z w64 b) Null
+    by-minus : eqb q half ≡ false → Divides (to_z w64 a) (to_z w64 b) None
     by-minus z =
         let t = and_true (eqb p 0) (eqb q 9223372036854775807) (ap (λ (i : Bool). i || (eqb p 0 && eqb q 9223372036854775807)) (sym z) ∙ n) in
         let ea : a ≡ half = low-key a 0 (omega arith) (sym ep ∙ eqb-true p 0 t.0) in

@@ -1,7 +1,7 @@
 -- The lines of a column and literals: the words of the columns' nulls, and what is told of a line.
 -- Assumes nothing.
-use Rattle.std.proofs.Common.{◌≡◌, ℕ, zero, suc, ◌+◌, ◌*◌, ◌^◌, ◌<◌, ◌≤◌, Bool, true, false, cond, ◌&&◌, eqb, ltb, List, length, get_or, set, ℤ, sym, refl, ap, ◌∙◌, subst, mul-le-mul, arith, get_or-set_other, get_or-set_same, ltb-false, ltb-true, le-ltb, lt-ltb, eqb-true}
-use mathlib.Core.Option.{Option, none, some}
+use Rattle.std.proofs.Common.{◌≡◌, ℕ, ◌+◌, ◌*◌, ◌^◌, ◌<◌, ◌≤◌, true, false, cond, ◌&&◌, eqb, ltb, List, length, get_or, set, ℤ, sym, refl, ap, ◌∙◌, subst, mul-le-mul, arith, get_or-set_other, get_or-set_same, ltb-false, ltb-true, le-ltb, lt-ltb, eqb-true}
+use mathlib.Core.Option.{Option, some}
 use lib.Bits.{bit_or}
 use borrow.Author.Tests.{eqb-false}
 use Rattle.records.specs.Record.{fields_at, node}

@@ -1,31 +1,23 @@
 -- One law a kind of record: what is told of its inputs in a block tells its truth there. The row test's laws, row by row.
 -- Assumes nothing.
-use Rattle.std.proofs.Common.{◌≡◌, ℕ, zero, suc, ◌+◌, ◌*◌, ◌^◌, ◌<◌, ◌≤◌, Bool, true, false, cond, not, ◌&&◌, ◌||◌, eqb, ltb, leb, ◌⊎◌, List, length, get_or, take, ℤ, sym, refl, ap, ◌∙◌, subst, inl, inr, ⊎_elim, true≢false, arith, ltb-true, eq-eqb, ne_eqb, eqb-true, leb-true}
-use mathlib.Core.Option.{Option, none, some}
+use Rattle.std.proofs.Common.{◌≡◌, ℕ, ◌+◌, ◌*◌, ◌<◌, ◌≤◌, Bool, true, false, cond, ◌&&◌, ◌||◌, eqb, ltb, leb, ◌⊎◌, List, length, get_or, ℤ, sym, refl, ◌∙◌, inl, inr, ⊎_elim, true≢false, arith, ltb-true, eq-eqb, ne_eqb, eqb-true, leb-true}
+use mathlib.Core.Option.{Option}
 use borrow.Author.Tests.{eqb-false}
 use Rattle.records.specs.Record.{fields_at, node}
 use Rattle.records.specs.declared.record.Fields.{Fields}
 use Rattle.records.specs.declared.record.Node.{Node}
 use Rattle.records.proofs.Laws.{by-test, and_left, and_right}
-use Rattle.checking.specs.Columns.{bit}
-use Rattle.checking.proofs.Bits.{bit-zero}
 use Rattle.three_valued.specs.declared.logic.Truth.{Truth}
-use Rattle.three_valued.specs.declared.logic.Truth.TheVariants.{False, Unknown, True}
-use Rattle.truth.specs.Halves.{key, bias_of}
-use Rattle.three_valued.specs.Logic.{not3, of_bool, is_true}
-use Rattle.truth.specs.FromBytes.{row_keys}
-use Rattle.truth.specs.Evaluate.{compared_of, connected_of, between_of, member_of, leaf_of, null_test, of_truth, to_truth, Evaluable}
-use Rattle.truth.specs.Evaluate.{divided_of, comparing}
-use Rattle.row_test.proofs.Evaluation.{evaluable-below, fit_of, list-room, member-truth, binary-below, not-below, null_below}
+use Rattle.three_valued.specs.Logic.{not3, of_bool}
+use Rattle.truth.specs.Evaluate.{compared_of, connected_of, between_of, member_of, null_test, Evaluable}
+use Rattle.row_test.proofs.Evaluation.{evaluable-below, list-room, member-truth, binary-below, not-below, null_below}
 use Rattle.row_test.proofs.Evaluation.{not-null_below, between-below, in_below, compared-truth, connected_truth, not-truth}
-use Rattle.row_test.proofs.Evaluation.{null_truth, not-null_truth, between-truth, leaf-truth, leaf-is_value, truth-is_value}
-use Rattle.row_test.proofs.Evaluation.{binary-is_value, divided-value, divided-truth}
+use Rattle.row_test.proofs.Evaluation.{null_truth, not-null_truth, between-truth}
 use Rattle.truth.proofs.Negations.{not-of}
 use Rattle.masks.specs.declared.Masks.{Masks}
-use Rattle.masks.specs.Masks.{is_unknown, Tells, KeyAt, is_null, is_key, Shown}
-use Rattle.masks.specs.Block.{chain_row, chain_value, chain_truth, chain_worth, Ready, is_kept, masks_at, Held, Input, is_input, Turn}
-use Rattle.masks.proofs.Comparing.{tells-same, shown-same, truth-compared}
-use Rattle.pool_lists.proofs.Members.{every-bit}
+use Rattle.masks.specs.Masks.{Tells}
+use Rattle.masks.specs.Block.{chain_row, chain_truth, chain_worth, Ready, is_kept, Input, is_input, Turn}
+use Rattle.masks.proofs.Comparing.{tells-same}
 
 -- the kinds that are kept
 pub kept-binary : (f : Fields) → f.kind ≡ 4 → is_kept f ≡ true → (f.code < 8) ⊎ (15 ≤ f.code)

@@ -1,10 +1,9 @@
 -- The loop over the records of a block: the marked ones below n are held.
 -- Assumes nothing.
-use Rattle.std.proofs.Common.{◌≡◌, ℕ, suc, ◌+◌, ◌*◌, ◌<◌, ◌≤◌, Bool, true, false, ◌&&◌, eqb, List, length, get_or, set, sym, refl, ap, ◌∙◌, subst, true≢false, arith, get_or-set_other, get_or-set_same, eqb-true}
+use Rattle.std.proofs.Common.{◌≡◌, ℕ, ◌+◌, ◌*◌, ◌<◌, ◌≤◌, Bool, true, false, ◌&&◌, eqb, List, length, get_or, set, sym, ap, ◌∙◌, subst, true≢false, arith, get_or-set_other, get_or-set_same, eqb-true}
 use borrow.Author.Tests.{eqb-false}
 use Rattle.records.specs.Record.{fields_at, node}
 use Rattle.records.specs.declared.record.Fields.{Fields}
-use Rattle.records.specs.declared.record.Node.{Node}
 use Rattle.records.proofs.Laws.{by-test, and_left, and_right}
 use Rattle.masks.specs.declared.Masks.{Masks}
 use Rattle.masks.specs.Masks.{Tells}

@@ -52,9 +52,7 @@ pub fn note_depths(records: &[u8], root: Node, depths: &mut [u64])
     requires root_bound { root.0 < 4096 }
     requires in_bounds { 4096 ≤ length depths.old }
 {
-    let mut n: u32 = 0;
-    while n <= root.0 {
+    for n in 0..root.0 + 1 {
         note_depth(records, n, depths);
-        n += 1;
     }
 }

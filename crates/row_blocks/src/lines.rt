@@ -1,6 +1,6 @@
 // The lines that most screens are made of: a column compared with a literal, between two literals, or tested for null. They are
 // worked from the rows' values as they stand, and from a word of nulls for each column that is made once for the block.
-ghost use Rattle.std.specs.Prelude.{◌≡◌, ℕ, ◌+◌, ◌*◌, ◌^◌, ◌<◌, ◌≤◌, true, cond, length, ◌≢◌, bit_or, slice_index};
+ghost use Rattle.std.specs.Prelude.{◌≡◌, ℕ, ◌+◌, ◌*◌, ◌^◌, ◌<◌, ◌≤◌, true, cond, length, bit_or, slice_index};
 ghost use Rattle.records.specs.Record.{fields_at, node};
 ghost use Rattle.truth.specs.FromBytes.{null_marked};
 ghost use Rattle.masks.specs.Masks.{Tells};
@@ -20,10 +20,8 @@ fn mark_row(words: &mut [u64], columns: usize, i: u32, marks: u64)
     ensures { (c : ℕ) → c < columns → slice_index words.new c ≡ cond (null_marked marks c)
         (bit_or (slice_index words.old c) (2 ^ i)) (slice_index words.old c) }
 {
-    let mut c: usize = 0;
-    while c < columns {
+    for c in 0..columns {
         words[c] = with_bit(words[c], i, null_marked(marks, c as u32));
-        c += 1;
     }
 }
 
@@ -37,13 +35,10 @@ pub fn null_words(nulls: &[u64], base: usize, rows: usize, columns: usize, words
     requires by_index { (c : ℕ) → c < columns → slice_index words.old c ≡ 0 }
     ensures { NullWords nulls.now columns base rows words.new }
 {
-    let mut i: usize = 0;
-    while i < rows {
-        let k = i;
-        let marks = nulls[base + k];
-        i += 1;
+    for i in 0..rows {
+        let marks = nulls[base + i];
         if marks != 0 {
-            mark_row(words, columns, k as u32, marks);
+            mark_row(words, columns, i as u32, marks);
         }
     }
 }
@@ -202,39 +197,6 @@ fn null_line(
     not_masks(m)
 }
 
-// The tests of values.
-fn test_line(
-    records: &[u8],
-    pool: &[u8],
-    values: &[u8],
-    nulls: &[u64],
-    columns: usize,
-    base: usize,
-    rows: usize,
-    truths: &[u64],
-    unknowns: &[u64],
-    n: Node,
-    f: Fields,
-    words: &[u64],
-) -> Masks
-    requires turn { Turn records.now pool.now columns values.now nulls.now base rows truths.now unknowns.now n f }
-    requires null_words { NullWords nulls.now columns base rows words.now }
-    requires in_bounds { 64 ≤ length words.now }
-    requires line { Line records.now f }
-    requires kind_nonzero { f.kind ≢ 4 }
-    ensures { Tells rows result (λ (i : ℕ). chain_truth records.now pool.now columns
-        values.now nulls.now n.0 (base + i)) }
-{
-    if f.kind == 8 {
-        return between_line(
-            records, pool, values, nulls, columns, base, rows, truths, unknowns, n, f, words,
-        );
-    }
-    null_line(
-        records, pool, values, nulls, columns, base, rows, truths, unknowns, n, f, words,
-    )
-}
-
 /// The truth of record n, a line.
 pub fn line_masks(
     records: &[u8],
@@ -257,12 +219,15 @@ pub fn line_masks(
     ensures { Tells rows result (λ (i : ℕ). chain_truth records.now pool.now columns
         values.now nulls.now n.0 (base + i)) }
 {
-    if f.kind == 4 {
-        return compare_line(
+    match f.kind {
+        4 => compare_line(
             records, pool, values, nulls, columns, base, rows, truths, unknowns, n, f, words,
-        );
+        ),
+        8 => between_line(
+            records, pool, values, nulls, columns, base, rows, truths, unknowns, n, f, words,
+        ),
+        _ => null_line(
+            records, pool, values, nulls, columns, base, rows, truths, unknowns, n, f, words,
+        ),
     }
-    test_line(
-        records, pool, values, nulls, columns, base, rows, truths, unknowns, n, f, words,
-    )
 }

@@ -6,12 +6,13 @@ ghost use Rattle.masks.specs.Masks.{Tells, KeyAt, Shown};
 ghost use Rattle.masks.specs.Block.{chain_truth, chain_worth, Ready, Input};
 
 use crate::quotients::fill_worth;
-use masks::block::{biased, fill_column};
+use masks::block::fill_column;
 use masks::reach::is_kept;
 use masks::{Masks, equal_to, with_bit};
 use records::record::{Node, fields_in};
 use row_test::evaluate::value_at;
 use truth::read::null_marked;
+use truth::scalar::biased;
 use truth::value::{Value, is_null};
 
 pub fn join(low: u32, high: u32) -> u64
@@ -35,10 +36,8 @@ pub fn fill_keys(keys: &mut [u64], at: usize, word: u64, on: u64, off: u64)
     ensures by_index { (i : ℕ) → i < 64 → slice_index keys.new (at + i) ≡ (if bit word i then on else off) }
     ensures by_index_2 { (j : ℕ) → j < at → slice_index keys.new j ≡ slice_index keys.old j }
 {
-    let mut i: usize = 0;
-    while i < 64 {
+    for i in 0..64 {
         keys[at + i] = pick(null_marked(word, i as u32), on, off);
-        i += 1;
     }
 }
 
@@ -46,8 +45,8 @@ pub fn value_key(v: Value) -> u64
     ensures { KeyAt (null_test (keyed v)) result (keyed v) }
 {
     match v {
-        Value::Null => 0,
-        Value::Known(bits) => biased(bits.0),
+        None => 0,
+        Some(bits) => biased(bits.0),
     }
 }
 
@@ -72,15 +71,13 @@ pub fn fill_rows(
 {
     let width = 8 * columns;
     let mut marks: u64 = 0;
-    let mut i: usize = 0;
-    while i < rows {
+    for i in 0..rows {
         let r = base + i;
         let start = width * r;
         let end = start + width;
         let v = value_at(records, pool, &values[start..end], nulls[r], n);
         keys[at + i] = value_key(v);
         marks = with_bit(marks, i as u32, is_null(v));
-        i += 1;
     }
     marks
 }

@@ -8,10 +8,11 @@ ghost use Rattle.row_blocks.specs.Parts.{has_none, IsPart};
 
 use crate::depths::is_deeper;
 use crate::operand::{fill_keys, fill_rows, join, pick};
-use masks::block::{biased, fill_column};
+use masks::block::fill_column;
 use masks::reach::is_kept;
 use masks::with_bit;
 use records::record::{Fields, Node, fields_in};
+use truth::scalar::biased;
 
 // The key of 0 is 2^63, and those of the numbers below 0 are below it. Signs change from row to row, so nothing here branches
 // on them.
@@ -119,13 +120,11 @@ fn divide_keys(
     ensures by_index_2 { (j : ℕ) → j < at → slice_index keys.new j ≡ slice_index keys.old j }
 {
     let mut marks: u64 = 0;
-    let mut i: usize = 0;
-    while i < rows {
+    for i in 0..rows {
         let p = keys[one + i];
         let q = keys[two + i];
         keys[at + i] = part_key(code, p, q);
         marks = with_bit(marks, i as u32, has_none(p, q));
-        i += 1;
     }
     marks | x | y
 }

@@ -77,12 +77,9 @@ fn block_records(
         pool.now columns values.now nulls.now base rows truths.new
         unknowns.new m }
 {
-    let mut n: u32 = 0;
-    while n <= root.0 {
-        let k = n;
-        n += 1;
-        let f = fields_in(records, Node(k));
-        if (marks[k as usize] == 1) & is_kept(f) {
+    for n in 0..root.0 + 1 {
+        let f = fields_in(records, Node(n));
+        if (marks[n as usize] == 1) & is_kept(f) {
             let m = turn_masks(
                 records,
                 pool,
@@ -94,13 +91,13 @@ fn block_records(
                 rows,
                 truths,
                 unknowns,
-                Node(k),
+                Node(n),
                 f,
                 keys,
                 words,
             );
-            truths[k as usize] = m.truths;
-            unknowns[k as usize] = m.unknowns;
+            truths[n as usize] = m.truths;
+            unknowns[n as usize] = m.unknowns;
         }
     }
 }

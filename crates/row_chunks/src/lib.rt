@@ -2,7 +2,7 @@
 // The records are marked and the pool's parts are put in order once for all rows.
 #![tactic(auto)]
 
-ghost use Rattle.std.specs.Prelude.{◌≡◌, true, ℕ, ◌+◌, ◌*◌, ◌≤◌, ◌<◌, length, get_or};
+ghost use Rattle.std.specs.Prelude.{◌≡◌, true, false, ℕ, ◌+◌, ◌*◌, ◌≤◌, ◌<◌, length, get_or};
 ghost use Rattle.three_valued.specs.declared.logic.Truth.{Truth};
 ghost use Rattle.masks.specs.Block.{Closed};
 ghost use Rattle.pool_order.specs.Order.{Ordered};
@@ -124,6 +124,7 @@ fn judge_parts(
     let mut block = [0u8; RECORD * RECORDS];
     let most = chunk_rows(table.len());
     let mut base: usize = 0;
+    // A turn takes as many rows as a chunk has room for, which the number of columns tells.
     while base < nulls.len() {
         let count = at_most(nulls.len() - base, most);
         judge_chunk(
@@ -177,8 +178,10 @@ fn judge_searching(
     );
 }
 
-// With one of the first part of the pool, where the symbols are; so too, of judge_ordered.
-fn judge_sorted(
+// With an order of the first part of the pool, where the symbols are, or with orders of both parts: of LENGTH words. It owns
+// its tables, as `judge_ordered` of crate chain_rows does.
+fn judge_sorted<const LENGTH: usize>(
+    both: bool,
     table: &[u8],
     codes: &[u64],
     records: &[u8],
@@ -194,61 +197,22 @@ fn judge_sorted(
     requires values_len { length values.now ≡ 8 * length table.now * length nulls.now }
     requires every_row { EveryRow (length table.now) records.now pool.now root.0 }
     requires root_value { (get_or marks.now root.0 0 ≡ 1) × Closed records.now marks.now 0 root.0 × (4096 ≤ length marks.now) }
+    requires one { both ≡ false → LENGTH ≡ 21512 }
+    requires two { both ≡ true → (LENGTH ≡ 43024) × (65536 < length pool.now) }
     ensures { (f : ℕ → Truth) → RowTruths table.now codes.now values.now
         nulls.now records.now pool.now root.0 f
         → ClassesOf f classes.new (length nulls.now) }
 {
-    let mut order = [0u64; 21512];
+    let mut order = [0u64; LENGTH];
     let mut truths = [0u64; RECORDS];
     let mut unknowns = [0u64; RECORDS];
     let mut keys = [0u64; 1920];
     note_depths(records, root, &mut truths);
-    order_first(pool, &mut order);
-    judge_parts(
-        table,
-        codes,
-        records,
-        pool,
-        &order,
-        root,
-        values,
-        nulls,
-        marks,
-        &mut truths,
-        &mut unknowns,
-        &mut keys,
-        classes,
-    );
-}
-
-// With orders of both parts.
-fn judge_both(
-    table: &[u8],
-    codes: &[u64],
-    records: &[u8],
-    pool: &[u8],
-    root: Node,
-    values: &[u8],
-    nulls: &[u64],
-    marks: &[u8],
-    classes: &mut [u8],
-)
-    requires in_bounds { (8192 ≤ length codes.now) × (length table.now ≤ 64) }
-    requires nulls_len_bound { (length nulls.now ≤ 1024) × (length nulls.now ≤ length classes.old) }
-    requires values_len { length values.now ≡ 8 * length table.now * length nulls.now }
-    requires every_row { EveryRow (length table.now) records.now pool.now root.0 }
-    requires root_value { (get_or marks.now root.0 0 ≡ 1) × Closed records.now marks.now 0 root.0 × (4096 ≤ length marks.now) }
-    requires in_bounds_2 { 65536 < length pool.now }
-    ensures { (f : ℕ → Truth) → RowTruths table.now codes.now values.now
-        nulls.now records.now pool.now root.0 f
-        → ClassesOf f classes.new (length nulls.now) }
-{
-    let mut order = [0u64; 43024];
-    let mut truths = [0u64; RECORDS];
-    let mut unknowns = [0u64; RECORDS];
-    let mut keys = [0u64; 1920];
-    note_depths(records, root, &mut truths);
-    order_both(pool, &mut order);
+    if both {
+        order_both(pool, &mut order);
+    } else {
+        order_first(pool, &mut order);
+    }
     judge_parts(
         table,
         codes,
@@ -306,8 +270,8 @@ fn judge_asked(
         → ClassesOf f classes.new (length nulls.now) }
 {
     if order_pays(asked_values(records, root, marks, 0), nulls.len()) {
-        judge_sorted(
-            table, codes, records, pool, root, values, nulls, marks, classes,
+        judge_sorted::<21512>(
+            false, table, codes, records, pool, root, values, nulls, marks, classes,
         );
     } else {
         judge_searching(
@@ -339,8 +303,8 @@ pub fn judge_chunks(
     mark_reached(records, root, &mut marks);
     let behind = asked_values(records, root, &marks, (pool.len() / 16) as u32);
     if second_pays(pool.len(), behind, nulls.len()) {
-        judge_both(
-            table, codes, records, pool, root, values, nulls, &marks, classes,
+        judge_sorted::<43024>(
+            true, table, codes, records, pool, root, values, nulls, &marks, classes,
         );
     } else {
         judge_asked(

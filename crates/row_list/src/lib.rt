@@ -5,27 +5,12 @@ ghost use Rattle.std.specs.Prelude.{◌≡◌, cond, ℕ, ◌+◌, ◌*◌, ◌/
 ghost use Rattle.file_blocks.specs.Format.{overwrite};
 ghost use Rattle.row_list.specs.Numbers.{count, numbers, bytes_of};
 
-fn one_if(a: u8, b: u8) -> u64
-    ensures { result ≡ cond (eqb a b) 1 0 }
-{
-    if a == b {
-        return 1;
-    }
-    0
-}
-
 /// How many of the first `rows` classes are `class`.
 pub fn count_class(classes: &[u8], rows: usize, class: u8) -> u64
     requires { rows ≤ length classes.now }
     ensures { result ≡ count (λ (i : ℕ). eqb (get_or classes.now i 0) class) rows }
 {
-    let mut n: u64 = 0;
-    let mut i: usize = 0;
-    while i < rows {
-        n += one_if(classes[i], class);
-        i += 1;
-    }
-    n
+    classes[..rows].iter().filter(|c| **c == class).count() as u64
 }
 
 // The number of a row that passes, two bytes, at `at`; where the next one goes.
@@ -53,9 +38,7 @@ pub fn write_list(classes: &[u8], rows: usize, list: &mut [u8])
         (bytes_of (numbers (λ (i : ℕ). eqb (get_or classes.now i 0) 2) rows)) }
 {
     let mut at: usize = 0;
-    let mut i: usize = 0;
-    while i < rows {
+    for i in 0..rows {
         at = put_number(list, at, i, classes[i]);
-        i += 1;
     }
 }

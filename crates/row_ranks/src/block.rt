@@ -53,10 +53,8 @@ pub fn block_ranks(
     ensures { BlockRanks table.now codes.now values.now nulls.now base count
         block.new }
 {
-    let mut i: usize = 0;
-    while i < count {
+    for i in 0..count {
         let r = base + i;
         put_row(table, codes, values, r, nulls[r], block, i);
-        i += 1;
     }
 }

@@ -21,15 +21,12 @@ pub fn row_ranks(table: &[u8], codes: &[u64], row: &[u8], nulls: u64, out: &mut 
     ensures { RowRanks table.now codes.now row.now nulls (length table.now)
         out.new }
 {
-    let mut c: usize = 0;
-    while c < table.len() {
+    for c in 0..table.len() {
         let v = value_in(row, c);
         if holds_symbol(table, nulls, c) {
             put_value(out, c, number(codes, v));
-            c += 1;
-            continue;
+        } else {
+            put_value(out, c, v);
         }
-        put_value(out, c, v);
-        c += 1;
     }
 }

@@ -12,7 +12,7 @@ use borrow.Author.Tests.{ltb-true, ltb-false, eq-eqb}
 use Rattle.records.specs.Bytes.{value_at}
 use Rattle.truth.specs.FromBytes.{values_from}
 use Rattle.truth.specs.Halves.{ord_z, key}
-use Rattle.truth.specs.declared.scalar.Ordering.{Ordering}
+use Rattle.std.specs.declared.cmp.Ordering.{Ordering}
 use Rattle.constraints.specs.Lined.{Lined, on_line, lined}
 use Rattle.constraints.specs.Payload.{payload}
 use Rattle.constraints.specs.Scalars.{Scalars, opposite}
@@ -25,8 +25,7 @@ use Rattle.constraints.proofs.Sets.{contains-retain}
 use Rattle.constraints.proofs.Carried.{lines-carry, lined-along, feasible_carried, fixed_value-carried, map_value}
 use Rattle.column_constraints.specs.Abstraction.{Conjuncts, Numbered, column_of, fixed_of, list_of, values_of, gather, allowed_by, of_kind}
 use Rattle.column_constraints.specs.declared.bound.Limit.{Limit}
-use Rattle.column_constraints.specs.declared.column.FixedValue.{FixedValue}
-use Rattle.column_constraints.specs.declared.column.FixedValue.TheVariants.{Nothing, At}
+use Rattle.std.specs.Prelude as code
 use Rattle.row_shown.specs.declared.place.Place.{Place}
 use Rattle.row_shown.specs.declared.place.Smallest.{Smallest}
 use Rattle.row_shown.specs.Shown.{exactly, plus_half, lesser_by, smaller, smallest, list_place, lower_place}
@@ -168,20 +167,20 @@ module _ (t : Conjuncts) (c : Numbered) where
       fixed_value-carried payload (λ (v : Lined). v.bits) lines-carry cc
       ∙ ap (λ (S : Scalars ℤ Lined). map_value payload (λ (v : Lined). v.bits) lines-carry (fixed_value S cc)) (sym lined-along)
 
-  fixed_is : (f : FixedValue) → fixed_of f ≡ fixed_value lined cc
+  fixed_is : (f : code.Option Limit) → fixed_of f ≡ fixed_value lined cc
       → fixed_place (map_value payload (λ (v : Lined). v.bits) lines-carry (fixed_of f)) (bits_bound cc.lower) (bits_bound cc.upper)
       ≡ place_by none (bits_column cc)
   fixed_is f e =
       ap (λ o. fixed_place o (bits_bound cc.lower) (bits_bound cc.upper))
       (ap (map_value payload (λ (v : Lined). v.bits) lines-carry) e ∙ sym fixed_bits)
 
-  pub fixed_nothing : (f : FixedValue) → fixed_of f ≡ fixed_value lined cc → f ≡ Nothing
+  pub fixed_nothing : (f : code.Option Limit) → fixed_of f ≡ fixed_value lined cc → f ≡ code.None
       → (p : Place) → p ≡ lower_place (bits_bound cc.lower) (bits_bound cc.upper) → p ≡ place_by none (bits_column cc)
   fixed_nothing f e h p ep =
       ep ∙ ap (λ o. fixed_place (map_value payload (λ (v : Lined). v.bits) lines-carry (fixed_of o)) (bits_bound cc.lower)
       (bits_bound cc.upper)) (sym h) ∙ fixed_is f e
 
-  pub fixed_at_lem : (f : FixedValue) (v : Limit) → fixed_of f ≡ fixed_value lined cc → f ≡ At v
+  pub fixed_at_lem : (f : code.Option Limit) (v : Limit) → fixed_of f ≡ fixed_value lined cc → f ≡ code.Some v
       → (p : Place) → p ≡ exactly v.value.0 → p ≡ place_by none (bits_column cc)
   fixed_at_lem f v e h p ep =
       ep ∙ ap (λ o. fixed_place (map_value payload (λ (v : Lined). v.bits) lines-carry (fixed_of o)) (bits_bound cc.lower)

@@ -7,8 +7,8 @@ use Prim.Native.Nat.{ℕ}
 use lib.IntN.{ℤ, suc_ℤ, pred_ℤ, +ℤ_idr, +ℤ_one, -ℤ_one}
 use Rattle.truth.specs.Halves.{key, cmp_z}
 use Rattle.truth.specs.Order.{is_equal}
-use Rattle.truth.specs.declared.scalar.Ordering.{Ordering}
-use Rattle.truth.specs.declared.scalar.Ordering.TheVariants.{Less, Equal, Greater}
+use Rattle.std.specs.declared.cmp.Ordering.{Ordering}
+use Rattle.std.specs.declared.cmp.Ordering.TheVariants.{Less, Equal, Greater}
 use Rattle.constraints.specs.Payload as values
 use Rattle.constraints.specs.Bound.{Bound, absent, at, crosses, crosses_by}
 use Rattle.constraints.specs.Column.{ColumnConstraints}

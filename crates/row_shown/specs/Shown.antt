@@ -2,8 +2,8 @@
 -- equalities and after `resolve_deferred`. A place is a whole part and a half part, as 64 bits each.
 use Rattle.std.specs.Prelude.{Bool, true, false, not, cond, ◌||◌, List, [], ◌∷◌, ◌++◌, ℕ, zero, suc, ◌/◌, ◌%◌, ℤ}
 use Rattle.std.proofs.Math.Option.{Option, none, some}
-use Rattle.truth.specs.declared.scalar.Ordering.{Ordering}
-use Rattle.truth.specs.declared.scalar.Ordering.TheVariants.{Less, Equal, Greater}
+use Rattle.std.specs.declared.cmp.Ordering.{Ordering}
+use Rattle.std.specs.declared.cmp.Ordering.TheVariants.{Less, Equal, Greater}
 use Rattle.constraints.specs.Scalars.{scalar_cmp}
 use Rattle.constraints.specs.Payload.{payload}
 use Rattle.constraints.specs.Bound.{Bound, absent, at}

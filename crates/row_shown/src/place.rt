@@ -11,12 +11,13 @@ ghost use Rattle.row_shown.specs.Shown as shown;
 ghost use Rattle.row_shown.specs.Bits.{bits_column, bits_bound, smallest_of};
 
 use column_constraints::bound::{Bound, clears_lower, clears_upper};
-use column_constraints::column::{ColumnConstraints, FixedValue};
+use column_constraints::column::ColumnConstraints;
 use column_sets::marks::{allows, disallows, excludes};
 use column_sets::told::{count_at, kind_at, start_at};
 use records::bytes::{byte, value_at};
 use resolve_deferred::resolve::fixed_value;
-use truth::scalar::{Ordering, Scalar, scalar_cmp};
+use std::cmp::Ordering;
+use truth::scalar::{Scalar, scalar_cmp};
 
 /// A whole part and a half part, 64 bits each in two's complement.
 #[derive(Clone, Copy)]
@@ -86,12 +87,9 @@ fn lower_place(l: Bound, u: Bound) -> Place
 fn fixed_place(c: ColumnConstraints) -> Place
     ensures { (t : Conjuncts) (a : List ℕ) → result ≡ shown.place_by none (bits_column (column_of t (numbered a c))) }
 {
-    let low = c.lower;
-    let upp = c.upper;
-    let f = fixed_value(c);
-    match f {
-        FixedValue::Nothing => lower_place(low, upp),
-        FixedValue::At(v) => exactly(v.value.0),
+    match fixed_value(c) {
+        None => lower_place(c.lower, c.upper),
+        Some(v) => exactly(v.value.0),
     }
 }
 
@@ -100,11 +98,7 @@ fn fixed_place(c: ColumnConstraints) -> Place
 fn lesser_by(o: Ordering, v: u64, w: u64) -> u64
     ensures { result ≡ shown.lesser_by o v w }
 {
-    match o {
-        Ordering::Less => v,
-        Ordering::Equal => v,
-        Ordering::Greater => w,
-    }
+    if o.is_le() { v } else { w }
 }
 
 fn smaller(possible: bool, v: Scalar, s: Smallest) -> Smallest
@@ -159,9 +153,7 @@ fn smallest_listed(told: &[u64], pool: &[u8], marks: &[u8], c: ColumnConstraints
         found: false,
         value: 0,
     };
-    let mut i = m;
-    while 0 < i {
-        i -= 1;
+    for i in (0..m).rev() {
         let v = Scalar(value_at(pool, s + i));
         let possible = is_possible(told, pool, marks, c, v);
         best = smaller(possible, v, best);
@@ -185,14 +177,12 @@ pub fn value_place(told: &[u64], pool: &[u8], marks: &[u8], c: ColumnConstraints
         (numbered marks.now c))) }
 {
     let n = c.len;
-    let mut i: usize = 0;
-    while i < n {
+    for i in 0..n {
         let f = byte(marks, i);
         if kind_at(told, f as usize) == 1 {
             let s = smallest_listed(told, pool, marks, c, f);
             return list_place(s);
         }
-        i += 1;
     }
     fixed_place(c)
 }

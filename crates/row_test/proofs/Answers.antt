@@ -9,13 +9,12 @@ use lib.Dec.{eqb}
 use lib.ListN.{length}
 use borrow.Author.Tests.{lt-ltb, le-ltb, ne_eqb, eqb-true}
 use Rattle.checking.specs.Check.{check_answer}
-use Rattle.checking.specs.Fault.{answer_of}
+use Rattle.checking.specs.Answer as check
 use Rattle.checking.specs.Tree.{tree_count}
 use Rattle.checking.specs.Checked.{Checked}
-use Rattle.checking.proofs.Standing.{refused-of, accepted-of}
 use Rattle.three_valued.specs.declared.logic.Truth.{Truth}
-use Rattle.row_test.specs.declared.test.RowAnswer.{RowAnswer}
-use Rattle.row_test.specs.declared.test.RowAnswer.TheVariants.{Refused, Tested}
+use Rattle.row_test.specs.Answer.{RowAnswer}
+use Rattle.row_test.specs.Answer.{Refused, Tested}
 use Rattle.truth.specs.Halves.{ord_z, key}
 use Rattle.truth.specs.FromBytes.{aexpr_of, aexpr_at, row_keys, truth_keys, truth_in}
 use Rattle.row_test.specs.RowTest.{marks_ok, columns_ok, row_fault, checked_answer, test_row_answer}
@@ -43,10 +42,10 @@ row-long t row nulls = go (eqb (length row) (8 * length t)) refl
     go false e h = absurd (omega (arith, h))
 
 -- what the count that stops at 4,097 says of the count
-over : (x c : ℕ) → c ≡ min x 4097 → 4096 < c → 4096 < x
+pub over : (x c : ℕ) → c ≡ min x 4097 → 4096 < c → 4096 < x
 over x c e h = omega arith
 
-within : (x c : ℕ) → c ≡ min x 4097 → c ≤ 4096 → x ≤ 4096
+pub within : (x c : ℕ) → c ≡ min x 4097 → c ≤ 4096 → x ≤ 4096
 within x c e h = omega arith
 
 -- A tree that is too large, by the count itself: so a check finds it without the name of a test.
@@ -75,12 +74,13 @@ module _ (t rs p row : List ℕ) (nulls used root : ℕ) (ok : Checked t rs p us
           (ap Tested (er ∙ used-truth rs p row nulls used root ok.root-used))
 
 -- ---- What checking refuses or accepts.
-module _ (t rs p row : List ℕ) (nulls used root f : ℕ) (e : answer_of f ≡ check_answer t rs p used root) where
-  pub checking-refused : (f ≡ 0 → ⊥) → f ≤ 7 → Refused f ≡ test_row_answer t rs p used root row nulls
+module _ (t rs p row : List ℕ) (nulls used root : ℕ) where
+  pub checking-refused : (k : ℕ) → check_answer t rs p used root ≡ check.Refused k
+      → Refused k ≡ test_row_answer t rs p used root row nulls
   unfolding test_row_answer
-  checking-refused d l = rw (sym e ∙ refused-of f f (omega (arith, l)) d)
+  checking-refused k e = rw e
 
-  pub checking-accepted : f ≡ 0 → (a : RowAnswer) → a ≡ checked_answer t rs p used root row nulls
-      → a ≡ test_row_answer t rs p used root row nulls
+  pub checking-accepted : check_answer t rs p used root ≡ check.Accepted → (a : RowAnswer)
+      → a ≡ checked_answer t rs p used root row nulls → a ≡ test_row_answer t rs p used root row nulls
   unfolding test_row_answer
-  checking-accepted z a h = h ∙ rw (sym e ∙ accepted-of f z)
+  checking-accepted e a h = h ∙ rw e

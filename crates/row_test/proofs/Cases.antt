@@ -16,8 +16,8 @@ use Rattle.record_check.specs.Fit.{member_fits, types_ok}
 use Rattle.checking.specs.Check.{types_known_in, table_ok_in, sizes_ok_in, meaning_fault_in, record_fault_in, first_fault_in, records_answer_in}
 use Rattle.checking.specs.Check.{check_answer_in}
 use Rattle.three_valued.specs.declared.logic.Truth.TheVariants.{False, Unknown, True}
-use Rattle.row_test.specs.declared.test.RowAnswer.{RowAnswer}
-use Rattle.row_test.specs.declared.test.RowAnswer.TheVariants.{Refused, Tested}
+use Rattle.row_test.specs.Answer.{RowAnswer}
+use Rattle.row_test.specs.Answer.{Refused, Tested}
 use Rattle.truth.specs.FromBytes.{values_from, aexpr_of, aexpr_at, row_keys}
 use Rattle.row_test.specs.RowTest.{column_ok, columns_ok, row_fault, checked_answer, test_row_answer}
 

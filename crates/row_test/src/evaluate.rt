@@ -6,7 +6,7 @@ ghost use Rattle.truth.specs.Evaluate.{keyed, row_truth, row_value, Evaluable};
 
 use membership::member::member;
 use records::record::{Node, fields_in};
-use three_valued::logic::{Truth, not_of, truth_of_bool};
+use three_valued::logic::{Truth, not_of};
 use truth::read::leaf_value;
 use truth::value::{
     Value, between, compared, connected, divided, is_null, truth_of_value, value_of_truth,
@@ -37,8 +37,8 @@ pub fn truth_at(records: &[u8], pool: &[u8], row: &[u8], nulls: u64, n: Node) ->
             connected(f.code, s, t)
         }
         5 => not_of(truth_at(records, pool, row, nulls, Node(f.a))),
-        6 => truth_of_bool(is_null(value_at(records, pool, row, nulls, Node(f.a)))),
-        7 => truth_of_bool(!is_null(value_at(records, pool, row, nulls, Node(f.a)))),
+        6 => Truth::from(is_null(value_at(records, pool, row, nulls, Node(f.a)))),
+        7 => Truth::from(!is_null(value_at(records, pool, row, nulls, Node(f.a)))),
         8 => {
             let x = value_at(records, pool, row, nulls, Node(f.a));
             let low = value_at(records, pool, row, nulls, Node(f.b));
@@ -81,14 +81,8 @@ pub fn value_at(records: &[u8], pool: &[u8], row: &[u8], nulls: u64, n: Node) ->
             value_of_truth(connected(f.code, s, t))
         }
         5 => value_of_truth(not_of(truth_at(records, pool, row, nulls, Node(f.a)))),
-        6 => value_of_truth(truth_of_bool(is_null(value_at(records, pool, row, nulls, Node(f.a))))),
-        7 => value_of_truth(truth_of_bool(!is_null(value_at(
-            records,
-            pool,
-            row,
-            nulls,
-            Node(f.a),
-        )))),
+        6 => value_of_truth(Truth::from(is_null(value_at(records, pool, row, nulls, Node(f.a))))),
+        7 => value_of_truth(Truth::from(!is_null(value_at(records, pool, row, nulls, Node(f.a))))),
         8 => {
             let x = value_at(records, pool, row, nulls, Node(f.a));
             let low = value_at(records, pool, row, nulls, Node(f.b));

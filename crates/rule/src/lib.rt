@@ -5,7 +5,7 @@
 ghost use Rattle.std.specs.Prelude.{◌≡◌, false, ℕ, ◌≤◌, ◌<◌, min, length, get_or};
 ghost use Rattle.checking.specs.Check.{check_answer_in};
 ghost use Rattle.checking.specs.Tree.{tree_count};
-ghost use Rattle.checking.specs.declared.check.CheckAnswer.TheVariants as check;
+ghost use Rattle.checking.specs.Answer as check;
 ghost use Rattle.merge.specs.Demand.{AreBytes};
 ghost use Rattle.merge.specs.declared.answer.RewriteAnswer.TheVariants as answer;
 ghost use Rattle.symbol_screens.proofs.NumbersChecked.{NoText};
@@ -13,9 +13,9 @@ ghost use Rattle.symbol_screens.specs.Rewriting.{lent};
 ghost use Rattle.symbol_merge.specs.Explains.{Explains};
 
 use check_lent::check_beside;
-use limits::{CONJUNCTS, FEW_RECORDS, RECORDS};
+use limits::{CONJUNCTS, FEW_CONJUNCTS, FEW_RECORDS, RECORDS};
 use merge::answer::{RewriteAnswer, Rewriting};
-use merge_conjuncts::sized::{merge_few, merge_many};
+use merge_conjuncts::sized::{ALL_MARKS, FEW_MARKS, TWICE_ALL, TWICE_FEW, merge_in};
 use minterm_iter::minterms;
 use records::record::Node;
 use rewrite_symbols::merge_sized;
@@ -60,12 +60,14 @@ fn rewrite_counted(
         if symbols {
             return merge_sized(t, rs, p, text, used, root, trees, &nodes, n, reasons);
         }
-        return merge_few(t, rs, p, used, root, trees, &nodes, n, reasons);
+        return merge_in::<FEW_CONJUNCTS, TWICE_FEW, FEW_MARKS>(
+            t, rs, p, used, root, trees, &nodes, n, reasons,
+        );
     }
     if symbols {
         return merge_sized(t, rs, p, text, used, root, trees, &nodes, n, reasons);
     }
-    merge_many(t, rs, p, used, root, trees, &nodes, n, reasons)
+    merge_in::<CONJUNCTS, TWICE_ALL, ALL_MARKS>(t, rs, p, used, root, trees, &nodes, n, reasons)
 }
 
 // An accepted screen: 8, and the rest. `trees` has the tree counts of its records; the merging adds up those of the nodes

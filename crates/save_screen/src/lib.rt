@@ -4,11 +4,11 @@
 ghost use Rattle.std.specs.Prelude.{◌≡◌, ◌+◌, ◌*◌, ◌/◌, ◌%◌, ◌≤◌, ◌<◌, ◌++◌, length};
 ghost use Rattle.file_blocks.specs.Format.{file_of, file_length, word_bytes, overwrite};
 ghost use Rattle.files.specs.Answers.{save_answer, save_bytes};
+ghost use Rattle.files.specs.SaveAnswer.{save_answered};
 
 use check_lent::check_lent;
-use checking::check::CheckAnswer;
 use file_blocks::block::{write_block, write_blocks};
-use files::save::SaveAnswer;
+use refusal::Refusal;
 
 fn end_bytes(used: u32, root: u32) -> [u8; 8]
     ensures { result ≡ word_bytes used ++ word_bytes root }
@@ -65,23 +65,17 @@ pub fn save_screen(
     used: u64,
     root: u64,
     file: &mut [u8],
-) -> SaveAnswer
-    ensures answer { result ≡ save_answer t.now rs.now p.now x.now used root
+) -> Result<u64, Refusal>
+    ensures answer { save_answered result ≡ save_answer t.now rs.now p.now x.now used root
         (length file.old) }
     ensures bytes { file.new ≡ save_bytes t.now rs.now p.now x.now used
         root file.old }
 {
-    match check_lent(t, rs, p, x.len(), used, root) {
-        CheckAnswer::Refused(k) => {
-            return SaveAnswer::Refused(k);
-        }
-        CheckAnswer::Accepted => {
-            let length = file_length(p.len(), x.len(), used as u32);
-            if file.len() < length {
-                return SaveAnswer::Refused(14);
-            }
-            write_screen(t, rs, p, x, used as u32, root as u32, file);
-            return SaveAnswer::Saved(length as u64);
-        }
+    check_lent(t, rs, p, x.len(), used, root)?;
+    let length = file_length(p.len(), x.len(), used as u32);
+    if file.len() < length {
+        return Err(Refusal::Short);
     }
+    write_screen(t, rs, p, x, used as u32, root as u32, file);
+    Ok(length as u64)
 }

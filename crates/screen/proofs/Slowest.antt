@@ -6,7 +6,7 @@ use Prim.Native.Nat.{ℕ}
 use lib.ListN.{length}
 use Rattle.slowest.specs.Answers.{slowest_answer, table_written, records_written}
 use Rattle.slowest.specs.Calls.{slowest_number, built_root, built_used, SlowestPromise}
-use Rattle.slowest.specs.declared.build.SlowestAnswer.{SlowestAnswer}
+use Rattle.slowest.specs.SlowestAnswer.{SlowestAnswer}
 use Rattle.slowest.proofs.Called.{by_answer, call_kept}
 use Rattle.screen.specs.Listed.{slowest_listed}
 

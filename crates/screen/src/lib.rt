@@ -16,7 +16,7 @@ ghost use Rattle.slowest.specs.Calls.{slowest_number, built_root, built_used, Sl
 
 use rewrite_number::put_answer;
 use rule::rewrite_screen;
-use slowest::build::{SlowestAnswer, build_slowest};
+use slowest::build::build_slowest;
 
 // Below 256: the refusal's number, and nothing is written. 256: unchanged, the screen returned is the one sent. 257:
 // nothing passes, 258: rewritten; the records added stand behind the used ones, and `new_root` and `new_used` have the
@@ -100,10 +100,10 @@ pub extern "C" fn screen_slowest(
         records.new root.new used.new }
 {
     match build_slowest(columns, table, records) {
-        SlowestAnswer::Refused(k) => k,
-        SlowestAnswer::Built(last, count) => {
-            *root = last;
-            *used = count;
+        Err(r) => r.number(),
+        Ok(built) => {
+            *root = built.root;
+            *used = built.used;
             256
         }
     }

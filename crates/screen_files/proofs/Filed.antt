@@ -10,8 +10,8 @@ use Rattle.files.specs.Answers.{save_answer, save_bytes, load_answer, loaded_byt
 use Rattle.files.specs.Calls.{save_number, saved_length, load_number, loaded_root, loaded_columns, loaded_used, loaded_values}
 use Rattle.files.specs.Calls.{loaded_text}
 use Rattle.files.specs.Calls.{SavePromise, LoadPromise}
-use Rattle.files.specs.declared.save.SaveAnswer.{SaveAnswer}
-use Rattle.files.specs.declared.load.LoadAnswer.{LoadAnswer}
+use Rattle.files.specs.SaveAnswer.{SaveAnswer}
+use Rattle.files.specs.LoadAnswer.{LoadAnswer}
 use Rattle.files.proofs.Called.{save_ensures, load-ensures}
 use Rattle.screen_files.specs.Listed.{save_listed, load_listed}
 use Rattle.screen_files.proofs.Listed.{save_listed_lem, load-listed}

@@ -6,16 +6,16 @@ use Prim.Native.Nat.{ℕ, suc}
 use lib.Dec.{leb}
 use lib.ListN.{length}
 use Rattle.checking.specs.Check.{check_answer_in}
-use Rattle.checking.specs.declared.check.CheckAnswer.{CheckAnswer}
-use Rattle.checking.specs.declared.check.CheckAnswer.TheVariants as check
+use Rattle.checking.specs.Answer.{CheckAnswer}
+use Rattle.checking.specs.Answer as check
 use Rattle.files.specs.Answers.{save_if, save_answer, room_ok, held_answer, load_if, load_answer}
 use Rattle.files.specs.Calls.{save_number, load_number}
 use Rattle.file_blocks.specs.Format.{file_length}
 use Rattle.file_structure.specs.Read.{structure_ok, held, total, root_of}
-use Rattle.files.specs.declared.save.SaveAnswer.{SaveAnswer}
-use Rattle.files.specs.declared.save.SaveAnswer.TheVariants as save
-use Rattle.files.specs.declared.load.LoadAnswer.{LoadAnswer}
-use Rattle.files.specs.declared.load.LoadAnswer.TheVariants as load
+use Rattle.files.specs.SaveAnswer.{SaveAnswer}
+use Rattle.files.specs.SaveAnswer as save
+use Rattle.files.specs.LoadAnswer.{LoadAnswer}
+use Rattle.files.specs.LoadAnswer as load
 use Rattle.listed.proofs.Listed.{pick, refusal_listed}
 use Rattle.screen_files.specs.Listed.{save_listed, load_listed}
 

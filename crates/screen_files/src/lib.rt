@@ -10,8 +10,7 @@ ghost use Rattle.files.specs.Calls.{loaded_text};
 ghost use Rattle.files.specs.Calls.{SavePromise, LoadPromise};
 ghost use Rattle.screen_files.specs.Listed.{save_listed, load_listed};
 
-use files::load::{LoadAnswer, load_screen};
-use files::save::SaveAnswer;
+use files::load::load_screen;
 use save_screen::save_screen;
 
 // Below 256: the refusal's number, and nothing is written. 256: the first `size` bytes of `file` are the file of the screen.
@@ -37,8 +36,8 @@ pub extern "C" fn screen_save(
         used root result file.old file.new size.new }
 {
     match save_screen(table, records, pool, text, used, root, file) {
-        SaveAnswer::Refused(k) => k,
-        SaveAnswer::Saved(n) => {
+        Err(r) => r.number(),
+        Ok(n) => {
             *size = n;
             256
         }
@@ -95,13 +94,13 @@ pub extern "C" fn screen_load(
         bytes.new }
 {
     match load_screen(file, table, records, pool, text) {
-        LoadAnswer::Refused(k) => k,
-        LoadAnswer::Loaded(node, types, count, entries, symbols) => {
-            *root = node;
-            *columns = types;
-            *used = count;
-            *values = entries;
-            *bytes = symbols;
+        Err(r) => r.number(),
+        Ok(screen) => {
+            *root = screen.root;
+            *columns = screen.columns;
+            *used = screen.used;
+            *values = screen.values;
+            *bytes = screen.bytes;
             256
         }
     }

@@ -8,20 +8,20 @@ use lib.Dec.{ltb, eqb}
 use lib.ListN.{length}
 use Rattle.records.specs.Bytes.{all}
 use Rattle.checking.specs.Tree.{tree_count}
-use Rattle.row_test.specs.declared.test.RowAnswer.{RowAnswer}
+use Rattle.row_test.specs.Answer.{RowAnswer}
 use Rattle.chain_rows.specs.Chain.{passes, is_false, is_unknown, is_tested}
 use Rattle.row_list.specs.Numbers.{count}
 use Rattle.checking.specs.Check.{check_answer_in}
-use Rattle.checking.specs.declared.check.CheckAnswer.{CheckAnswer}
-use Rattle.checking.specs.declared.check.CheckAnswer.TheVariants as check
+use Rattle.checking.specs.Answer.{CheckAnswer}
+use Rattle.checking.specs.Answer as check
 use Rattle.checking.proofs.Answers.{refused-numbered-in}
 use Rattle.tally.specs.declared.Tally.{Tally}
 use Rattle.tally.specs.Sums.{sums_fit, added}
 use Rattle.listed.proofs.Listed.{first-seven}
 use Rattle.tally.proofs.Sums.{added-grown, added_none}
 use Rattle.screen_hedge.specs.declared.Hedged.{Hedged}
-use Rattle.hedge.specs.declared.list.HedgeAnswer.{HedgeAnswer}
-use Rattle.hedge.specs.declared.list.HedgeAnswer.TheVariants.{Refused, Listed}
+use Rattle.hedge.specs.Answer.{HedgeAnswer}
+use Rattle.hedge.specs.Answer.{Refused, Listed}
 use Rattle.hedge.specs.Hedge.{sums_answer, counts_answer, rows_answer, room_ok, answer_if, hedge_number, tally_out}
 use Rattle.symbol_screens.specs.Rewriting.{lent}
 use Rattle.symbol_chain.specs.ChainWith.{answer_at_with}

@@ -3,8 +3,8 @@ use Rattle.std.specs.Prelude.{◌≡◌, Bool, true, List, [], ◌∷◌, ℕ, l
 use Rattle.listed.specs.Listed.{listed}
 use Rattle.tally.specs.declared.Tally.{Tally}
 use Rattle.screen_hedge.specs.declared.Hedged.{Hedged}
-use Rattle.hedge.specs.declared.list.HedgeAnswer.{HedgeAnswer}
-use Rattle.hedge.specs.declared.list.HedgeAnswer.TheVariants.{Refused, Listed}
+use Rattle.hedge.specs.Answer.{HedgeAnswer}
+use Rattle.hedge.specs.Answer.{Refused, Listed}
 use Rattle.hedge.specs.Hedge.{hedge_number, count_out, tally_out}
 use Rattle.symbol_hedge.specs.HedgeWith.{hedge_answer_with, hedge_bytes_with}
 

@@ -7,7 +7,6 @@ ghost use Rattle.tally.specs.Views.{TraderView, RiskView};
 ghost use Rattle.symbol_hedge.specs.HedgeWith.{hedge_answer_with, hedge_bytes_with};
 ghost use Rattle.screen_hedge.specs.Calls.{Numbered, HedgePromise};
 
-use hedge::list::HedgeAnswer;
 use symbol_hedge::hedge_list_with;
 use tally::{Tally, add, risk_view, trader_view};
 
@@ -43,19 +42,19 @@ fn hedge_by_value(
     match hedge_list_with(
         table, records, pool, text, used, root, values, nulls, list, tally,
     ) {
-        HedgeAnswer::Refused(k) => Hedged {
-            number: k,
+        Err(r) => Hedged {
+            number: r.number(),
             passed: 0,
             is_false: 0,
             unknown: 0,
         },
-        HedgeAnswer::Listed(p, f, u) => {
-            *count = p;
+        Ok(rows) => {
+            *count = rows.passed;
             Hedged {
                 number: 256,
-                passed: p,
-                is_false: f,
-                unknown: u,
+                passed: rows.passed,
+                is_false: rows.is_false,
+                unknown: rows.unknown,
             }
         }
     }

@@ -6,9 +6,9 @@ use Prim.Native.Nat.{ℕ, ◌≤◌}
 use Rattle.checking.specs.Check.{check_answer_in}
 use lib.Count.{ones}
 use Rattle.checking.specs.Columns.{columns_if, columns_word}
-use Rattle.checking.specs.declared.check.CheckAnswer.{CheckAnswer}
-use Rattle.checking.specs.declared.check.CheckAnswer.TheVariants as check
-use Rattle.checking.specs.declared.reads.ColumnsAnswer.TheVariants as columns
+use Rattle.checking.specs.Answer.{CheckAnswer}
+use Rattle.checking.specs.Answer as check
+use Rattle.checking.specs.ReadAnswer as columns
 use Rattle.checking.proofs.Answers.{refused-numbered-in}
 use Rattle.symbol_rows.specs.ColumnsWith.{columns_answer_in}
 

@@ -8,12 +8,12 @@ use lib.ListN.{length}
 use Rattle.checking.specs.Check.{check_answer_in}
 use Rattle.checking.specs.Columns.{columns_if, columns_word}
 use Rattle.checking.specs.Tree.{tree_count}
-use Rattle.checking.specs.declared.check.CheckAnswer.{CheckAnswer}
-use Rattle.checking.specs.declared.check.CheckAnswer.TheVariants as check
+use Rattle.checking.specs.Answer.{CheckAnswer}
+use Rattle.checking.specs.Answer as check
 use Rattle.three_valued.specs.declared.logic.Truth.{Truth}
 use Rattle.three_valued.specs.declared.logic.Truth.TheVariants.{False, Unknown, True}
-use Rattle.row_test.specs.declared.test.RowAnswer.{RowAnswer}
-use Rattle.row_test.specs.declared.test.RowAnswer.TheVariants as row
+use Rattle.row_test.specs.Answer.{RowAnswer}
+use Rattle.row_test.specs.Answer as row
 use Rattle.row_test.specs.RowTest.{marks_ok, answer_if}
 use Rattle.symbol_screens.specs.Reading.{held_at}
 use Rattle.symbol_screens.specs.Rewriting.{lent}

@@ -1,14 +1,14 @@
 -- The numbers and values that the C interface gives for each answer. An answer below 256 is a refusal with 01's number;
 -- 256 and up is an answer. An out-parameter that an answer does not set keeps its value.
 use Rattle.std.specs.Prelude.{ℕ}
-use Rattle.checking.specs.declared.check.CheckAnswer.{CheckAnswer}
-use Rattle.checking.specs.declared.check.CheckAnswer.TheVariants as check
-use Rattle.checking.specs.declared.reads.ColumnsAnswer.{ColumnsAnswer}
-use Rattle.checking.specs.declared.reads.ColumnsAnswer.TheVariants as columns
+use Rattle.checking.specs.Answer.{CheckAnswer}
+use Rattle.checking.specs.Answer as check
+use Rattle.checking.specs.ReadAnswer.{ColumnsAnswer}
+use Rattle.checking.specs.ReadAnswer as columns
 use Rattle.three_valued.specs.declared.logic.Truth.{Truth}
 use Rattle.three_valued.specs.declared.logic.Truth.TheVariants.{False, Unknown, True}
-use Rattle.row_test.specs.declared.test.RowAnswer.{RowAnswer}
-use Rattle.row_test.specs.declared.test.RowAnswer.TheVariants as row
+use Rattle.row_test.specs.Answer.{RowAnswer}
+use Rattle.row_test.specs.Answer as row
 
 -- checking: 256 accepted
 abbrev pub check_number : CheckAnswer → ℕ

@@ -13,9 +13,6 @@ ghost use Rattle.screen_rows.specs.Listed.{check_listed, columns_listed, row_lis
 ghost use Rattle.screen_rows.specs.Promises.{ColumnsPromise};
 
 use check_lent::check_lent;
-use checking::check::CheckAnswer;
-use checking::reads::ColumnsAnswer;
-use row_test::test::RowAnswer;
 use symbol_reads::columns_read_with;
 use symbol_row_test::test_row_with;
 use three_valued::logic::Truth;
@@ -35,8 +32,8 @@ pub extern "C" fn screen_check(
     ensures listed { check_listed result ≡ true }
 {
     match check_lent(table, records, pool, text.len(), used, root) {
-        CheckAnswer::Refused(k) => k,
-        CheckAnswer::Accepted => 256,
+        Err(r) => r.number(),
+        Ok(()) => 256,
     }
 }
 
@@ -63,10 +60,10 @@ pub extern "C" fn screen_columns_read(
     ensures promise { ColumnsPromise records.now root result columns.new count.new }
 {
     match columns_read_with(table, records, pool, text, used, root) {
-        ColumnsAnswer::Refused(k) => k,
-        ColumnsAnswer::Read(word, number) => {
-            *columns = word;
-            *count = number;
+        Err(r) => r.number(),
+        Ok(read) => {
+            *columns = read.word;
+            *count = read.count;
             256
         }
     }
@@ -99,7 +96,7 @@ pub extern "C" fn screen_test_row(
     ensures listed { row_listed result ≡ true }
 {
     match test_row_with(table, records, pool, text, used, root, row, nulls) {
-        RowAnswer::Refused(k) => k,
-        RowAnswer::Tested(t) => truth_number(t),
+        Err(r) => r.number(),
+        Ok(t) => truth_number(t),
     }
 }

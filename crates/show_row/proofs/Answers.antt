@@ -10,7 +10,7 @@ use borrow.Author.Tests.{lt-ltb, le-ltb}
 use Rattle.checking.specs.Check.{check_answer}
 use Rattle.checking.specs.Checked.{Checked}
 use Rattle.checking.specs.Tree.{tree_count}
-use Rattle.checking.specs.declared.check.CheckAnswer.TheVariants as check
+use Rattle.checking.specs.Answer as check
 use Rattle.checking.proofs.Accepted.{checked}
 use Rattle.truth.specs.FromBytes.{aexpr_of, aexpr_at}
 use Rattle.constraints.specs.Payload.{payload}
@@ -25,8 +25,8 @@ use Rattle.read_operands.proofs.Walks.{first-length}
 use Rattle.reading.proofs.Screens.{minterms-walked, conjuncts-used}
 use Rattle.judge_lines.specs.Lines.{is_nothing}
 use Rattle.row_shown.specs.Shown.{null_shown, place_shown, places_bytes}
-use Rattle.show_row.specs.declared.answer.ShowAnswer.{ShowAnswer}
-use Rattle.show_row.specs.declared.answer.ShowAnswer.TheVariants as show
+use Rattle.show_row.specs.ShowAnswer.{ShowAnswer}
+use Rattle.show_row.specs.ShowAnswer as show
 use Rattle.show_row.specs.Answer.{shown_nulls, shown_bytes, row_answer, show_checked, show_if, show_answer}
 use Rattle.show_row.specs.Calls.{row_out, screen_bytes}
 use Rattle.show_row.specs.Low.{LowWholes, LowShown}

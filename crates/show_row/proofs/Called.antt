@@ -7,15 +7,15 @@ use lib.Dec.{ltb}
 use lib.ListN.{length}
 use Rattle.checking.specs.Check.{check_answer}
 use Rattle.checking.specs.Tree.{tree_count}
-use Rattle.checking.specs.declared.check.CheckAnswer.{CheckAnswer}
-use Rattle.checking.specs.declared.check.CheckAnswer.TheVariants as check
+use Rattle.checking.specs.Answer.{CheckAnswer}
+use Rattle.checking.specs.Answer as check
 use Rattle.listed.proofs.Listed.{refusal_listed}
 use Rattle.truth.specs.FromBytes.{aexpr_at}
 use Rattle.merge.specs.Minterms.{minterms}
 use Rattle.merge.specs.Plain.{plain_screen}
 use Rattle.judge_lines.specs.Lines.{nothing_passes}
-use Rattle.show_row.specs.declared.answer.ShowAnswer.{ShowAnswer}
-use Rattle.show_row.specs.declared.answer.ShowAnswer.TheVariants as show
+use Rattle.show_row.specs.ShowAnswer.{ShowAnswer}
+use Rattle.show_row.specs.ShowAnswer as show
 use Rattle.show_row.specs.Answer.{shown_nulls, show_checked, show_if, show_answer}
 use Rattle.show_row.specs.Calls.{show_number, show_listed, row_out, nulls_out, screen_bytes, ShowPromise}
 use Rattle.show_row.specs.Low.{LowShown}

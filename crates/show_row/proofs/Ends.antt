@@ -25,7 +25,7 @@ use Rattle.judge_lines.specs.Lines.{nothing_passes}
 use Rattle.show_row.proofs.Nothing.{resolved-all, nothing-resolved}
 use Rattle.row_shown.specs.Shown.{exactly, value_place, null_in, place_in, place_shown, places_bytes}
 use Rattle.row_shown.specs.Bits.{bits_column}
-use Rattle.show_row.specs.declared.answer.ShowAnswer.TheVariants as show
+use Rattle.show_row.specs.ShowAnswer as show
 use Rattle.show_row.specs.Answer.{collected_of, shown_nulls, shown_bytes, row_answer}
 use Rattle.write_places.specs.Written.{RowWritten}
 

@@ -12,8 +12,8 @@ use Rattle.records.proofs.Loops.{all_holds}
 use Rattle.checking.specs.Check.{check_answer}
 use Rattle.checking.specs.Checked.{Checked}
 use Rattle.checking.specs.Tree.{tree_count}
-use Rattle.checking.specs.declared.check.CheckAnswer.{CheckAnswer}
-use Rattle.checking.specs.declared.check.CheckAnswer.TheVariants as check
+use Rattle.checking.specs.Answer.{CheckAnswer}
+use Rattle.checking.specs.Answer as check
 use Rattle.checking.proofs.Answers.{refused-numbered}
 use Rattle.checking.proofs.Accepted.{checked}
 use Rattle.truth.specs.AExpr.{AExpr}
@@ -35,8 +35,8 @@ use Rattle.judge_lines.specs.Lines.{nothing_passes}
 use Rattle.judge_lines.proofs.Rows.{screen_none}
 use Rattle.places.specs.Places.{whole_at, half_at, place_key, places_row, places_ok}
 use Rattle.row_shown.specs.Shown.{null_shown, place_shown, places_bytes}
-use Rattle.show_row.specs.declared.answer.ShowAnswer.{ShowAnswer}
-use Rattle.show_row.specs.declared.answer.ShowAnswer.TheVariants as show
+use Rattle.show_row.specs.ShowAnswer.{ShowAnswer}
+use Rattle.show_row.specs.ShowAnswer as show
 use Rattle.show_row.specs.Answer.{collected_of, shown_nulls, shown_bytes, show_checked, show_if, show_answer}
 use Rattle.show_row.specs.Calls.{show_number, row_out, nulls_out, screen_bytes, ShowPromise}
 use Rattle.show_row.specs.Low.{LowShown}

@@ -3,8 +3,8 @@
 use Rattle.std.specs.Prelude.{cond, List, map, ℕ, ◌/◌, ltb, length}
 use Rattle.checking.specs.Check.{check_answer}
 use Rattle.checking.specs.Tree.{tree_count}
-use Rattle.checking.specs.declared.check.CheckAnswer.{CheckAnswer}
-use Rattle.checking.specs.declared.check.CheckAnswer.TheVariants as check
+use Rattle.checking.specs.Answer.{CheckAnswer}
+use Rattle.checking.specs.Answer as check
 use Rattle.truth.specs.AExpr.{AExpr}
 use Rattle.truth.specs.FromBytes.{aexpr_at}
 use Rattle.constraints.specs.Payload.{payload}
@@ -15,8 +15,8 @@ use Rattle.merge.specs.Plain.{plain_screen}
 use Rattle.masks.specs.Masks.{mask_to}
 use Rattle.judge_lines.specs.Lines.{nothing_passes}
 use Rattle.row_shown.specs.Shown.{null_shown, place_shown, places_bytes}
-use Rattle.show_row.specs.declared.answer.ShowAnswer.{ShowAnswer}
-use Rattle.show_row.specs.declared.answer.ShowAnswer.TheVariants as show
+use Rattle.show_row.specs.ShowAnswer.{ShowAnswer}
+use Rattle.show_row.specs.ShowAnswer as show
 
 -- What the lines say of the columns.
 abbrev pub collected_of : (ℕ → AExpr ℕ) → List ℕ → Collected ℕ

@@ -7,8 +7,8 @@ use Rattle.merge.specs.Plain.{plain_screen}
 use Rattle.merge.specs.Demand.{Row, IsRow, passes}
 use Rattle.merge.specs.Write.{splice}
 use Rattle.places.specs.Places.{places_row, places_ok}
-use Rattle.show_row.specs.declared.answer.ShowAnswer.{ShowAnswer}
-use Rattle.show_row.specs.declared.answer.ShowAnswer.TheVariants as show
+use Rattle.show_row.specs.ShowAnswer.{ShowAnswer}
+use Rattle.show_row.specs.ShowAnswer as show
 use Rattle.show_row.specs.Answer.{shown_bytes}
 
 -- 256 no row passes, 257 a row is shown

@@ -1,3 +1,4 @@
+pub mod ShowAnswer
 pub mod Answer
 pub mod Calls
 pub mod Low

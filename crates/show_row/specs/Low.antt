@@ -4,8 +4,8 @@ use Rattle.truth.specs.AExpr.{AExpr}
 use Rattle.truth.specs.FromBytes.{aexpr_at}
 use Rattle.merge.specs.Minterms.{minterms}
 use Rattle.row_shown.specs.Shown.{place_shown}
-use Rattle.show_row.specs.declared.answer.ShowAnswer.{ShowAnswer}
-use Rattle.show_row.specs.declared.answer.ShowAnswer.TheVariants as show
+use Rattle.show_row.specs.ShowAnswer.{ShowAnswer}
+use Rattle.show_row.specs.ShowAnswer as show
 use Rattle.show_row.specs.Answer.{collected_of}
 
 abbrev pub LowWholes : ShowAnswer → (ℕ → AExpr ℕ) → List ℕ → ℕ → Type 0

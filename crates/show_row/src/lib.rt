@@ -5,7 +5,7 @@
 ghost use Rattle.std.specs.Prelude.{◌≡◌, true, ℕ, ◌/◌, ◌≤◌, ◌<◌, min, length, get_or};
 ghost use Rattle.checking.specs.Check.{check_answer};
 ghost use Rattle.checking.specs.Tree.{tree_count};
-ghost use Rattle.checking.specs.declared.check.CheckAnswer.TheVariants as check;
+ghost use Rattle.checking.specs.Answer as check;
 ghost use Rattle.truth.specs.FromBytes.{aexpr_at};
 ghost use Rattle.merge.specs.Minterms.{minterms};
 ghost use Rattle.merge.specs.Plain.{plain_screen};
@@ -13,20 +13,20 @@ ghost use Rattle.read_operands.specs.Walk.{walked, first_of};
 ghost use Rattle.show_row.specs.Answer.{show_answer};
 ghost use Rattle.show_row.specs.Calls.{show_number, show_listed, row_out, nulls_out, screen_bytes, ShowPromise};
 ghost use Rattle.show_row.specs.Low.{LowShown};
+ghost use Rattle.show_row.specs.ShowAnswer.{row_found, show_answered};
 
-pub mod answer;
 pub mod indexed;
 pub mod merged;
 
-use crate::answer::ShowAnswer;
 use crate::indexed::show_indexed;
 use crate::merged::show_lines;
-use checking::check::{CheckAnswer, check_counted};
+use checking::check::check_counted;
 use far_lists::far::travels_far;
 use limits::{COLUMNS, CONJUNCTS, FEW_RECORDS, RECORDS};
 use minterm_iter::minterms;
 use plain::is_plain;
 use records::record::Node;
+use refusal::Refusal;
 use rewrite::literals::read_literals;
 
 // The lines of a plain screen are the first n of `nodes`; the row has room.
@@ -39,18 +39,18 @@ fn show_plain(
     nodes: &[u32],
     n: usize,
     row: &mut [u8],
-) -> ShowAnswer
+) -> Option<u64>
     requires accepted { check_answer t.now rs.now p.now used root.0 ≡ check.Accepted }
     requires small { tree_count rs.now root.0 ≤ 4096 }
     requires walked { first_of nodes.now n ≡ minterms (walked rs.now) root.0 }
     requires there { (n ≤ 128) × (n ≤ length nodes.now) }
     requires plain { plain_screen t.now (aexpr_at rs.now p.now used) root.0 ≡ true }
     requires room { length t.now ≤ length row.old / 16 }
-    ensures value { result ≡ show_answer t.now rs.now p.now used root.0
+    ensures value { row_found result ≡ show_answer t.now rs.now p.now used root.0
         (length row.old) }
-    ensures row_after { row.new ≡ row_out result (screen_bytes t.now rs.now p.now used
+    ensures row_after { row.new ≡ row_out (row_found result) (screen_bytes t.now rs.now p.now used
         root.0) row.old }
-    ensures low_shown { LowShown result t.now rs.now p.now used root.0 }
+    ensures low_shown { LowShown (row_found result) t.now rs.now p.now used root.0 }
 {
     let mut told = [0u64; 2 * CONJUNCTS];
     let mut marks = [0u8; COLUMNS * CONJUNCTS];
@@ -63,27 +63,34 @@ fn show_plain(
 }
 
 // An accepted screen with a tree of at most 4,096 records: 9, 17, 14, then its row.
-fn show_counted(t: &[u8], rs: &[u8], p: &[u8], used: u32, root: Node, row: &mut [u8]) -> ShowAnswer
+fn show_counted(
+    t: &[u8],
+    rs: &[u8],
+    p: &[u8],
+    used: u32,
+    root: Node,
+    row: &mut [u8],
+) -> Result<Option<u64>, Refusal>
     requires accepted { check_answer t.now rs.now p.now used root.0 ≡ check.Accepted }
     requires small { tree_count rs.now root.0 ≤ 4096 }
-    ensures value { result ≡ show_answer t.now rs.now p.now used root.0
+    ensures value { show_answered result ≡ show_answer t.now rs.now p.now used root.0
         (length row.old) }
-    ensures row_after { row.new ≡ row_out result (screen_bytes t.now rs.now p.now used
+    ensures row_after { row.new ≡ row_out (show_answered result) (screen_bytes t.now rs.now p.now used
         root.0) row.old }
-    ensures low_shown { LowShown result t.now rs.now p.now used root.0 }
+    ensures low_shown { LowShown (show_answered result) t.now rs.now p.now used root.0 }
 {
     let mut nodes = [0u32; CONJUNCTS];
     let n = minterms(rs, root, &mut nodes);
     if 128 < n {
-        return ShowAnswer::Refused(9);
+        return Err(Refusal::Conjuncts);
     }
     if !is_plain(t, rs, root, &nodes, n) {
-        return ShowAnswer::Refused(17);
+        return Err(Refusal::Plain);
     }
     if row.len() / 16 < t.len() {
-        return ShowAnswer::Refused(14);
+        return Err(Refusal::Short);
     }
-    show_plain(t, rs, p, used, root, &nodes, n, row)
+    Ok(show_plain(t, rs, p, used, root, &nodes, n, row))
 }
 
 // An accepted screen: 8, and the rest.
@@ -95,19 +102,19 @@ fn show_checked(
     root: Node,
     trees: &[u16],
     row: &mut [u8],
-) -> ShowAnswer
+) -> Result<Option<u64>, Refusal>
     requires root_value { check_answer t.now rs.now p.now used root.0 ≡ check.Accepted }
     requires counted { (a : ℕ) → a ≤ root.0 → get_or trees.now a 0 ≡ min (tree_count rs.now a) 4097 }
     requires root_in_bounds { root.0 < length trees.now }
-    ensures value { result ≡ show_answer t.now rs.now p.now used root.0
+    ensures value { show_answered result ≡ show_answer t.now rs.now p.now used root.0
         (length row.old) }
-    ensures row_after { row.new ≡ row_out result (screen_bytes t.now rs.now p.now used
+    ensures row_after { row.new ≡ row_out (show_answered result) (screen_bytes t.now rs.now p.now used
         root.0) row.old }
-    ensures low_shown { LowShown result t.now rs.now p.now used root.0 }
+    ensures low_shown { LowShown (show_answered result) t.now rs.now p.now used root.0 }
 {
     let top = trees[root.0 as usize];
     if 4096 < top {
-        return ShowAnswer::Refused(8);
+        return Err(Refusal::Tree);
     }
     show_counted(t, rs, p, used, root, row)
 }
@@ -121,30 +128,34 @@ fn show_within(
     types: &mut [u8],
     trees: &mut [u16],
     row: &mut [u8],
-) -> ShowAnswer
+) -> Result<Option<u64>, Refusal>
     requires used_in_bounds { used ≤ 4096 → used ≤ length types.old }
     requires used_in_bounds_2 { used ≤ 4096 → used ≤ length trees.old }
-    ensures value { result ≡ show_answer t.now rs.now p.now used root
+    ensures value { show_answered result ≡ show_answer t.now rs.now p.now used root
         (length row.old) }
-    ensures row_after { row.new ≡ row_out result (screen_bytes t.now rs.now p.now used
+    ensures row_after { row.new ≡ row_out (show_answered result) (screen_bytes t.now rs.now p.now used
         root) row.old }
-    ensures low_shown { LowShown result t.now rs.now p.now used root }
+    ensures low_shown { LowShown (show_answered result) t.now rs.now p.now used root }
 {
-    let answer = check_counted(t, rs, p, used, root, types, trees);
-    match answer {
-        CheckAnswer::Refused(number) => ShowAnswer::Refused(number),
-        CheckAnswer::Accepted => show_checked(t, rs, p, used as u32, Node(root as u32), trees, row),
-    }
+    check_counted(t, rs, p, used, root, types, trees)?;
+    show_checked(t, rs, p, used as u32, Node(root as u32), trees, row)
 }
 
 /// One row that passes a plain screen, into the lent row.
 // The tables of checking are as long as the screen needs: most have few records.
-fn show_row(t: &[u8], rs: &[u8], p: &[u8], used: u64, root: u64, row: &mut [u8]) -> ShowAnswer
-    ensures value { result ≡ show_answer t.now rs.now p.now used root
+fn show_row(
+    t: &[u8],
+    rs: &[u8],
+    p: &[u8],
+    used: u64,
+    root: u64,
+    row: &mut [u8],
+) -> Result<Option<u64>, Refusal>
+    ensures value { show_answered result ≡ show_answer t.now rs.now p.now used root
         (length row.old) }
-    ensures row_after { row.new ≡ row_out result (screen_bytes t.now rs.now p.now used
+    ensures row_after { row.new ≡ row_out (show_answered result) (screen_bytes t.now rs.now p.now used
         root) row.old }
-    ensures low_shown { LowShown result t.now rs.now p.now used root }
+    ensures low_shown { LowShown (show_answered result) t.now rs.now p.now used root }
 {
     if used <= 64 {
         let mut few = [0u8; FEW_RECORDS];
@@ -179,11 +190,13 @@ pub fn show_of_screen(
         row.old row.new nulls.new }
 {
     match show_row(table, records, pool, used, root, row) {
-        ShowAnswer::Refused(k) => k,
-        ShowAnswer::NoRow => 256,
-        ShowAnswer::Row(marks) => {
-            *nulls = marks;
-            257
-        }
+        Err(r) => r.number(),
+        Ok(shown) => match shown {
+            None => 256,
+            Some(marks) => {
+                *nulls = marks;
+                257
+            }
+        },
     }
 }

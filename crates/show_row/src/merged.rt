@@ -16,8 +16,8 @@ ghost use Rattle.column_table.specs.Rows.{stride};
 ghost use Rattle.show_row.specs.Answer.{row_answer, shown_bytes};
 ghost use Rattle.show_row.specs.Calls.{row_out};
 ghost use Rattle.show_row.specs.Low.{LowWholes};
+ghost use Rattle.show_row.specs.ShowAnswer.{row_found};
 
-use crate::answer::ShowAnswer;
 use collect_constraints::collect::collect;
 use column_table::words::CELLS;
 use limits::CONJUNCTS;
@@ -66,16 +66,16 @@ pub fn show_lines(
     marks: &mut [u8],
     columns: usize,
     row: &mut [u8],
-) -> ShowAnswer
+) -> Option<u64>
     requires n_bound { (n ≤ stride marks.old) × (stride marks.old ≤ 128) × (n ≤ length nodes.now)
         × Indexed told.now p.now index.now × (columns ≤ 64) × (16 * columns ≤ length row.old) }
     requires by_index { (i : ℕ) → i < n → ToldConjunct (conjuncts told.now p.now) i
         (classify (aexpr_of rs.now p.now) (get_or nodes.now i 0)) }
     requires by_index_2 { (i : ℕ) → i < n → ColumnsBelow 64 (classify (aexpr_of rs.now p.now) (get_or nodes.now i 0)) }
-    ensures value { result ≡ row_answer (aexpr_of rs.now p.now) (first_of nodes.now n) columns }
-    ensures row_after { row.new ≡ row_out result (shown_bytes (aexpr_of rs.now p.now)
+    ensures value { row_found result ≡ row_answer (aexpr_of rs.now p.now) (first_of nodes.now n) columns }
+    ensures row_after { row.new ≡ row_out (row_found result) (shown_bytes (aexpr_of rs.now p.now)
         (first_of nodes.now n) columns) row.old }
-    ensures low_wholes { LowWholes result (aexpr_of rs.now p.now) (first_of nodes.now n) columns }
+    ensures low_wholes { LowWholes (row_found result) (aexpr_of rs.now p.now) (first_of nodes.now n) columns }
 {
     let mut cells = [0u64; CELLS];
     let mut order = [0u32; 2 * CONJUNCTS];
@@ -98,14 +98,14 @@ pub fn show_lines(
         &mut equals,
     );
     if s.unsat {
-        return ShowAnswer::NoRow;
+        return None;
     }
     let r = propagate_and_resolve(
         index, told, p, &mut cells, marks, &order, &lefts, &rights, s.edges, s.columns,
     );
     if r.unsat {
-        return ShowAnswer::NoRow;
+        return None;
     }
     let nulls = write_places(told, p, &cells, marks, &order, s.columns, columns, row);
-    ShowAnswer::Row(nulls)
+    Some(nulls)
 }

@@ -9,16 +9,16 @@ use lib.ListN.{length}
 use Rattle.checking.specs.Check.{check_answer_in}
 use Rattle.checking.specs.Checked.{Checked}
 use Rattle.checking.specs.Tree.{tree_count}
-use Rattle.checking.specs.declared.check.CheckAnswer.{CheckAnswer}
-use Rattle.checking.specs.declared.check.CheckAnswer.TheVariants as check
+use Rattle.checking.specs.Answer.{CheckAnswer}
+use Rattle.checking.specs.Answer as check
 use Rattle.checking.proofs.Accepted.{checked-in, checked-accepted}
 use Rattle.truth.specs.AExpr.{AExpr}
 use Rattle.truth.specs.FromBytes.{aexpr_at}
 use Rattle.merge.specs.Minterms.{minterms}
 use Rattle.merge.specs.Plain.{plain_screen}
 use Rattle.plain_lines.specs.Refusal.{refusal_if}
-use Rattle.show_row.specs.declared.answer.ShowAnswer.{ShowAnswer}
-use Rattle.show_row.specs.declared.answer.ShowAnswer.TheVariants as show
+use Rattle.show_row.specs.ShowAnswer.{ShowAnswer}
+use Rattle.show_row.specs.ShowAnswer as show
 use Rattle.show_row.specs.Answer.{row_answer, shown_bytes, show_checked, show_if, show_answer}
 use Rattle.show_row.specs.Calls.{screen_bytes}
 use Rattle.symbol_screens.specs.Rewriting.{lent}

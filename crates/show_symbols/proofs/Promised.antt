@@ -22,8 +22,8 @@ use Rattle.masks.proofs.Bits.{mask_bit}
 use Rattle.judge_lines.specs.Lines.{nothing_passes}
 use Rattle.places.specs.Places.{whole_at, half_at, place_key, places_row, places_ok}
 use Rattle.row_shown.specs.Shown.{null_shown}
-use Rattle.show_row.specs.declared.answer.ShowAnswer.{ShowAnswer}
-use Rattle.show_row.specs.declared.answer.ShowAnswer.TheVariants as show
+use Rattle.show_row.specs.ShowAnswer.{ShowAnswer}
+use Rattle.show_row.specs.ShowAnswer as show
 use Rattle.show_row.specs.Answer.{collected_of, shown_nulls, show_answer}
 use Rattle.show_row.specs.Calls.{show_number, nulls_out, ShowPromise}
 use Rattle.show_row.proofs.Reading.{lines-read, entered-have}

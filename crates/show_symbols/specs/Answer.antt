@@ -2,7 +2,7 @@
 -- t is the column table, rs the records, p the pool, text the bytes of the text pool, room the length of the lent row buffer.
 use Rattle.std.specs.Prelude.{List, ℕ}
 use Rattle.checking.specs.Check.{check_answer_in}
-use Rattle.show_row.specs.declared.answer.ShowAnswer.{ShowAnswer}
+use Rattle.show_row.specs.ShowAnswer.{ShowAnswer}
 use Rattle.show_row.specs.Answer.{show_checked, show_if}
 use Rattle.symbol_screens.specs.Rewriting.{lent}
 

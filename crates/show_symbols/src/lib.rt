@@ -38,19 +38,18 @@ fn show_of_numbers(
     ensures promise { ShowPromiseWith text.now table.now records.now
         pool.now used root result row.old row.new nulls.new }
 {
-    let k = plain_numbers(table, records, pool, text, used, root, columns, numbers);
-    if k != 0 {
-        return k;
+    match plain_numbers(table, records, pool, text, used, root, columns, numbers) {
+        Err(r) => r.number(),
+        Ok(()) => show_of_screen(
+            &columns[..table.len()],
+            numbers,
+            pool,
+            used,
+            root,
+            row,
+            nulls,
+        ),
     }
-    show_of_screen(
-        &columns[..table.len()],
-        numbers,
-        pool,
-        used,
-        root,
-        row,
-        nulls,
-    )
 }
 
 // It has two callers, so that its copies stand in a frame of their own, which a screen without symbols does not pay for.

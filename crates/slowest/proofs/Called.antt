@@ -11,8 +11,8 @@ use Rattle.slowest.specs.Answers.{known_count, has_room, slowest_answer, table_w
 use Rattle.slowest.specs.Calls.{slowest_number, built_root, built_used, SlowestPromise}
 use Rattle.slowest.specs.Promise.{TakesAllPasses}
 use Rattle.slowest.specs.Screen.{slowest_table, slowest_bytes, slowest_used, slowest_root}
-use Rattle.slowest.specs.declared.build.SlowestAnswer.{SlowestAnswer}
-use Rattle.slowest.specs.declared.build.SlowestAnswer.TheVariants.{Refused, Built}
+use Rattle.slowest.specs.SlowestAnswer.{SlowestAnswer}
+use Rattle.slowest.specs.SlowestAnswer.{Refused, Built}
 use Rattle.slowest.proofs.Promised.{slowest-takes_all_passes}
 use Rattle.slowest.proofs.Records.{take-front, drop-front, bytes-length}
 use Rattle.slowest.proofs.Writing.{count-known}

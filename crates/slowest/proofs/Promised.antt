@@ -11,7 +11,7 @@ use borrow.Author.Tests.{le-ltb, le-leb}
 use Rattle.checking.specs.Check.{sizes_ok, sizes_ok_in, check_answer}
 use Rattle.checking.specs.Checked.{Checked}
 use Rattle.checking.specs.Tree.{sum_at, tree_count}
-use Rattle.checking.specs.declared.check.CheckAnswer.TheVariants as check
+use Rattle.checking.specs.Answer as check
 use Rattle.checking.proofs.Accepted.{checked-accepted}
 use Rattle.truth.specs.FromBytes.{aexpr_at}
 use Rattle.constraints.specs.Comparisons.{ColumnComparison, IsLower, collect_column_comparisons}

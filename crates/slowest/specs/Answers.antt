@@ -2,8 +2,8 @@
 use Rattle.std.specs.Prelude.{Bool, cond, ◌&&◌, List, ℕ, ◌*◌, ◌/◌, leb}
 use Rattle.merge.specs.Write.{splice}
 use Rattle.slowest.specs.Screen.{slowest_table, slowest_bytes, slowest_used, slowest_root}
-use Rattle.slowest.specs.declared.build.SlowestAnswer.{SlowestAnswer}
-use Rattle.slowest.specs.declared.build.SlowestAnswer.TheVariants.{Refused, Built}
+use Rattle.slowest.specs.SlowestAnswer.{SlowestAnswer}
+use Rattle.slowest.specs.SlowestAnswer.{Refused, Built}
 
 -- 19: 2 to 64 columns
 abbrev pub known_count : ℕ → Bool

@@ -1,8 +1,8 @@
 -- The builder's call: its number and the values of its out-parameters for each answer, and what it promises.
 use Rattle.std.specs.Prelude.{◌≡◌, List, ℕ, ◌*◌, ◌<◌, take, drop}
 use Rattle.slowest.specs.Promise.{TakesAllPasses}
-use Rattle.slowest.specs.declared.build.SlowestAnswer.{SlowestAnswer}
-use Rattle.slowest.specs.declared.build.SlowestAnswer.TheVariants.{Refused, Built}
+use Rattle.slowest.specs.SlowestAnswer.{SlowestAnswer}
+use Rattle.slowest.specs.SlowestAnswer.{Refused, Built}
 
 -- 256: built
 abbrev pub slowest_number : SlowestAnswer → ℕ

@@ -1,3 +1,4 @@
+pub mod SlowestAnswer
 pub mod Screen
 pub mod Answers
 pub mod Promise

@@ -1,7 +1,7 @@
 -- What the screen built is good for (02, 2.13): t is its table, rs records that begin with its own.
 use Rattle.std.specs.Prelude.{◌≡◌, false, List, [], ◌∷◌, ◌++◌, map, ℕ, zero, suc, ◌*◌, ◌-◌, ◌≤◌, length}
 use Rattle.checking.specs.Check.{check_answer}
-use Rattle.checking.specs.declared.check.CheckAnswer.TheVariants as check
+use Rattle.checking.specs.Answer as check
 use Rattle.truth.specs.FromBytes.{aexpr_at}
 use Rattle.constraints.specs.Column.{Constraint}
 use Rattle.merge.specs.Classify.{Conjunct, Bounds, Normalized, Equality, Recorded, NonNullPair, Opaque, read_conjuncts}

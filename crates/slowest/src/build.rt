@@ -1,18 +1,20 @@
 // The table and the records are written from the front; nothing behind them is touched.
 ghost use Rattle.std.specs.Prelude.{◌≡◌, ◌*◌, ◌≤◌, ◌<◌, length};
 ghost use Rattle.merge.specs.Write.{splice};
+ghost use Rattle.slowest.specs.SlowestAnswer.{slowest_answered};
 ghost use Rattle.slowest.specs.Answers.{known_count, has_room, slowest_answer, table_written, records_written};
 ghost use Rattle.slowest.specs.Screen.{slowest_record, slowest_table, slowest_bytes};
 
 use records::operator::Operator;
 use records::record::{Column, Node, Record};
+use refusal::Refusal;
 use rewrite::write::put_record;
 
-/// A refusal with its number, or the root and the used count of the screen built.
+/// The screen built: its root and its used count.
 #[derive(Clone, Copy)]
-pub enum SlowestAnswer {
-    Refused(u32),
-    Built(u64, u64),
+pub struct BuiltScreen {
+    pub root: u64,
+    pub used: u64,
 }
 
 fn known_count(columns: u64) -> bool
@@ -51,10 +53,8 @@ fn write_table(table: &mut [u8], n: usize)
     requires { n ≤ length table.old }
     ensures { table.new ≡ splice table.old 0 (slowest_table n) }
 {
-    let mut i: usize = 0;
-    while i < n {
+    for i in 0..n {
         table[i] = 1;
-        i += 1;
     }
 }
 
@@ -62,26 +62,31 @@ fn write_records(records: &mut [u8], n: u32)
     requires { (n ≤ 64) × (48 * n ≤ length records.old) }
     ensures { records.new ≡ splice records.old 0 (slowest_bytes n) }
 {
-    let mut i: u32 = 0;
-    while i < 3 * n {
+    for i in 0..3 * n {
         put_record(records, Node(i), slowest_record(n, i));
-        i += 1;
     }
 }
 
 /// The screen of so many columns, in the front of `table` and `records`.
-pub fn build_slowest(columns: u64, table: &mut [u8], records: &mut [u8]) -> SlowestAnswer
-    ensures answer { result ≡ slowest_answer columns (length table.old) (length records.old) }
-    ensures table { table.new ≡ table_written result columns table.old }
-    ensures records { records.new ≡ records_written result columns records.old }
+pub fn build_slowest(
+    columns: u64,
+    table: &mut [u8],
+    records: &mut [u8],
+) -> Result<BuiltScreen, Refusal>
+    ensures answer { slowest_answered result ≡ slowest_answer columns (length table.old) (length records.old) }
+    ensures table { table.new ≡ table_written (slowest_answered result) columns table.old }
+    ensures records { records.new ≡ records_written (slowest_answered result) columns records.old }
 {
     if !known_count(columns) {
-        return SlowestAnswer::Refused(19);
+        return Err(Refusal::Columns);
     }
     if !has_room(table.len(), records.len(), columns) {
-        return SlowestAnswer::Refused(11);
+        return Err(Refusal::Room);
     }
     write_table(table, columns as usize);
     write_records(records, columns as u32);
-    SlowestAnswer::Built(3 * columns - 1, 3 * columns)
+    Ok(BuiltScreen {
+        root: 3 * columns - 1,
+        used: 3 * columns,
+    })
 }

@@ -15,8 +15,8 @@ use Rattle.checking.specs.Check.{sizes_ok_in}
 use Rattle.checking.specs.Tree.{tree_count}
 use Rattle.checking.proofs.Accepted.{checked-accepted_in, checked-used_in}
 use Rattle.three_valued.specs.declared.logic.Truth.{Truth}
-use Rattle.row_test.specs.declared.test.RowAnswer.{RowAnswer}
-use Rattle.row_test.specs.declared.test.RowAnswer.TheVariants.{Refused, Tested}
+use Rattle.row_test.specs.Answer.{RowAnswer}
+use Rattle.row_test.specs.Answer.{Refused, Tested}
 use Rattle.masks.specs.Block.{chain_row}
 use Rattle.chain_rows.specs.Chain.{row_at, is_tested}
 use Rattle.chain_rows.specs.Classes.{truth_class, class_of, Judged}

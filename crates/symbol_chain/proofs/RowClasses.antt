@@ -17,8 +17,8 @@ use Rattle.checking.specs.Tree.{tree_count}
 use Rattle.checking.proofs.Accepted.{checked-accepted_in}
 use Rattle.three_valued.specs.declared.logic.Truth.{Truth}
 use Rattle.three_valued.specs.declared.logic.Truth.TheVariants.{False, Unknown, True}
-use Rattle.row_test.specs.declared.test.RowAnswer.{RowAnswer}
-use Rattle.row_test.specs.declared.test.RowAnswer.TheVariants.{Refused, Tested}
+use Rattle.row_test.specs.Answer.{RowAnswer}
+use Rattle.row_test.specs.Answer.{Refused, Tested}
 use Rattle.chain_rows.specs.Chain.{row_at, is_tested}
 use Rattle.chain_rows.specs.Classes.{truth_class, class_of, Judged}
 use Rattle.chain_rows.proofs.Rows.{row-end}

@@ -1,7 +1,7 @@
 -- A chain of rows under a screen with symbols (02, 2.10 and 2.14): as without (chain_rows, Chain), by the row test with the
 -- text pool. t is the column table, rs the records, p the pool, text the bytes of the text pool.
 use Rattle.std.specs.Prelude.{Bool, List, ℕ, eqb, get_or}
-use Rattle.row_test.specs.declared.test.RowAnswer.{RowAnswer}
+use Rattle.row_test.specs.Answer.{RowAnswer}
 use Rattle.chain_rows.specs.Chain.{row_at}
 use Rattle.symbol_rows.specs.RowTestWith.{row_fault_with, test_row_answer_with}
 

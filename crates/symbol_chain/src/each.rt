@@ -47,7 +47,7 @@ fn row_class(
     ensures reduced_2 { Reduced text.now table.now records.now pool.now [] 0 used 0
         out.new }
 {
-    if row_fault_with(table, text, row, nulls) != 0 {
+    if row_fault_with(table, text, row, nulls).is_err() {
         return 3;
     }
     class_of(reduced_truth(table, records, pool, text, used, root, row, nulls, out))
@@ -119,8 +119,7 @@ pub fn judge_each(
         pool.now used root.0 values.now nulls.now) classes.new
         (length nulls.now) }
 {
-    let mut r: usize = 0;
-    while r < nulls.len() {
+    for r in 0..nulls.len() {
         let k = chain_class(
             table, records, pool, text, used, root, values, r, nulls[r], out,
         );
@@ -128,7 +127,6 @@ pub fn judge_each(
             return false;
         }
         classes[r] = k;
-        r += 1;
     }
     true
 }

@@ -30,7 +30,11 @@ fn asks_little(rows: usize, asked: u64) -> bool
 // Whether to test the rows takes less time than to number the symbols of a text of so many bytes, and of all columns.
 fn is_cheap(rows: usize, columns: usize, used: usize, size: usize, asked: u64) -> bool
     requires { (rows ≤ 1024) × (size ≤ 8192) }
+    ensures { result ≡ false → 0 < rows }
 {
+    if rows == 0 {
+        return true;
+    }
     if used <= columns {
         return asks_little(rows, asked);
     }
@@ -40,109 +44,13 @@ fn is_cheap(rows: usize, columns: usize, used: usize, size: usize, asked: u64) -
     asks_little(rows, asked)
 }
 
-// In a short chain.
-fn is_short(rows: usize, columns: usize, used: usize, size: usize, asked: u64) -> bool
-    requires { (rows ≤ 1024) × (size ≤ 8192) }
-    ensures { result ≡ false → 0 < rows }
-{
-    if rows == 0 {
-        return true;
-    }
-    is_cheap(rows, columns, used, size, asked)
-}
-
-// How many values all records ask their lists for.
+// How many values all records ask their lists for. Its marks do not lie below the calls that judge the rows.
+#[inline(never)]
 fn asked(records: &[u8], used: u32) -> u64
     requires { (0 < used) × (used ≤ 4096) × (16 * used ≤ length records.now) }
 {
     let marks = [1u8; 4096];
     asked_values(records, Node(used - 1), &marks, 0)
-}
-
-// A short chain. The tables of `judge_ranked` are large: with one caller it would be a part of it, and they would lie below the calls of
-// `judge_each` too, which are deep.
-fn judge_short(
-    table: &[u8],
-    records: &[u8],
-    pool: &[u8],
-    text: &[u8],
-    used: u32,
-    root: Node,
-    values: &[u8],
-    nulls: &[u64],
-    classes: &mut [u8],
-    out: &mut [u8],
-) -> bool
-    requires checked_in { CheckedIn (lent text.now) table.now records.now pool.now used root.0 }
-    requires root_bound { tree_count records.now root.0 ≤ 4096 }
-    requires used_in_bounds { 16 * used ≤ length out.old }
-    requires reduced { Reduced text.now table.now records.now pool.now [] 0 used 0 out.old }
-    requires values_len { length values.now ≡ 8 * length table.now * length nulls.now }
-    requires nulls_len_bound { length nulls.now ≤ 1024 }
-    requires nulls_in_bounds { length nulls.now ≤ length classes.old }
-    ensures value { result ≡ all (λ i. is_tested (answer_at_with text.now table.now records.now
-        pool.now used root.0 values.now nulls.now i)) (length nulls.now) }
-    ensures judged { result ≡ true → Judged (answer_at_with text.now table.now records.now
-        pool.now used root.0 values.now nulls.now) classes.new
-        (length nulls.now) }
-{
-    if is_short(
-        nulls.len(),
-        table.len(),
-        used as usize,
-        text.len(),
-        asked(records, used),
-    ) {
-        return judge_each(
-            table, records, pool, text, used, root, values, nulls, classes, out,
-        );
-    }
-    judge_ranked(
-        table, records, pool, text, used, root, values, nulls, classes, out,
-    )
-}
-
-// A long one.
-fn judge_long(
-    table: &[u8],
-    records: &[u8],
-    pool: &[u8],
-    text: &[u8],
-    used: u32,
-    root: Node,
-    values: &[u8],
-    nulls: &[u64],
-    classes: &mut [u8],
-    out: &mut [u8],
-) -> bool
-    requires checked_in { CheckedIn (lent text.now) table.now records.now pool.now used root.0 }
-    requires root_bound { tree_count records.now root.0 ≤ 4096 }
-    requires used_in_bounds { 16 * used ≤ length out.old }
-    requires reduced { Reduced text.now table.now records.now pool.now [] 0 used 0 out.old }
-    requires values_len { length values.now ≡ 8 * length table.now * length nulls.now }
-    requires nulls_len_bound { length nulls.now ≤ 1024 }
-    requires nulls_in_bounds { length nulls.now ≤ length classes.old }
-    requires in_bounds { 64 ≤ length nulls.now }
-    ensures value { result ≡ all (λ i. is_tested (answer_at_with text.now table.now records.now
-        pool.now used root.0 values.now nulls.now i)) (length nulls.now) }
-    ensures judged { result ≡ true → Judged (answer_at_with text.now table.now records.now
-        pool.now used root.0 values.now nulls.now) classes.new
-        (length nulls.now) }
-{
-    if is_cheap(
-        nulls.len(),
-        table.len(),
-        used as usize,
-        text.len(),
-        asked(records, used),
-    ) {
-        return judge_each(
-            table, records, pool, text, used, root, values, nulls, classes, out,
-        );
-    }
-    judge_ranked(
-        table, records, pool, text, used, root, values, nulls, classes, out,
-    )
 }
 
 /// Every row's class, 0 false, 1 unknown, 2 passes; false if a row is refused (13). `out` holds the records.
@@ -171,12 +79,18 @@ pub fn judge_symbols(
         pool.now used root.0 values.now nulls.now) classes.new
         (length nulls.now) }
 {
-    if nulls.len() < 64 {
-        return judge_short(
+    if is_cheap(
+        nulls.len(),
+        table.len(),
+        used as usize,
+        text.len(),
+        asked(records, used),
+    ) {
+        return judge_each(
             table, records, pool, text, used, root, values, nulls, classes, out,
         );
     }
-    judge_long(
+    judge_ranked(
         table, records, pool, text, used, root, values, nulls, classes, out,
     )
 }

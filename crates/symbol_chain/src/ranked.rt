@@ -1,6 +1,7 @@
 // The classes by the numbers of the rows' symbols (crate ranked_chain): all rows are looked at (13) before the first is judged.
 ghost use Rattle.std.specs.Prelude.{◌≡◌, true, [], ℕ, ◌+◌, ◌*◌, ◌≤◌, ◌<◌, length};
 ghost use Rattle.records.specs.Bytes.{all};
+ghost use Rattle.refusal.specs.Numbers.{fault};
 ghost use Rattle.checking.specs.Checked.{CheckedIn};
 ghost use Rattle.checking.specs.Tree.{tree_count};
 ghost use Rattle.chain_rows.specs.Chain.{row_at, is_tested};
@@ -14,15 +15,22 @@ ghost use Rattle.symbol_chain.specs.ChainWith.{answer_at_with, row_fits_with};
 use crate::each::judge_each;
 use ranked_chain::screen::rank_chain;
 use records::record::Node;
+use refusal::Refusal;
 use row_chunks::judge_chunks;
 use symbol_row_fault::row_fault_with;
 use text_order::making::number_text;
 
 // Of row r of the chain.
-fn chain_fault(table: &[u8], text: &[u8], values: &[u8], r: usize, nulls: u64) -> u32
+fn chain_fault(
+    table: &[u8],
+    text: &[u8],
+    values: &[u8],
+    r: usize,
+    nulls: u64,
+) -> Result<(), Refusal>
     requires table_len_bound { (length table.now ≤ 64) × (length text.now ≤ 8192) × (r < 1024) }
     requires table_in_bounds { 8 * length table.now * r + 8 * length table.now ≤ length values.now }
-    ensures { result ≡ row_fault_with text.now table.now (row_at table.now values.now r)
+    ensures { fault result ≡ row_fault_with text.now table.now (row_at table.now values.now r)
         nulls }
 {
     let wide = 8 * table.len();
@@ -38,12 +46,10 @@ fn rows_fit_with(table: &[u8], text: &[u8], values: &[u8], nulls: &[u64]) -> boo
     ensures { result ≡ all (row_fits_with text.now table.now values.now nulls.now)
         (length nulls.now) }
 {
-    let mut r: usize = 0;
-    while r < nulls.len() {
-        if chain_fault(table, text, values, r, nulls[r]) != 0 {
+    for r in 0..nulls.len() {
+        if chain_fault(table, text, values, r, nulls[r]).is_err() {
             return false;
         }
-        r += 1;
     }
     true
 }
@@ -83,6 +89,8 @@ fn judge_numbers(
 }
 
 /// Every row's class, 0 false, 1 unknown, 2 passes; false if a row is refused (13). `out` is overwritten.
+// Its tables are large: inlined, they would lie below the calls of `judge_each` too, which are deep.
+#[inline(never)]
 pub fn judge_ranked(
     table: &[u8],
     records: &[u8],

@@ -16,8 +16,8 @@ use Rattle.records.specs.Shape.{length_of, in_pool}
 use Rattle.checking.specs.Checked.{CheckedIn}
 use Rattle.truth.specs.Halves.{ord_z, twice, key}
 use Rattle.truth.specs.Order.{View, equal_view, greater_view, less_view, is_equal}
-use Rattle.truth.specs.declared.scalar.Ordering.{Ordering}
-use Rattle.truth.specs.declared.scalar.Ordering.TheVariants.{Equal}
+use Rattle.std.specs.declared.cmp.Ordering.{Ordering}
+use Rattle.std.specs.declared.cmp.Ordering.TheVariants.{Equal}
 use Rattle.truth.proofs.Orders.{total-z, cmp-refl}
 use Rattle.truth.specs.AExpr.{AExpr}
 use Rattle.truth.specs.FromBytes.{aexpr_at}

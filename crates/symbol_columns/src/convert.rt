@@ -89,11 +89,9 @@ pub fn to_literals(t: &[u8], rs: &[u8], nodes: &[u32], cells: &mut [u64])
         (literal_table t.now (aexpr_of rs.now p) nodes.now T) }
     ensures cells_len_unchanged { length cells.new ≡ length cells.old }
 {
-    let mut x: usize = 0;
-    while x < t.len() {
+    for x in 0..t.len() {
         let c = load(cells, x);
         let d = typed_column(rs, nodes, c, t[x]);
         store(cells, x, d);
-        x += 1;
     }
 }

@@ -14,8 +14,8 @@ use Rattle.records.proofs.Loops.{all_holds}
 use Rattle.checking.specs.Check.{check_answer_in}
 use Rattle.checking.specs.Checked.{CheckedIn}
 use Rattle.checking.specs.Tree.{tree_count}
-use Rattle.checking.specs.declared.check.CheckAnswer.{CheckAnswer}
-use Rattle.checking.specs.declared.check.CheckAnswer.TheVariants as check
+use Rattle.checking.specs.Answer.{CheckAnswer}
+use Rattle.checking.specs.Answer as check
 use Rattle.checking.proofs.Accepted.{checked-in}
 use Rattle.truth.specs.FromBytes.{aexpr_at, truth_keys}
 use Rattle.constraints.specs.Comparisons.{ColumnComparison}

@@ -1,13 +1,13 @@
 -- Bytes none of which is 4 are those of a screen without Text.
-use mathlib.Core.Path.{◌≡◌, sym, ◌∙◌}
-use mathlib.Core.Bool.{Bool, true, false, not}
+use mathlib.Core.Path.{◌≡◌}
+use mathlib.Core.Bool.{true, not}
 use mathlib.Core.List.{List}
-use Prim.Native.Nat.{ℕ, ◌+◌, ◌*◌, ◌<◌}
+use Prim.Native.Nat.{ℕ, ◌+◌, ◌*◌}
 use lib.Dec.{eqb}
 use lib.ListN.{length, get_or}
-use borrow.Author.Tests.{not-true, not-false}
+use borrow.Author.Tests.{not-true}
 use Rattle.records.specs.Bytes.{all}
-use Rattle.records.specs.Record.{node, fields_at}
+use Rattle.records.specs.Record.{fields_at}
 use Rattle.records.proofs.Loops.{all_holds}
 use Rattle.symbol_screens.proofs.NumbersChecked.{NoText}
 

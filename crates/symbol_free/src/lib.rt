@@ -9,14 +9,7 @@ ghost use Rattle.symbol_screens.proofs.NumbersChecked.{NoText};
 fn no_text_column(t: &[u8]) -> bool
     ensures { result ≡ all (λ (k : ℕ). not (eqb (get_or t.now k 0) 4)) (length t.now) }
 {
-    let mut k: usize = 0;
-    while k < t.len() {
-        if t[k] == 4 {
-            return false;
-        }
-        k += 1;
-    }
-    true
+    t.iter().all(|ty| *ty != 4)
 }
 
 // Byte 2 of a record is its type, 0 where it has none.
@@ -25,14 +18,7 @@ fn no_text_record(rs: &[u8], used: usize) -> bool
     requires used_bound { used ≤ 4096 }
     ensures { result ≡ all (λ (k : ℕ). not (eqb (get_or rs.now (16 * k + 2) 0) 4)) used }
 {
-    let mut k: usize = 0;
-    while k < used {
-        if rs[16 * k + 2] == 4 {
-            return false;
-        }
-        k += 1;
-    }
-    true
+    (0..used).all(|k| rs[16 * k + 2] != 4)
 }
 
 /// Never false where a column or a used record is a Text. It may be true of a screen that checking refuses.

@@ -10,10 +10,10 @@ use borrow.Author.Tests.{lt-ltb, le-ltb, le-leb, lt-leb, eq-eqb, ne_eqb}
 use Rattle.records.specs.Bytes.{all}
 use Rattle.checking.specs.Check.{check_answer_in}
 use Rattle.checking.specs.Tree.{tree_count}
-use Rattle.checking.specs.declared.check.CheckAnswer.TheVariants as check
+use Rattle.checking.specs.Answer as check
 use Rattle.tally.specs.declared.Tally.{Tally}
-use Rattle.hedge.specs.declared.list.HedgeAnswer.{HedgeAnswer}
-use Rattle.hedge.specs.declared.list.HedgeAnswer.TheVariants.{Refused}
+use Rattle.hedge.specs.Answer.{HedgeAnswer}
+use Rattle.hedge.specs.Answer.{Refused}
 use Rattle.chain_rows.specs.Chain.{is_tested}
 use Rattle.hedge.specs.Hedge.{counts_answer, rows_answer, room_ok, list_if}
 use Rattle.symbol_screens.specs.Rewriting.{lent}

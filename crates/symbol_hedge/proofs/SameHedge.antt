@@ -10,10 +10,10 @@ use borrow.Author.Tests.{le-leb}
 use Rattle.checking.specs.Check.{check_answer, check_answer_in}
 use Rattle.checking.specs.Tree.{tree_count}
 use Rattle.tally.specs.declared.Tally.{Tally}
-use Rattle.row_test.specs.declared.test.RowAnswer.{RowAnswer}
+use Rattle.row_test.specs.Answer.{RowAnswer}
 use Rattle.chain_rows.specs.Chain.{row_at, answer_at}
-use Rattle.hedge.specs.declared.list.HedgeAnswer.{HedgeAnswer}
-use Rattle.hedge.specs.declared.list.HedgeAnswer.TheVariants.{Refused}
+use Rattle.hedge.specs.Answer.{HedgeAnswer}
+use Rattle.hedge.specs.Answer.{Refused}
 use Rattle.hedge.specs.Hedge.{rows_answer, room_ok, checked_answer, answer_if, list_if, hedge_answer, hedge_bytes}
 use Rattle.symbol_screens.specs.Rewriting.{lent}
 use Rattle.symbol_screens.proofs.NumbersChecked.{NoText, check-same}

@@ -4,8 +4,8 @@ use Rattle.std.specs.Prelude.{cond, List, ℕ, ◌*◌, ltb, eqb, length}
 use Rattle.checking.specs.Check.{check_answer_in}
 use Rattle.checking.specs.Tree.{tree_count}
 use Rattle.tally.specs.declared.Tally.{Tally}
-use Rattle.hedge.specs.declared.list.HedgeAnswer.{HedgeAnswer}
-use Rattle.hedge.specs.declared.list.HedgeAnswer.TheVariants.{Refused}
+use Rattle.hedge.specs.Answer.{HedgeAnswer}
+use Rattle.hedge.specs.Answer.{Refused}
 use Rattle.hedge.specs.Hedge.{rows_answer, room_ok, answer_if, list_if}
 use Rattle.symbol_screens.specs.Rewriting.{lent}
 use Rattle.symbol_chain.specs.ChainWith.{answer_at_with}

@@ -5,16 +5,17 @@
 ghost use Rattle.std.specs.Prelude.{◌≡◌, ◌*◌, ◌≤◌, min, length};
 ghost use Rattle.checking.specs.Checked.{CheckedIn};
 ghost use Rattle.checking.specs.Tree.{tree_count};
+ghost use Rattle.hedge.specs.Answer.{hedge_answered};
 ghost use Rattle.hedge.specs.Hedge.{list_if};
 ghost use Rattle.symbol_screens.specs.Rewriting.{lent};
 ghost use Rattle.symbol_chain.specs.ChainWith.{answer_at_with};
 ghost use Rattle.symbol_hedge.specs.HedgeWith.{checked_hedge_with, hedge_answer_with, hedge_bytes_with};
 
 use check_lent::check_lent_counted;
-use checking::check::CheckAnswer;
-use hedge::list::{HedgeAnswer, hedge_list, list_rows};
+use hedge::list::{ListedRows, hedge_list, list_rows};
 use limits::{RECORD, RECORDS, ROWS};
 use records::record::Node;
+use refusal::Refusal;
 use symbol_chain::judge_symbols;
 use symbol_free::has_symbols;
 use symbol_reduction::reduce::copy_front;
@@ -35,34 +36,34 @@ fn list_checked_with(
     tally: Tally,
     classes: &mut [u8],
     out: &mut [u8],
-) -> HedgeAnswer
+) -> Result<ListedRows, Refusal>
     requires checked_in { CheckedIn (lent text.now) table.now records.now pool.now used root.0 }
     requires tree_value { tree ≡ min (tree_count records.now root.0) 4097 }
     requires in_bounds { 1024 ≤ length classes.old }
     requires used_in_bounds { 16 * used ≤ length out.old }
-    ensures value { result ≡ checked_hedge_with text.now table.now records.now pool.now
+    ensures value { hedge_answered result ≡ checked_hedge_with text.now table.now records.now pool.now
         used root.0 values.now nulls.now (length list.old) tally }
-    ensures list_after { list.new ≡ list_if result list.old (answer_at_with text.now table.now
+    ensures list_after { list.new ≡ list_if (hedge_answered result) list.old (answer_at_with text.now table.now
         records.now pool.now used root.0 values.now nulls.now)
         (length nulls.now) }
 {
     if 4096 < tree {
-        return HedgeAnswer::Refused(8);
+        return Err(Refusal::Tree);
     }
     if 1024 < nulls.len() {
-        return HedgeAnswer::Refused(20);
+        return Err(Refusal::Chain);
     }
     if list.len() / 2 < nulls.len() {
-        return HedgeAnswer::Refused(20);
+        return Err(Refusal::Chain);
     }
     if values.len() != 8 * table.len() * nulls.len() {
-        return HedgeAnswer::Refused(12);
+        return Err(Refusal::RowLength);
     }
     copy_front(records, 16 * (used as usize), out);
     if !judge_symbols(
         table, records, pool, text, used, root, values, nulls, classes, out,
     ) {
-        return HedgeAnswer::Refused(13);
+        return Err(Refusal::Row);
     }
     list_rows(classes, nulls.len(), list, tally)
 }
@@ -82,35 +83,32 @@ fn list_within_with(
     trees: &mut [u16],
     classes: &mut [u8],
     out: &mut [u8],
-) -> HedgeAnswer
+) -> Result<ListedRows, Refusal>
     requires used_in_bounds { used ≤ 4096 → used ≤ length types.old }
     requires used_in_bounds_2 { used ≤ 4096 → used ≤ length trees.old }
     requires in_bounds { 1024 ≤ length classes.old }
     requires used_in_bounds_3 { used ≤ 4096 → 16 * used ≤ length out.old }
-    ensures value { result ≡ hedge_answer_with text.now table.now records.now pool.now
+    ensures value { hedge_answered result ≡ hedge_answer_with text.now table.now records.now pool.now
         used root values.now nulls.now (length list.old) tally }
     ensures list_after { list.new ≡ hedge_bytes_with text.now table.now records.now
         pool.now used root values.now nulls.now list.old tally }
 {
-    let answer = check_lent_counted(table, records, pool, text.len(), used, root, types, trees);
-    match answer {
-        CheckAnswer::Refused(number) => HedgeAnswer::Refused(number),
-        CheckAnswer::Accepted => list_checked_with(
-            table,
-            records,
-            pool,
-            text,
-            used as u32,
-            Node(root as u32),
-            trees[root as usize],
-            values,
-            nulls,
-            list,
-            tally,
-            classes,
-            out,
-        ),
-    }
+    check_lent_counted(table, records, pool, text.len(), used, root, types, trees)?;
+    list_checked_with(
+        table,
+        records,
+        pool,
+        text,
+        used as u32,
+        Node(root as u32),
+        trees[root as usize],
+        values,
+        nulls,
+        list,
+        tally,
+        classes,
+        out,
+    )
 }
 
 fn hedge_symbols(
@@ -124,8 +122,8 @@ fn hedge_symbols(
     nulls: &[u64],
     list: &mut [u8],
     tally: Tally,
-) -> HedgeAnswer
-    ensures value { result ≡ hedge_answer_with text.now table.now records.now pool.now
+) -> Result<ListedRows, Refusal>
+    ensures value { hedge_answered result ≡ hedge_answer_with text.now table.now records.now pool.now
         used root values.now nulls.now (length list.old) tally }
     ensures list_after { list.new ≡ hedge_bytes_with text.now table.now records.now
         pool.now used root values.now nulls.now list.old tally }
@@ -164,8 +162,8 @@ pub fn hedge_list_with(
     nulls: &[u64],
     list: &mut [u8],
     tally: Tally,
-) -> HedgeAnswer
-    ensures value { result ≡ hedge_answer_with text.now table.now records.now pool.now
+) -> Result<ListedRows, Refusal>
+    ensures value { hedge_answered result ≡ hedge_answer_with text.now table.now records.now pool.now
         used root values.now nulls.now (length list.old) tally }
     ensures list_after { list.new ≡ hedge_bytes_with text.now table.now records.now
         pool.now used root values.now nulls.now list.old tally }

@@ -11,7 +11,7 @@ use borrow.Author.Tests.{le-ltb}
 use Rattle.checking.specs.Check.{check_answer_in}
 use Rattle.checking.specs.Checked.{CheckedIn}
 use Rattle.checking.specs.Tree.{tree_count}
-use Rattle.checking.specs.declared.check.CheckAnswer.TheVariants as check
+use Rattle.checking.specs.Answer as check
 use Rattle.checking.proofs.Accepted.{checked-in}
 use Rattle.truth.specs.Halves.{ord_z, key}
 use Rattle.truth.proofs.Agree.{used-same}

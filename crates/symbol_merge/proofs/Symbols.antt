@@ -6,7 +6,7 @@ use lib.ListN.{length, get_or}
 use Rattle.checking.specs.Check.{check_answer_in}
 use Rattle.checking.specs.Checked.{CheckedIn}
 use Rattle.checking.specs.Tree.{tree_count}
-use Rattle.checking.specs.declared.check.CheckAnswer.TheVariants as check
+use Rattle.checking.specs.Answer as check
 use Rattle.checking.proofs.Accepted.{checked-in}
 use Rattle.truth.specs.FromBytes.{aexpr_of}
 use Rattle.constraints.specs.Payload.{payload}

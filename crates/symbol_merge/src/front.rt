@@ -9,12 +9,10 @@ pub fn exchange_front(rs: &mut [u8], src: &mut [u8], size: usize)
     ensures rs_after { rs.new ≡ fronted size src.old rs.old }
     ensures src_after { src.new ≡ fronted size rs.old src.old }
 {
-    let mut i: usize = 0;
-    while i < size {
+    for i in 0..size {
         let b = rs[i];
         rs[i] = src[i];
         src[i] = b;
-        i += 1;
     }
 }
 
@@ -23,10 +21,8 @@ pub fn put_front(rs: &mut [u8], src: &[u8], size: usize)
     requires { (size ≤ length rs.old) × (size ≤ length src.now) }
     ensures { rs.new ≡ fronted size src.now rs.old }
 {
-    let mut i: usize = 0;
-    while i < size {
+    for i in 0..size {
         rs[i] = src[i];
-        i += 1;
     }
 }
 
@@ -37,9 +33,7 @@ pub fn take_kinds(told: &[u64], n: usize, bits: &mut [u64])
     ensures bits_after { kinds_in bits.new ≡ kinds_in told.now }
     ensures bits_unchanged { values_in bits.new ≡ values_in bits.old }
 {
-    let mut j: usize = 0;
-    while j < n {
+    for j in 0..n {
         bits[2 * j + 1] = told[2 * j + 1];
-        j += 1;
     }
 }

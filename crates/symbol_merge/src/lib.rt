@@ -5,7 +5,7 @@
 ghost use Rattle.std.specs.Prelude.{◌≡◌, List, map, ℕ, ◌*◌, ◌<◌, ◌≤◌, min, length, get_or};
 ghost use Rattle.checking.specs.Check.{check_answer_in};
 ghost use Rattle.checking.specs.Tree.{tree_count};
-ghost use Rattle.checking.specs.declared.check.CheckAnswer.TheVariants as check;
+ghost use Rattle.checking.specs.Answer as check;
 ghost use Rattle.truth.specs.FromBytes.{aexpr_of};
 ghost use Rattle.constraints.specs.Payload.{payload};
 ghost use Rattle.column_constraints.specs.Abstraction.{conjuncts, kinds_in, values_in};

@@ -2,13 +2,14 @@
 #![tactic(auto)]
 
 ghost use Rattle.std.specs.Prelude.{◌≡◌};
+ghost use Rattle.checking.specs.ReadAnswer.{columns_answered};
 ghost use Rattle.symbol_screens.specs.Rewriting.{lent};
 ghost use Rattle.symbol_rows.specs.ColumnsWith.{columns_answer_in};
 
 use check_lent::check_lent;
-use checking::check::CheckAnswer;
-use checking::reads::{ColumnsAnswer, columns_word};
+use checking::reads::{ColumnsRead, columns_word};
 use records::record::Node;
+use refusal::Refusal;
 
 /// The columns that the root reaches.
 pub fn columns_read_with(
@@ -18,15 +19,14 @@ pub fn columns_read_with(
     text: &[u8],
     used: u64,
     root: u64,
-) -> ColumnsAnswer
-    ensures { result ≡ columns_answer_in (lent text.now) t.now rs.now p.now used
+) -> Result<ColumnsRead, Refusal>
+    ensures { columns_answered result ≡ columns_answer_in (lent text.now) t.now rs.now p.now used
         root }
 {
-    match check_lent(t, rs, p, text.len(), used, root) {
-        CheckAnswer::Refused(k) => ColumnsAnswer::Refused(k),
-        CheckAnswer::Accepted => {
-            let word = columns_word(rs, Node(root as u32));
-            ColumnsAnswer::Read(word, u64::count_ones(word) as u64)
-        }
-    }
+    check_lent(t, rs, p, text.len(), used, root)?;
+    let word = columns_word(rs, Node(root as u32));
+    Ok(ColumnsRead {
+        word,
+        count: u64::count_ones(word) as u64,
+    })
 }

@@ -44,12 +44,7 @@ pub fn copy_front(records: &[u8], count: usize, out: &mut [u8])
     requires count_in_bounds_2 { count ≤ length out.old }
     ensures { Copied records.now out.new count }
 {
-    let mut i: usize = 0;
-    while i < count {
-        let b = records[i];
-        out[i] = b;
-        i += 1;
-    }
+    out[..count].copy_from_slice(&records[..count]);
 }
 
 fn reduce_record(
@@ -95,10 +90,8 @@ fn reduce(
     ensures { Reduced text.now table.now records.now pool.now
         row.now nulls used used out.new }
 {
-    let mut i: u32 = 0;
-    while i < used {
+    for i in 0..used {
         reduce_record(table, records, pool, text, used, row, nulls, Node(i), out);
-        i += 1;
     }
 }
 

@@ -3,10 +3,12 @@
 #![tactic(auto)]
 
 ghost use Rattle.std.specs.Prelude.{◌≡◌, ◌*◌, ◌≤◌, length};
-ghost use Rattle.row_test.specs.RowTest.{marks_ok};
+ghost use Rattle.refusal.specs.Numbers.{fault};
 ghost use Rattle.symbol_rows.specs.RowTestWith.{column_ok_with, columns_ok_with, row_fault_with};
 
 use records::bytes::value_in;
+use refusal::Refusal;
+use row_test::row::marks_ok;
 use truth::read::null_marked;
 use value_types::in_type;
 
@@ -24,42 +26,26 @@ fn columns_ok(lent: u32, table: &[u8], row: &[u8], nulls: u64) -> bool
     requires row_len { length row.now ≡ 8 * length table.now }
     ensures { result ≡ columns_ok_with lent table.now row.now nulls }
 {
-    let mut c: usize = 0;
-    while c < table.len() {
+    (0..table.len()).all(|c| {
         let null = null_marked(nulls, c as u32);
-        if !column_ok(lent, table[c], null, value_in(row, c)) {
-            return false;
-        }
-        c += 1;
-    }
-    true
+        column_ok(lent, table[c], null, value_in(row, c))
+    })
 }
 
-// With 64 columns no mark is too high.
-fn marks_ok(count: usize, nulls: u64) -> bool
-    requires { count ≤ 64 }
-    ensures { result ≡ marks_ok count nulls }
-{
-    if count == 64 {
-        return true;
-    }
-    nulls >> (count as u32) == 0
-}
-
-/// 12, 13, or 0 for no fault.
-pub fn row_fault_with(table: &[u8], text: &[u8], row: &[u8], nulls: u64) -> u32
+/// 12 and 13.
+pub fn row_fault_with(table: &[u8], text: &[u8], row: &[u8], nulls: u64) -> Result<(), Refusal>
     requires table_len_bound { length table.now ≤ 64 }
     requires text_len_bound { length text.now ≤ 8192 }
-    ensures { result ≡ row_fault_with text.now table.now row.now nulls }
+    ensures { fault result ≡ row_fault_with text.now table.now row.now nulls }
 {
     if row.len() != 8 * table.len() {
-        return 12;
+        return Err(Refusal::RowLength);
     }
     if !marks_ok(table.len(), nulls) {
-        return 13;
+        return Err(Refusal::Row);
     }
     if !columns_ok(text.len() as u32 + 1, table, row, nulls) {
-        return 13;
+        return Err(Refusal::Row);
     }
-    0
+    Ok(())
 }

@@ -12,19 +12,13 @@ use Rattle.checking.specs.Check.{table_ok_in, sizes_ok_in, types_known_in}
 use Rattle.checking.specs.Checked.{CheckedIn}
 use Rattle.checking.specs.Tree.{tree_count}
 use Rattle.three_valued.specs.declared.logic.Truth.{Truth}
-use Rattle.row_test.specs.declared.test.RowAnswer.{RowAnswer}
-use Rattle.row_test.specs.declared.test.RowAnswer.TheVariants.{Refused, Tested}
+use Rattle.row_test.specs.Answer.{RowAnswer}
+use Rattle.row_test.specs.Answer.{Refused, Tested}
+use Rattle.row_test.proofs.Answers.{over, within}
 use Rattle.symbol_screens.specs.Reading.{held_at}
 use Rattle.symbol_screens.specs.Rewriting.{lent}
 use Rattle.symbol_screens.specs.Rows.{row_keys_with, truth_with}
 use Rattle.symbol_rows.specs.RowTestWith.{row_fault_with, checked_answer_with}
-
--- what the count that stops at 4,097 says of the count
-over : (x c : ℕ) → c ≡ min x 4097 → 4096 < c → 4096 < x
-over x c e h = omega arith
-
-within : (x c : ℕ) → c ≡ min x 4097 → c ≤ 4096 → x ≤ 4096
-within x c e h = omega arith
 
 module _ (text t rs p : List ℕ) (used root : ℕ) (ok : CheckedIn (lent text) t rs p used root) where
   pub columns-small : length t ≤ 64

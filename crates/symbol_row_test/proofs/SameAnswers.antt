@@ -15,12 +15,12 @@ use Rattle.records.specs.Record.{node, fields_at, record_at}
 use Rattle.checking.specs.Tree.{tree_count}
 use Rattle.checking.specs.Check.{check_answer}
 use Rattle.checking.specs.Fault.{Stands}
-use Rattle.checking.specs.declared.check.CheckAnswer.{CheckAnswer}
-use Rattle.checking.specs.declared.check.CheckAnswer.TheVariants as check
+use Rattle.checking.specs.Answer.{CheckAnswer}
+use Rattle.checking.specs.Answer as check
 use Rattle.checking.proofs.Standing.{all_same, typed-same}
 use Rattle.check_lent.proofs.Lent.{accepted-free}
-use Rattle.row_test.specs.declared.test.RowAnswer.{RowAnswer}
-use Rattle.row_test.specs.declared.test.RowAnswer.TheVariants.{Refused, Tested}
+use Rattle.row_test.specs.Answer.{RowAnswer}
+use Rattle.row_test.specs.Answer.{Refused, Tested}
 use Rattle.row_test.specs.RowTest.{column_ok, columns_ok, marks_ok, row_fault, checked_answer, answer_if, test_row_answer}
 use Rattle.truth.specs.FromBytes.{aexpr_at, null_marked, row_keys, truth_in}
 use Rattle.truth.proofs.Keys.{lt-or_le}
@@ -75,13 +75,6 @@ module _ (text t rs p row : List ℕ) (nulls used root : ℕ) (short : length te
       (cond (eqb (fault_same i) 0) (Tested (truth-same i)) (Refused (fault_same i)))))
 
 -- ---- An answer that stands.
-abbrev refusal : RowAnswer → ℕ
-refusal (Refused k) = k
-refusal (Tested t) = 1
-
-pub refusal_zero : (a : RowAnswer) (k : ℕ) → a ≡ Refused k → a ≡ Refused 0 → k ≡ 0
-refusal_zero a k e q = ap refusal (sym e ∙ q)
-
 refused-same : (text t rs p row : List ℕ) (nulls used root n : ℕ) → length text ≤ 8192 → Stands t rs p used root
     → check_answer t rs p used root ≡ check.Refused n
     → test_row_answer t rs p used root row nulls ≡ test_row_answer_with text t rs p used root row nulls
@@ -89,11 +82,11 @@ unfolding test_row_answer test_row_answer_with
 refused-same text t rs p row nulls used root n short h e = rw (h (lent text) (omega (arith, short)) ∙ e, e)
 
 pub stands_alike : (text t rs p row : List ℕ) (nulls used root : ℕ) (a : RowAnswer)
-    → ((a ≡ Refused 0 → ⊥) → Stands t rs p used root × (a ≡ test_row_answer t rs p used root row nulls))
-    → (length text ≤ 8192) × (a ≡ Refused 0 → ⊥) → a ≡ test_row_answer_with text t rs p used root row nulls
-stands_alike text t rs p row nulls used root a e h = (e h.1).1 ∙ go (check_answer t rs p used root) refl
+    → Stands t rs p used root × (a ≡ test_row_answer t rs p used root row nulls)
+    → length text ≤ 8192 → a ≡ test_row_answer_with text t rs p used root row nulls
+stands_alike text t rs p row nulls used root a e h = e.1 ∙ go (check_answer t rs p used root) refl
   where
     go : (b : CheckAnswer) → check_answer t rs p used root ≡ b
         → test_row_answer t rs p used root row nulls ≡ test_row_answer_with text t rs p used root row nulls
-    go (check.Refused n) k = refused-same text t rs p row nulls used root n h.0 (e h.1).0 k
-    go check.Accepted k = same_answer text t rs p row nulls used root h.0 (accepted-free t rs p used root k)
+    go (check.Refused n) k = refused-same text t rs p row nulls used root n h e.0 k
+    go check.Accepted k = same_answer text t rs p row nulls used root h (accepted-free t rs p used root k)

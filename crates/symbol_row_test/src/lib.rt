@@ -2,20 +2,21 @@
 //! with symbols by the row's reduction (crate `symbol_reduction`).
 #![tactic(auto)]
 
-ghost use Rattle.std.specs.Prelude.{◌≡◌, true, ◌*◌, ◌≤◌, min, length};
+ghost use Rattle.std.specs.Prelude.{◌≡◌, ◌*◌, ◌≤◌, min, length};
 ghost use Rattle.checking.specs.Checked.{CheckedIn};
 ghost use Rattle.checking.specs.Tree.{tree_count};
-ghost use Rattle.row_test.specs.declared.test.RowAnswer.TheVariants.{Refused};
+ghost use Rattle.row_test.specs.Answer.{row_answered};
 ghost use Rattle.symbol_screens.specs.Rewriting.{lent};
 ghost use Rattle.symbol_rows.specs.RowTestWith.{checked_answer_with, test_row_answer_with};
 
 use check_lent::check_lent_counted;
-use checking::check::CheckAnswer;
 use limits::{FEW_RECORDS, RECORD, RECORDS};
 use records::record::Node;
-use row_test::test::{RowAnswer, test_row};
+use refusal::Refusal;
+use row_test::test::test_row;
 use symbol_reduction::reduce::{copy_front, reduced_truth};
 use symbol_row_fault::row_fault_with;
+use three_valued::logic::Truth;
 
 // The answer for a screen that was accepted and whose root has the tree count: 8, 12 and 13, then the truth.
 #[tactic(auto, using(crate::proofs::AnswersWith::large_refused))]
@@ -30,22 +31,19 @@ fn test_checked_with(
     nulls: u64,
     tree: u16,
     out: &mut [u8],
-) -> RowAnswer
+) -> Result<Truth, Refusal>
     requires checked_in { CheckedIn (lent text.now) table.now records.now pool.now used root.0 }
     requires tree_value { tree ≡ min (tree_count records.now root.0) 4097 }
     requires used_in_bounds { 16 * used ≤ length out.old }
-    ensures { result ≡ checked_answer_with text.now table.now records.now
+    ensures { row_answered result ≡ checked_answer_with text.now table.now records.now
         pool.now used root.0 row.now nulls }
 {
     if 4096 < tree {
-        return RowAnswer::Refused(8);
+        return Err(Refusal::Tree);
     }
-    let fault = row_fault_with(table, text, row, nulls);
-    if fault != 0 {
-        return RowAnswer::Refused(fault);
-    }
+    row_fault_with(table, text, row, nulls)?;
     copy_front(records, 16 * (used as usize), out);
-    RowAnswer::Tested(reduced_truth(table, records, pool, text, used, root, row, nulls, out))
+    Ok(reduced_truth(table, records, pool, text, used, root, row, nulls, out))
 }
 
 // The copy of the records that the reduction works in. Its frame stays below that of a function with two callers, so that a
@@ -60,10 +58,10 @@ fn test_accepted(
     row: &[u8],
     nulls: u64,
     tree: u16,
-) -> RowAnswer
+) -> Result<Truth, Refusal>
     requires checked_in { CheckedIn (lent text.now) table.now records.now pool.now used root.0 }
     requires tree_value { tree ≡ min (tree_count records.now root.0) 4097 }
-    ensures { result ≡ checked_answer_with text.now table.now records.now
+    ensures { row_answered result ≡ checked_answer_with text.now table.now records.now
         pool.now used root.0 row.now nulls }
 {
     if used <= 64 {
@@ -89,27 +87,24 @@ fn test_within(
     nulls: u64,
     types: &mut [u8],
     trees: &mut [u16],
-) -> RowAnswer
+) -> Result<Truth, Refusal>
     requires used_in_bounds { used ≤ 4096 → used ≤ length types.old }
     requires used_in_bounds_2 { used ≤ 4096 → used ≤ length trees.old }
-    ensures { result ≡ test_row_answer_with text.now table.now records.now
+    ensures { row_answered result ≡ test_row_answer_with text.now table.now records.now
         pool.now used root row.now nulls }
 {
-    let answer = check_lent_counted(table, records, pool, text.len(), used, root, types, trees);
-    match answer {
-        CheckAnswer::Refused(number) => RowAnswer::Refused(number),
-        CheckAnswer::Accepted => test_accepted(
-            table,
-            records,
-            pool,
-            text,
-            used as u32,
-            Node(root as u32),
-            row,
-            nulls,
-            trees[root as usize],
-        ),
-    }
+    check_lent_counted(table, records, pool, text.len(), used, root, types, trees)?;
+    test_accepted(
+        table,
+        records,
+        pool,
+        text,
+        used as u32,
+        Node(root as u32),
+        row,
+        nulls,
+        trees[root as usize],
+    )
 }
 
 // Most screens have few records, and small tables cost less to clear.
@@ -122,8 +117,8 @@ fn test_symbols(
     root: u64,
     row: &[u8],
     nulls: u64,
-) -> RowAnswer
-    ensures { result ≡ test_row_answer_with text.now table.now records.now
+) -> Result<Truth, Refusal>
+    ensures { row_answered result ≡ test_row_answer_with text.now table.now records.now
         pool.now used root row.now nulls }
 {
     if used <= 64 {
@@ -140,21 +135,8 @@ fn test_symbols(
     )
 }
 
-// Whether the answer of a screen taken as one without symbols is that beside a text pool of so many bytes: all but Refused 0,
-// within the limit.
-fn stands(a: RowAnswer, text: usize) -> bool
-    ensures { result ≡ true → (text ≤ 8192) × (a ≡ Refused 0 → ⊥) }
-{
-    if 8192 < text {
-        return false;
-    }
-    match a {
-        RowAnswer::Tested(_) => true,
-        RowAnswer::Refused(k) => k != 0,
-    }
-}
-
 /// What testing a row answers, whatever text pool is lent.
+// The answer of a screen taken as one without symbols, if there is one, is that beside every text pool within its limit.
 pub fn test_row_with(
     table: &[u8],
     records: &[u8],
@@ -164,13 +146,14 @@ pub fn test_row_with(
     root: u64,
     row: &[u8],
     nulls: u64,
-) -> RowAnswer
-    ensures { result ≡ test_row_answer_with text.now table.now records.now
+) -> Result<Truth, Refusal>
+    ensures { row_answered result ≡ test_row_answer_with text.now table.now records.now
         pool.now used root row.now nulls }
 {
-    let a = test_row(table, records, pool, used, root, row, nulls);
-    if stands(a, text.len()) {
-        return a;
+    if text.len() <= 8192 {
+        if let Some(answer) = test_row(table, records, pool, used, root, row, nulls) {
+            return answer;
+        }
     }
     test_symbols(table, records, pool, text, used, root, row, nulls)
 }

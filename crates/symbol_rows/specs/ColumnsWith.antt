@@ -2,7 +2,7 @@
 use Rattle.std.specs.Prelude.{List, ℕ}
 use Rattle.checking.specs.Check.{check_answer_in}
 use Rattle.checking.specs.Columns.{columns_word, columns_if}
-use Rattle.checking.specs.declared.reads.ColumnsAnswer.{ColumnsAnswer}
+use Rattle.checking.specs.ReadAnswer.{ColumnsAnswer}
 
 unfoldable pub columns_answer_in : ℕ → List ℕ → List ℕ → List ℕ → ℕ → ℕ → ColumnsAnswer
 columns_answer_in lent_text t rs p used root = columns_if (check_answer_in lent_text t rs p used root) (columns_word rs root)

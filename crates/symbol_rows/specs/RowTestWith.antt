@@ -6,8 +6,8 @@ use Rattle.records.specs.Bytes.{value_at, all}
 use Rattle.records.specs.Shape.{in_type_in}
 use Rattle.checking.specs.Check.{check_answer_in}
 use Rattle.checking.specs.Tree.{tree_count}
-use Rattle.row_test.specs.declared.test.RowAnswer.{RowAnswer}
-use Rattle.row_test.specs.declared.test.RowAnswer.TheVariants.{Refused, Tested}
+use Rattle.row_test.specs.Answer.{RowAnswer}
+use Rattle.row_test.specs.Answer.{Refused, Tested}
 use Rattle.row_test.specs.RowTest.{marks_ok, answer_if}
 use Rattle.truth.specs.FromBytes.{null_marked}
 use Rattle.symbol_screens.specs.Reading.{held_at}

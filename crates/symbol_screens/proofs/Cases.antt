@@ -10,7 +10,7 @@ use Rattle.record_check.specs.Fit.{all_fit_in, list_ok_in, reach_ok_in, served_o
 use Rattle.record_check.specs.Fit.{between_fits, member_fits, types_ok}
 use Rattle.checking.specs.Check.{types_known_in, table_ok_in, sizes_ok_in, meaning_fault_in, record_fault_in, first_fault_in, records_answer_in}
 use Rattle.checking.specs.Check.{check_answer_in}
-use Rattle.checking.specs.declared.check.CheckAnswer.TheVariants as check
+use Rattle.checking.specs.Answer as check
 use Rattle.truth.specs.FromBytes.{values_from}
 use Rattle.symbols.specs.Symbol.{bytes_from, symbol, symbol_number}
 use Rattle.merge.specs.Write.{splice}

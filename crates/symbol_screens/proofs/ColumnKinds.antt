@@ -13,10 +13,7 @@ use Rattle.records.specs.Operator.{code_of, is_comparison, is_division, is_null_
 use Rattle.records.specs.Record.{node, record_at}
 use Rattle.records.specs.declared.operator.Operator.{Operator}
 use Rattle.records.specs.declared.operator.Operator.TheVariants as operator
-use Rattle.records.specs.declared.operator.Swapped.{Swapped}
-use Rattle.records.specs.declared.operator.Swapped.TheVariants.{Nothing, To}
-use Rattle.records.specs.declared.operator.Negated.{Negated}
-use Rattle.records.specs.declared.operator.Negated.TheVariants as negated
+use Rattle.std.specs.Prelude as code
 use Rattle.records.specs.declared.record.Record.{Record}
 use Rattle.records.specs.declared.record.Record.TheVariants as kind
 use Rattle.records.proofs.Laws.{and_left, and_right}
@@ -81,9 +78,9 @@ module _ (t : List ℕ) where
   column-literal n c v (some GtEq) h = (h, tt)
   column-literal n c v none h = tt
 
-  literal-column : (n c : ℕ) (v : Held) (o : Swapped) → is_symbol v ≡ kind_at c → Has (classify_literal_column n c v o)
-  literal-column n c v Nothing h = tt
-  literal-column n c v (To o) h = column-literal n c v (ordinary_comparison o) h
+  literal-column : (n c : ℕ) (v : Held) (o : code.Option Operator) → is_symbol v ≡ kind_at c → Has (classify_literal_column n c v o)
+  literal-column n c v code.None h = tt
+  literal-column n c v (code.Some o) h = column-literal n c v (ordinary_comparison o) h
 
   column-column : (n a b : ℕ) (o : Operator) → kind_at a ≡ kind_at b → Has (classify_column_column n a b o)
   column-column n a b o h = go (is_null_propagating_comparison o) (eqb (code_of o) (code_of operator.Eq))
@@ -116,9 +113,9 @@ module _ (t : List ℕ) where
   normalized-has (NonNullPair n a b) h = h
   normalized-has (Opaque n) h = h
 
-  negated_has : (n ty : ℕ) (o : Negated) (x y : Operand Held) → OfType ty x → OfType ty y → Has (classify_negated n o x y)
-  negated_has n ty negated.Nothing x y h k = tt
-  negated_has n ty (negated.To o) x y h k = normalized-has (classify_comparison n o x y) (comparison_has n ty o x y h k)
+  negated_has : (n ty : ℕ) (o : code.Option Operator) (x y : Operand Held) → OfType ty x → OfType ty y → Has (classify_negated n o x y)
+  negated_has n ty code.None x y h k = tt
+  negated_has n ty (code.Some o) x y h k = normalized-has (classify_comparison n o x y) (comparison_has n ty o x y h k)
 
   between-has : (n ty : ℕ) (lo hi : Bool) (x low high : Operand Held) → OfType ty x → OfType ty low → OfType ty high →
       Has (classify_is_between n lo hi x low high)

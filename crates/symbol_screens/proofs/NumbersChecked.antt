@@ -11,7 +11,7 @@ use Rattle.records.specs.declared.record.Fields.{Fields}
 use Rattle.records.specs.declared.record.Record.{Record}
 use Rattle.record_check.specs.Fit.{type_at}
 use Rattle.checking.specs.Check.{types_known_in, table_ok_in, record_fault_in, first_fault_in, records_answer_in, check_answer_in, check_answer}
-use Rattle.checking.specs.declared.check.CheckAnswer.TheVariants as check
+use Rattle.checking.specs.Answer as check
 use Rattle.checking.proofs.Standing.{all_same, first-same, known_same, record_same, sizes-same}
 use Rattle.symbol_screens.specs.Reading.{value_type}
 

@@ -45,12 +45,10 @@ fn write_hex(s: &mut [u8], at: usize, text: &[u8], start: u32, count: u32) -> us
     ensures s_after { s.new ≡ splice s.old at (hex_bytes (bytes_from text.now start count)) }
 {
     let mut next = at;
-    let mut i: u32 = 0;
-    while i < count {
+    for i in 0..count {
         let b = byte_at(text, start as usize + i as usize);
         put_hex(s, next, b);
         next += 2;
-        i += 1;
     }
     next
 }

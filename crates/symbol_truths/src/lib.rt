@@ -9,7 +9,7 @@ ghost use Rattle.symbol_truths.specs.SymbolTruths.{input_bits, symbol_truth, Sym
 
 use records::record::{Fields, Node, fields_in};
 use symbol_values::{as_one, beside_value, symbol_leaf, symbol_member};
-use three_valued::logic::{Truth, truth_of_bool};
+use three_valued::logic::Truth;
 use truth::value::{Value, between, compared, is_null};
 
 fn input_value(records: &[u8], row: &[u8], nulls: u64, x: Node) -> Value
@@ -52,7 +52,7 @@ pub fn symbol_truth(
         return symbol_member(text, pool, fields_in(records, Node(f.b)), f.code == 1, x);
     }
     if f.kind == 6 {
-        return truth_of_bool(is_null(x));
+        return Truth::from(is_null(x));
     }
-    truth_of_bool(!is_null(x))
+    Truth::from(!is_null(x))
 }

@@ -10,8 +10,8 @@ use Rattle.three_valued.specs.Logic.{and3, of_bool}
 use Rattle.truth.specs.Halves.{ord_z, key}
 use Rattle.truth.specs.Order.{is_equal}
 use Rattle.truth.specs.Comparison.{Comparison, comparison_holds}
-use Rattle.truth.specs.declared.scalar.Ordering.{Ordering}
-use Rattle.truth.specs.declared.scalar.Ordering.TheVariants.{Less, Equal, Greater}
+use Rattle.std.specs.declared.cmp.Ordering.{Ordering}
+use Rattle.std.specs.declared.cmp.Ordering.TheVariants.{Less, Equal, Greater}
 use Rattle.truth.specs.Evaluate.{comparing, same, comparison_at, compared_of, low_code, high_code, between_of}
 use Rattle.records.specs.Shape.{in_pool}
 use Rattle.symbols.specs.Symbol.{symbol, cmp_bytes, symbol_key}

@@ -17,7 +17,7 @@ use Rattle.truth.specs.Halves.{ord_z, key}
 use Rattle.truth.specs.Evaluate.{member_of}
 use Rattle.truth.specs.FromBytes.{values_from}
 use Rattle.truth.specs.Membership.{mem, known_in3}
-use Rattle.truth.specs.declared.scalar.Ordering.{Ordering}
+use Rattle.std.specs.declared.cmp.Ordering.{Ordering}
 use Rattle.membership.proofs.Memberships.{in3-null, in3-known}
 use Rattle.symbols.specs.Symbol.{symbol, cmp_bytes, symbol_key}
 use Rattle.symbols.proofs.Keys.{key-order}

@@ -8,18 +8,19 @@ use Rattle.records.specs.Shape.{in_pool}
 use Rattle.records.specs.declared.record.Fields.{Fields}
 use Rattle.three_valued.specs.declared.logic.Truth.{Truth}
 use Rattle.truth.specs.Halves.{ord_z, key}
-use Rattle.truth.specs.declared.scalar.Ordering.{Ordering}
-use Rattle.truth.specs.declared.scalar.Ordering.TheVariants.{Less, Equal, Greater}
-use Rattle.truth.specs.declared.value.Value.{Value}
-use Rattle.truth.specs.declared.value.Value.TheVariants as value
+use Rattle.std.specs.declared.cmp.Ordering.{Ordering}
+use Rattle.std.specs.declared.cmp.Ordering.TheVariants.{Less, Equal, Greater}
+use Rattle.std.specs.declared.option.Option as lang
+use Rattle.std.specs.declared.option.Option.TheVariants as value
+use Rattle.truth.specs.declared.scalar.Scalar.{Scalar}
 use Rattle.truth.specs.FromBytes.{null_marked, values_from}
 use Rattle.truth.specs.Membership.{in3}
 use Rattle.symbols.specs.Symbol.{symbol_key}
 
 -- A value of the code as null or its 64 bits.
-abbrev pub bits_in : Value → Option ℕ
-bits_in value.Null = none
-bits_in (value.Known v) = some v.0
+abbrev pub bits_in : lang.Option Scalar → Option ℕ
+bits_in value.None = none
+bits_in (value.Some v) = some v.0
 
 -- Null, or the key of a symbol.
 abbrev pub symbolic : List ℕ → Option ℕ → Option ℤ

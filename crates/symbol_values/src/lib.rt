@@ -5,21 +5,22 @@
 ghost use Rattle.std.specs.Prelude.{◌≡◌, true, ◌+◌, ◌*◌, ◌≤◌, length};
 ghost use Rattle.records.specs.Shape.{in_pool};
 ghost use Rattle.truth.specs.Halves.{ord_z};
-ghost use Rattle.truth.specs.Membership.{mem, known_in3};
+ghost use Rattle.truth.specs.Membership.{mem};
 ghost use Rattle.truth.specs.FromBytes.{values_from};
 ghost use Rattle.truth.specs.Evaluate.{keyed, ColumnThere};
 ghost use Rattle.symbols.specs.Symbol.{symbol_key};
 ghost use Rattle.symbol_values.specs.SymbolValues.{bits_in, symbolic, PooledValue, leaf_bits, beside_one, as_one, beside};
 ghost use Rattle.symbol_values.specs.SymbolValues.{PooledFrom, symbol_member};
 
-use membership::member::member;
+use membership::member::{known_in, member};
 use records::bytes::value_in;
 use records::record::Fields;
+use std::cmp::Ordering;
 use symbols::symbol_cmp;
 use three_valued::logic::Truth;
 use truth::read::null_marked;
-use truth::scalar::{Ordering, Scalar};
-use truth::value::{Value, is_equal};
+use truth::scalar::Scalar;
+use truth::value::Value;
 
 /// The value of a column, a literal or a null.
 pub fn symbol_leaf(f: Fields, row: &[u8], nulls: u64) -> Value
@@ -28,24 +29,21 @@ pub fn symbol_leaf(f: Fields, row: &[u8], nulls: u64) -> Value
 {
     if f.kind == 1 {
         if null_marked(nulls, f.a) {
-            return Value::Null;
+            return None;
         }
-        return Value::Known(Scalar(value_in(row, f.a as usize)));
+        return Some(Scalar(value_in(row, f.a as usize)));
     }
     if f.kind == 2 {
-        return Value::Known(Scalar(f.b as u64 + 4294967296 * f.c as u64));
+        return Some(Scalar(f.b as u64 + 4294967296 * f.c as u64));
     }
-    Value::Null
+    None
 }
 
 /// What is compared, as 1.
 pub fn as_one(x: Value) -> Value
     ensures { keyed result ≡ as_one (bits_in x) }
 {
-    match x {
-        Value::Null => Value::Null,
-        Value::Known(_) => Value::Known(Scalar(1)),
-    }
+    x.map(|_| Scalar(1))
 }
 
 fn beside_one(o: Ordering) -> u64
@@ -64,12 +62,10 @@ pub fn beside_value(text: &[u8], x: Value, y: Value) -> Value
     requires pooled_value_2 { PooledValue (length text.now) (bits_in y) }
     ensures { keyed result ≡ beside text.now (bits_in x) (bits_in y) }
 {
-    match y {
-        Value::Null => Value::Null,
-        Value::Known(b) => match x {
-            Value::Null => Value::Known(Scalar(1)),
-            Value::Known(a) => Value::Known(Scalar(beside_one(symbol_cmp(text, a.0, b.0)))),
-        },
+    let b = y?;
+    match x {
+        None => Some(Scalar(1)),
+        Some(a) => Some(Scalar(beside_one(symbol_cmp(text, a.0, b.0)))),
     }
 }
 
@@ -81,29 +77,14 @@ fn symbol_listed(text: &[u8], pool: &[u8], start: u32, count: u32, v: u64) -> bo
     ensures { result ≡ mem (symbol_key text.now) ord_z (symbol_key text.now v)
         (values_from pool.now start count) }
 {
-    let mut i = start as usize;
     let end = start as usize + count as usize;
-    while i < end {
+    for i in start as usize..end {
         let w = value_in(pool, i);
-        if is_equal(symbol_cmp(text, v, w)) {
+        if symbol_cmp(text, v, w).is_eq() {
             return true;
         }
-        i += 1;
     }
     false
-}
-
-// A value: where it is not found, a null in the list may still be it.
-fn known_in(equal: bool, holds: bool, found: bool) -> Truth
-    ensures { result ≡ known_in3 equal holds found }
-{
-    if found {
-        return Truth::True;
-    }
-    if !equal & holds {
-        return Truth::Unknown;
-    }
-    Truth::False
 }
 
 /// is_in of the symbol `x` and the record of a list; `equal` is nulls_equal.
@@ -115,8 +96,8 @@ pub fn symbol_member(text: &[u8], pool: &[u8], list: Fields, equal: bool, x: Val
         (symbolic text.now (bits_in x)) }
 {
     match x {
-        Value::Null => member(pool, list, equal, x),
-        Value::Known(v) => known_in(
+        None => member(pool, list, equal, x),
+        Some(v) => known_in(
             equal,
             list.code == 1,
             symbol_listed(text, pool, list.a, list.b, v.0),

@@ -1,20 +1,21 @@
 -- Two strings compared byte by byte from the front: what is left of both decides, once the bytes before are equal.
 use mathlib.Core.Path.{◌≡◌, refl, sym, ◌∙◌, ap, subst}
-use mathlib.Core.Bool.{true}
+use mathlib.Core.Bool.{Bool, true, false, cond}
 use mathlib.Core.List.{List, [], ◌∷◌}
 use mathlib.Core.Logic.{◌⊎◌, inl, inr, ⊎_elim}
 use Prim.Native.Nat.{ℕ, suc, ◌+◌, ◌-◌, ◌*◌, ◌<◌, ◌≤◌, compare, min}
 use native.Mathlib.Omega.{arith}
-use lib.Dec.{leb}
+use lib.Dec.{leb, ltb, eqb}
 use lib.ListN.{get_or}
-use borrow.Author.Tests.{leb-true}
+use borrow.Author.Tests.{leb-true, ltb-true, ltb-false, eqb-true, eqb-false}
+use Rattle.std.proofs.Common.{nat_cmp}
 use Rattle.records.proofs.Laws.{and_left, and_right}
 use Rattle.checking.proofs.Bits.{lt-or_le}
 use Rattle.records.specs.Bytes.{word}
 use Rattle.truth.specs.Order.{View, less_view, equal_view, greater_view}
 use Rattle.truth.specs.Halves.{ordering}
-use Rattle.truth.specs.declared.scalar.Ordering.{Ordering}
-use Rattle.truth.specs.declared.scalar.Ordering.TheVariants.{Less, Equal, Greater}
+use Rattle.std.specs.declared.cmp.Ordering.{Ordering}
+use Rattle.std.specs.declared.cmp.Ordering.TheVariants.{Less, Equal, Greater}
 use Rattle.records.specs.Shape.{start_of, length_of, in_pool}
 use Rattle.symbols.specs.Symbol.{bytes_from, cmp_bytes, or_else, Rest}
 use Rattle.symbols.proofs.Orders.{less_n, view_n}
@@ -42,6 +43,16 @@ number-greater m n h = go (view_n m n)
     go (less_view k) = absurd (omega (arith, h, k))
     go (equal_view e) = absurd (omega (arith, h, e))
     go (greater_view k) = refl
+
+-- core's comparison of two counts
+count_tests : (m n : ℕ) (s t : Bool) → ltb m n ≡ s → eqb m n ≡ t
+    → cond s Less (cond t Equal Greater) ≡ ordering (compare m n)
+count_tests m n true t e f = sym (number-less m n (ltb-true m n e))
+count_tests m n false true e f = sym (number-equal m n (eqb-true m n f))
+count_tests m n false false e f = sym (number-greater m n (omega (arith, ltb-false m n e, eqb-false m n f)))
+
+pub count-order : (m n : ℕ) → nat_cmp m n ≡ ordering (compare m n)
+count-order m n = count_tests m n (ltb m n) (eqb m n) refl refl
 
 bytes-more : (text : List ℕ) (s n m : ℕ) → n ≡ suc m → bytes_from text s n ≡ get_or text s 0 ∷ bytes_from text (suc s) m
 unfolding bytes_from

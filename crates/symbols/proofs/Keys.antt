@@ -8,8 +8,8 @@ use lib.IntN.{pos}
 use lib.ListN.{get_or, length}
 use Rattle.truth.specs.Order.{View, less_view, equal_view, greater_view, is_equal}
 use Rattle.truth.specs.Halves.{ordering, ord_z, twice}
-use Rattle.truth.specs.declared.scalar.Ordering.{Ordering}
-use Rattle.truth.specs.declared.scalar.Ordering.TheVariants.{Equal}
+use Rattle.std.specs.declared.cmp.Ordering.{Ordering}
+use Rattle.std.specs.declared.cmp.Ordering.TheVariants.{Equal}
 use Rattle.truth.proofs.Orders.{cmp-eq, total-z}
 use Rattle.records.specs.Shape.{start_of, length_of, in_pool}
 use Rattle.symbols.specs.Symbol.{bytes_from, symbol, less_bytes, cmp_bytes}

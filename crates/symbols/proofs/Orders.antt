@@ -11,7 +11,7 @@ use lib.ListN.{length}
 use Rattle.truth.specs.Order.{View, less_view, equal_view, greater_view, Total}
 use Rattle.truth.specs.Halves.{ordering}
 use lib.Dec.{T, eqb, is_le, compare_is_eq, leb→le, nleb→lt, eqb→eq, eqb_refl}
-use Rattle.truth.specs.declared.scalar.Ordering.{Ordering}
+use Rattle.std.specs.declared.cmp.Ordering.{Ordering}
 use Rattle.symbols.specs.Symbol.{less_bytes, cmp_bytes, or_else, ord_bytes, number_of}
 
 abbrev pub less_n : ℕ → ℕ → Type 0

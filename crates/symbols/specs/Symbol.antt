@@ -4,8 +4,8 @@ use Prim.Native.Nat.{ℕ, zero, suc, ◌+◌, ◌-◌, ◌*◌, ◌^◌, ◌<◌
 use Rattle.records.specs.Shape.{start_of, length_of}
 use Rattle.truth.specs.Order.{Order}
 use Rattle.truth.specs.Halves.{ordering, twice}
-use Rattle.truth.specs.declared.scalar.Ordering.{Ordering}
-use Rattle.truth.specs.declared.scalar.Ordering.TheVariants.{Less, Equal, Greater}
+use Rattle.std.specs.declared.cmp.Ordering.{Ordering}
+use Rattle.std.specs.declared.cmp.Ordering.TheVariants.{Less, Equal, Greater}
 
 -- Count bytes of the pool, from the one numbered start on.
 unfoldable pub bytes_from : List ℕ → ℕ → ℕ → List ℕ

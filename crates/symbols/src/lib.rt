@@ -2,25 +2,12 @@
 #![tactic(auto)]
 
 ghost use Rattle.std.specs.Prelude.{◌≡◌, true, length};
-ghost use Prim.Native.Nat.{◌+◌, ◌≤◌, compare, min};
-ghost use Rattle.truth.specs.Halves.{ordering};
+ghost use Prim.Native.Nat.{◌+◌, ◌≤◌, min};
 ghost use Rattle.records.specs.Shape.{in_pool};
 ghost use Rattle.symbols.specs.Symbol.{bytes_from, cmp_bytes, symbol, Rest};
 
 use records::bytes::word_in;
-use truth::scalar::Ordering;
-
-fn compare_counts(m: usize, n: usize) -> Ordering
-    ensures { result ≡ ordering (compare m n) }
-{
-    if m < n {
-        return Ordering::Less;
-    }
-    if m == n {
-        return Ordering::Equal;
-    }
-    Ordering::Greater
-}
+use std::cmp::Ordering;
 
 fn shorter(m: usize, n: usize) -> usize
     ensures { result ≡ min m n }
@@ -35,6 +22,7 @@ fn equal_front(text: &[u8], i: usize, m: usize, j: usize, n: usize) -> usize
 {
     let e = shorter(m, n);
     let mut k: usize = 0;
+    // Four bytes a turn, as long as there are four; the place where it ends is answered.
     while 4 <= e - k {
         if word_in(text, i + k) != word_in(text, j + k) {
             return k;
@@ -50,8 +38,7 @@ fn compare_rest(text: &[u8], i: usize, m: usize, j: usize, n: usize, front: usiz
     ensures { result ≡ cmp_bytes (bytes_from text.now i m) (bytes_from text.now j n) }
 {
     let e = shorter(m, n);
-    let mut k = front;
-    while k < e {
+    for k in front..e {
         let x = text[i + k];
         let y = text[j + k];
         if x < y {
@@ -60,9 +47,8 @@ fn compare_rest(text: &[u8], i: usize, m: usize, j: usize, n: usize, front: usiz
         if y < x {
             return Ordering::Greater;
         }
-        k += 1;
     }
-    compare_counts(m, n)
+    m.cmp(&n)
 }
 
 // The same from the front. Equal words are passed first, which is faster where the strings are long and alike.

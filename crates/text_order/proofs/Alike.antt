@@ -1,9 +1,9 @@
 -- Words that are right give the symbols of the text numbers that compare as they do. Assumes nothing.
 use mathlib.Core.Path.{◌≡◌, refl, sym, ◌∙◌, ap, subst}
-use mathlib.Core.Logic.{◌⊎◌, ⊎_elim}
-use mathlib.Core.Bool.{Bool, true, false, cond, true≢false}
+use mathlib.Core.Logic.{⊎_elim}
+use mathlib.Core.Bool.{true, true≢false}
 use mathlib.Core.List.{List}
-use Prim.Native.Nat.{ℕ, zero, suc, ◌+◌, ◌-◌, ◌*◌, ◌/◌, ◌%◌, ◌≤◌, ◌<◌, compare}
+use Prim.Native.Nat.{ℕ, zero, suc, ◌+◌, ◌*◌, ◌%◌, ◌≤◌, ◌<◌, compare}
 use native.Mathlib.Omega.{arith}
 use lib.Dec.{ltb, eqb}
 use lib.ListN.{length, get_or}
@@ -13,14 +13,14 @@ use Rattle.records.proofs.Laws.{by-test}
 use Rattle.truth.proofs.Keys.{lt-or_le}
 use Rattle.truth.specs.Order.{View, less_view, equal_view, greater_view, is_less, is_equal}
 use Rattle.truth.specs.Halves.{ordering}
-use Rattle.truth.specs.declared.scalar.Ordering.{Ordering}
-use Rattle.truth.specs.declared.scalar.Ordering.TheVariants.{Less, Equal, Greater}
+use Rattle.std.specs.declared.cmp.Ordering.{Ordering}
+use Rattle.std.specs.declared.cmp.Ordering.TheVariants.{Less, Equal}
 use Rattle.symbols.specs.Symbol.{bytes_from, symbol, cmp_bytes, less_bytes, symbol_number, number_of}
 use Rattle.symbols.proofs.Orders.{less_n, view_n, total-bytes}
 use Rattle.symbols.proofs.Comparing.{number-less, number-equal, number-greater, in_bounds, short}
 use Rattle.symbols.proofs.Keys.{symbol-order}
 use Rattle.symbol_ranks.specs.Ranks.{Ranked}
-use Rattle.text_order.specs.Codes.{rank_in, depth_in, link_in, walk, code_of, Codes}
+use Rattle.text_order.specs.Codes.{depth_in, link_in, walk, code_of, Codes}
 use Rattle.text_order.specs.Starts.{most_at, part_at, full_at, Starts, Above, Linked, Tested}
 use Rattle.text_order.proofs.Words.{most-few, most-inside, most-enough, part_pooled, part_symbol, front_same, front_less, long, walk-low}
 

@@ -1,19 +1,16 @@
 -- Parts of the text as values, and their bytes. Assumes nothing.
 use mathlib.Core.Path.{◌≡◌, refl, sym, ◌∙◌, ap, subst}
-use mathlib.Core.Bool.{Bool, true, false, cond, ◌&&◌}
-use mathlib.Core.List.{List, [], ◌∷◌}
-use Prim.Native.Nat.{ℕ, zero, suc, ◌+◌, ◌-◌, ◌*◌, ◌/◌, ◌%◌, ◌≤◌, ◌<◌, compare}
+use mathlib.Core.Bool.{true}
+use mathlib.Core.List.{List, ◌∷◌}
+use Prim.Native.Nat.{ℕ, zero, suc, ◌+◌, ◌-◌, ◌≤◌, ◌<◌}
 use native.Mathlib.Omega.{arith}
-use lib.Dec.{ltb, leb}
+use lib.Dec.{ltb}
 use lib.ListN.{length, get_or, take, set}
 use lib.Seq.{get_or-set_same, get_or-set_other}
 use borrow.Author.Tests.{lt-ltb, le-ltb, le-leb, ltb-true, ltb-false}
 use Rattle.records.specs.Shape.{start_of, length_of, in_pool}
 use Rattle.records.proofs.Laws.{by-test}
-use Rattle.truth.specs.Order.{View, less_view, equal_view, greater_view, is_less, is_equal}
-use Rattle.truth.specs.Halves.{ordering}
-use Rattle.truth.specs.declared.scalar.Ordering.{Ordering}
-use Rattle.truth.specs.declared.scalar.Ordering.TheVariants.{Less, Equal, Greater}
+use Rattle.std.specs.declared.cmp.Ordering.TheVariants.{Less}
 use Rattle.symbols.specs.Symbol.{bytes_from, symbol, cmp_bytes}
 use Rattle.symbols.proofs.Comparing.{number-equal}
 use Rattle.text_order.specs.Codes.{walk, rank_in, depth_in, link_in}

@@ -1,7 +1,7 @@
 -- What is tested of the words of the starts.
 use Rattle.std.specs.Prelude.{◌≡◌, cond, List, ◌⊎◌, ℕ, ◌+◌, ◌-◌, ◌*◌, ◌≤◌, ◌<◌, ltb, length, get_or}
 use Rattle.symbols.specs.Symbol.{symbol, cmp_bytes}
-use Rattle.truth.specs.declared.scalar.Ordering.TheVariants.{Less, Equal}
+use Rattle.std.specs.declared.cmp.Ordering.TheVariants.{Less, Equal}
 use Rattle.text_order.specs.Codes.{rank_in, depth_in, link_in}
 
 -- How many bytes a symbol has at most, from place s of so many on.

@@ -11,10 +11,8 @@ fn fill_starts(size: usize, values: &mut [u64])
     requires { (size ≤ 8192) × (size ≤ length values.old) }
     ensures { Starts size size values.new }
 {
-    let mut s: usize = 0;
-    while s < size {
+    for s in 0..size {
         values[s] = full_at(size, s);
-        s += 1;
     }
 }
 
@@ -22,10 +20,8 @@ fn fill_starts(size: usize, values: &mut [u64])
 fn note_starts(ranks: &[u64], n: usize, starts: &mut [u64])
     requires { (n ≤ length ranks.now) × (8192 ≤ length starts.old) }
 {
-    let mut s: usize = 0;
-    while s < n {
+    for s in 0..n {
         starts[(ranks[s] % 8192) as usize] = s as u64;
-        s += 1;
     }
 }
 
@@ -34,8 +30,7 @@ fn common(text: &[u8], a: usize, b: usize) -> usize
     requires { (a ≤ 8192) × (b ≤ 8192) }
     ensures { result ≤ 16 }
 {
-    let mut k: usize = 0;
-    while k < 16 {
+    for k in 0..16 {
         if text.len() <= a + k {
             return k;
         }
@@ -45,7 +40,6 @@ fn common(text: &[u8], a: usize, b: usize) -> usize
         if text[a + k] != text[b + k] {
             return k;
         }
-        k += 1;
     }
     16
 }
@@ -54,10 +48,8 @@ fn common(text: &[u8], a: usize, b: usize) -> usize
 fn open_lengths(firsts: &mut [u64], d: usize, s: u64)
     requires { (17 ≤ length firsts.old) × (d ≤ 16) }
 {
-    let mut l = d + 1;
-    while l < 17 {
+    for l in d + 1..17 {
         firsts[l] = s;
-        l += 1;
     }
 }
 
@@ -68,25 +60,21 @@ fn fill_guides(text: &[u8], n: usize, starts: &[u64], guides: &mut [u64])
     let mut firsts = [0u64; 17];
     // There is none before the first: a place with no byte in common.
     let mut before: u64 = 8192;
-    let mut r: usize = 0;
-    while r < n {
+    for r in 0..n {
         let s = starts[r] % 8192;
         let d = common(text, before as usize, s as usize);
         open_lengths(&mut firsts, d, s);
         guides[r] = d as u64 + 32 * (firsts[d] % 8192) + 262144 * before;
         before = s;
-        r += 1;
     }
 }
 
 fn fill_codes(ranks: &[u64], n: usize, guides: &[u64], codes: &mut [u64])
     requires { (n ≤ length ranks.now) × (8192 ≤ length guides.now) × (n ≤ length codes.old) }
 {
-    let mut s: usize = 0;
-    while s < n {
+    for s in 0..n {
         let r = ranks[s] % 8192;
         codes[s] = r + 8192 * (guides[r as usize] % 2147483648);
-        s += 1;
     }
 }
 

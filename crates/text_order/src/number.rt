@@ -32,14 +32,12 @@ fn first_rank(codes: &[u64], start: u64, l: u64) -> u64
     ensures { result ≡ walk 17 codes.now start l }
 {
     let mut s = start;
-    let mut left: usize = 17;
-    while 0 < left {
+    for _left in (0usize..17).rev() {
         let w = codes[s as usize];
         if depth_in(w) < l {
             return rank_in(w);
         }
         s = link_in(w);
-        left -= 1;
     }
     rank_in(codes[s as usize])
 }

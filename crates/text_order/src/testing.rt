@@ -1,13 +1,12 @@
 // Whether the words of the starts are right.
 ghost use Rattle.std.specs.Prelude.{◌≡◌, true, ◌⊎◌, ℕ, ◌+◌, ◌≤◌, ◌<◌, length, get_or};
 ghost use Rattle.records.specs.Shape.{in_pool};
-ghost use Rattle.truth.specs.declared.scalar.Ordering.TheVariants.{Less, Equal};
+ghost use Rattle.std.specs.declared.cmp.Ordering.TheVariants.{Less, Equal};
 ghost use Rattle.symbols.specs.Symbol.{symbol, cmp_bytes};
 ghost use Rattle.text_order.specs.Starts.{most_at, part_at, full_at, Above, Linked, Tested};
 
 use crate::number::{before_in, depth_in, link_in, rank_in};
 use symbols::symbol_cmp;
-use truth::scalar::Ordering;
 
 fn most_at(size: usize, s: usize) -> usize
     requires { s ≤ size }
@@ -35,22 +34,14 @@ fn is_less(text: &[u8], a: u64, b: u64) -> bool
     requires { (in_pool (length text.now) a ≡ true) × (in_pool (length text.now) b ≡ true) }
     ensures { result ≡ true → cmp_bytes (symbol text.now a) (symbol text.now b) ≡ Less }
 {
-    match symbol_cmp(text, a, b) {
-        Ordering::Less => true,
-        Ordering::Equal => false,
-        Ordering::Greater => false,
-    }
+    symbol_cmp(text, a, b).is_lt()
 }
 
 fn is_equal(text: &[u8], a: u64, b: u64) -> bool
     requires { (in_pool (length text.now) a ≡ true) × (in_pool (length text.now) b ≡ true) }
     ensures { result ≡ true → cmp_bytes (symbol text.now a) (symbol text.now b) ≡ Equal }
 {
-    match symbol_cmp(text, a, b) {
-        Ordering::Less => false,
-        Ordering::Equal => true,
-        Ordering::Greater => false,
-    }
+    symbol_cmp(text, a, b).is_eq()
 }
 
 // The starts of the rank before are below d + 1 bytes from s on.
@@ -117,12 +108,5 @@ pub fn all_right(text: &[u8], ranks: &[u64], codes: &[u64]) -> bool
     ensures { result ≡ true → (s : ℕ) → s < length text.now
         → Tested text.now ranks.now codes.now s }
 {
-    let mut s: usize = 0;
-    while s < text.len() {
-        if !is_right(text, ranks, codes, s) {
-            return false;
-        }
-        s += 1;
-    }
-    true
+    (0..text.len()).all(|s| is_right(text, ranks, codes, s))
 }

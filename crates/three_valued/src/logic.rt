@@ -3,7 +3,7 @@
 ghost use Rattle.std.specs.Prelude.{◌≡◌, ◌<◌};
 ghost use Rattle.three_valued.specs.Logic.{truth_code, truth_of, and3, or3, xor3, not3, of_bool};
 
-#[derive(Clone, Copy)]
+#[derive(Clone, Copy, PartialEq, Eq)]
 pub enum Truth {
     False,
     Unknown,
@@ -72,11 +72,10 @@ pub fn not_of(t: Truth) -> Truth
     }
 }
 
-pub fn truth_of_bool(b: bool) -> Truth
-    ensures { result ≡ of_bool b }
-{
-    if b {
-        return Truth::True;
+impl From<bool> for Truth {
+    ghost from_gives = { λ b t. t ≡ of_bool b };
+
+    fn from(b: bool) -> Truth {
+        if b { Truth::True } else { Truth::False }
     }
-    Truth::False
 }

@@ -1,14 +1,15 @@
 -- The order of the biased bits is the order of the keys.
 -- Assumes nothing.
 use mathlib.Core.Path.{◌≡◌, refl, sym, ◌∙◌, ap}
-use mathlib.Core.Bool.{Bool, true, false}
+use mathlib.Core.Bool.{Bool, true, false, cond}
 use mathlib.Core.Logic.{◌⊎◌, inl, inr, ⊎_elim}
 use Prim.Native.Nat.{ℕ, suc, ◌+◌, ◌-◌, ◌<◌, ◌≤◌, ◌^◌}
 use native.Mathlib.Omega.{arith}
-use lib.Dec.{ltb}
+use lib.Dec.{ltb, eqb}
 use lib.IntN.{pos, negsuc}
-use borrow.Author.Tests.{lt-ltb, le-ltb, ltb-true, ltb-false}
-use Rattle.truth.specs.declared.scalar.Ordering.TheVariants.{Less, Equal, Greater}
+use borrow.Author.Tests.{lt-ltb, le-ltb, ltb-true, ltb-false, eqb-true, eqb-false}
+use Rattle.std.specs.declared.cmp.Ordering.TheVariants.{Less, Equal, Greater}
+use Rattle.std.proofs.Common.{nat_cmp}
 use Rattle.truth.specs.Halves.{ord_z, less_z, key, bias_of}
 use Rattle.truth.proofs.Orders.{cmp-lt, cmp-gt, cmp-eq, total-z}
 
@@ -68,7 +69,7 @@ bias_same a b ha hb h =
     (lt-or_le b half))
     (lt-or_le a half)
 
--- What three tests of two biased values say.
+-- What three tests of two biased values say, and with them core's comparison.
 module _ (x y a b : ℕ) (ha : a < 2 ^ 64) (hb : b < 2 ^ 64) (p : x ≡ bias_of a) (q : y ≡ bias_of b) where
   pub says_less : x < y → Less ≡ ord_z.cmp (key a) (key b)
   says_less h = sym (cmp-lt total-z {a = key a} {b = key b} (key-less a b ha hb (rw (p, q) at h)))
@@ -80,3 +81,11 @@ module _ (x y a b : ℕ) (ha : a < 2 ^ 64) (hb : b < 2 ^ 64) (p : x ≡ bias_of 
   says-greater h d =
       let l : y < x = omega (arith, d) in sym
       (cmp-gt total-z {a = key a} {b = key b} (key-less b a hb ha (rw (p, q) at l)))
+
+  by_tests : (s t : Bool) → ltb x y ≡ s → eqb x y ≡ t → cond s Less (cond t Equal Greater) ≡ ord_z.cmp (key a) (key b)
+  by_tests true t e f = says_less (ltb-true x y e)
+  by_tests false true e f = says-equal (eqb-true x y f)
+  by_tests false false e f = says-greater (ltb-false x y e) (eqb-false x y f)
+
+  pub cmp_biased : nat_cmp x y ≡ ord_z.cmp (key a) (key b)
+  cmp_biased = by_tests (ltb x y) (eqb x y) refl refl

@@ -3,6 +3,7 @@ pub mod HalfPoints
 pub mod Keys
 pub mod Cells
 pub mod Negations
+pub mod Comparisons
 pub mod Agree
 pub mod SameWithin
 pub mod SameComparisons

@@ -7,8 +7,8 @@ use Prim.Native.Nat.{ℕ, ◌<◌, compare}
 use native.Mathlib.Omega.{arith}
 use lib.Dec.{T, eqb, is_le, compare_is_eq, leb→le, nleb→lt, eqb→eq, eqb_refl}
 use lib.IntN.{ℤ, pos, negsuc}
-use Rattle.truth.specs.declared.scalar.Ordering.{Ordering}
-use Rattle.truth.specs.declared.scalar.Ordering.TheVariants.{Less, Equal, Greater}
+use Rattle.std.specs.declared.cmp.Ordering.{Ordering}
+use Rattle.std.specs.declared.cmp.Ordering.TheVariants.{Less, Equal, Greater}
 use Rattle.truth.specs.Order.{View, less_view, equal_view, greater_view, Order, Total, opp}
 use Rattle.truth.specs.Halves.{ordering, less_z, cmp_z, ord_z}
 

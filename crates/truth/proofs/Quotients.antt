@@ -10,8 +10,8 @@ use lib.Arith.{digits_div, digits_mod}
 use lib.Dec.{eqb}
 use lib.IntN.{ℤ, pos, negsuc, neg_ℤ}
 use borrow.Author.Tests.{ne_eqb}
-use Rattle.division.specs.declared.divide.Division.{Division}
-use Rattle.division.specs.declared.divide.Division.TheVariants.{Null, Exact}
+use Rattle.std.specs.declared.option.Option as lang
+use Rattle.std.specs.declared.option.Option.TheVariants.{None, Some}
 use Rattle.division.specs.Division.{Divides, quotient_by, remainder_by, quotient, remainder, is_zero, fits, is_none}
 use Rattle.division.proofs.Bits.{none-computed, exact-computed}
 use Rattle.truth.specs.Halves.{twice, key, floor_divide_keys, modulus_keys}
@@ -99,14 +99,14 @@ some_divisor a b e = go (is_zero b) e
 
 -- ---- what the code takes of a division is the division of the two numbers' keys
 pub divided-keys :
-    (code : ℕ) (a b : ℤ) (d : Division) → Divides a b d → part_of code d ≡ divided_of code (some (twice a)) (some (twice b))
+    (code : ℕ) (a b : ℤ) (d : lang.Option (ℕ × ℕ)) → Divides a b d → part_of code d ≡ divided_of code (some (twice a)) (some (twice b))
 unfolding divided_of
-divided-keys code a b Null h = go (eqb code 13) (none-twice a b ∙ none-computed a b h)
+divided-keys code a b None h = go (eqb code 13) (none-twice a b ∙ none-computed a b h)
   where
     go : (c : Bool) → is_none (twice a) (twice b) ≡ true → none ≡ cond c floor_divide_keys modulus_keys (twice a) (twice b)
     go true e = rw e
     go false e = rw e
-divided-keys code a b (Exact q r) h =
+divided-keys code a b (Some (q, r)) h =
     let x = exact-computed a b q r h in
     let z = some_divisor a b x.0 in
     go (eqb code 13) (none-twice a b ∙ x.0) (ap twice x.1 ∙ sym (ap twice (twice-quotient a b z)))

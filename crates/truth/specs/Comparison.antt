@@ -1,6 +1,6 @@
 -- The six ordinary comparisons, of what `cmp left right` answers.
 use Rattle.std.specs.Prelude.{Bool, not}
-use Rattle.truth.specs.declared.scalar.Ordering.{Ordering}
+use Rattle.std.specs.declared.cmp.Ordering.{Ordering}
 use Rattle.truth.specs.Order.{is_less, is_equal, is_greater}
 
 pub data Comparison : Type 0 where

@@ -4,11 +4,10 @@ use Rattle.std.specs.Prelude.{◌≡◌, Bool, cond, not, ◌||◌, List, ◌⊎
 use Rattle.std.proofs.Math.Option.{Option, none, some}
 use Rattle.records.specs.Record.{fields_at, node}
 use Rattle.records.specs.declared.record.Fields.{Fields}
-use Rattle.division.specs.declared.divide.Division.{Division}
-use Rattle.division.specs.declared.divide.Division.TheVariants as quotient
+use Rattle.std.specs.declared.option.Option as lang
+use Rattle.std.specs.declared.option.Option.TheVariants as value
 use Rattle.three_valued.specs.declared.logic.Truth.{Truth}
-use Rattle.truth.specs.declared.value.Value.{Value}
-use Rattle.truth.specs.declared.value.Value.TheVariants as value
+use Rattle.truth.specs.declared.scalar.Scalar.{Scalar}
 use Rattle.truth.specs.Halves.{ord_z, key, floor_divide_keys, modulus_keys}
 use Rattle.truth.specs.Comparison.{Comparison, Eq, NotEq, Lt, LtEq, Gt, GtEq}
 use Rattle.three_valued.specs.Logic.{and3, or3, xor3, of_bool}
@@ -18,9 +17,9 @@ use Rattle.truth.specs.Cell.{is_null, value_of_truth, truth_of_value, compare3, 
 use Rattle.truth.specs.FromBytes.{aexpr_of, row_keys, truth_keys, truth_in, value_in, values_from}
 
 -- A value of the code as null or a key.
-abbrev pub keyed : Value → Option ℤ
-keyed value.Null = none
-keyed (value.Known v) = some (key v.0)
+abbrev pub keyed : lang.Option Scalar → Option ℤ
+keyed value.None = none
+keyed (value.Some v) = some (key v.0)
 
 -- The definitions of Cell at the keys of 64 bits.
 abbrev pub comparing : Comparison → Option ℤ → Option ℤ → Truth
@@ -57,9 +56,9 @@ compared_of code x y =
     (cond (eqb code 3) (of_bool (not (same x y))) (comparing (comparison_at code) x y))
 
 -- What FloorDivide and Modulus take of a division.
-abbrev pub part_of : ℕ → Division → Option ℤ
-part_of code quotient.Null = none
-part_of code (quotient.Exact q r) = some (key (cond (eqb code 13) q r))
+abbrev pub part_of : ℕ → lang.Option (ℕ × ℕ) → Option ℤ
+part_of code value.None = none
+part_of code (value.Some (q, r)) = some (key (cond (eqb code 13) q r))
 
 -- FloorDivide and Modulus, codes 13 and 14.
 unfoldable pub divided_of : ℕ → Option ℤ → Option ℤ → Option ℤ

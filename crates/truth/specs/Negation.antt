@@ -1,9 +1,8 @@
 -- `Operator::negate` beside the row test.
-use Rattle.std.specs.Prelude.{◌≡◌, true, ℕ}
+use Rattle.std.specs.Prelude.{◌≡◌, true, ℕ, Some}
 use Rattle.std.proofs.Math.Option.{Option}
 use Rattle.records.specs.Operator.{is_comparison, negate}
 use Rattle.records.specs.declared.operator.Operator.{Operator}
-use Rattle.records.specs.declared.operator.Negated.TheVariants.{To}
 use Rattle.truth.specs.Order.{Order}
 use Rattle.three_valued.specs.Logic.{not3}
 use Rattle.truth.specs.Cell.{TruthKeys, Cell, step}
@@ -18,4 +17,4 @@ module _ {K : Type 0} (key : ℕ → K) (O : Order K) (tk : TruthKeys O) where
 
   -- Each of the eight comparisons has such an operator, and `negate` gives it.
   abbrev pub NegateIsNot : Type 0
-  NegateIsNot = (o : Operator) → is_comparison o ≡ true → (n : Operator) × (negate o ≡ To n) × IsNotOf o n
+  NegateIsNot = (o : Operator) → is_comparison o ≡ true → (n : Operator) × (negate o ≡ Some n) × IsNotOf o n

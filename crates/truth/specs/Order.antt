@@ -1,7 +1,7 @@
 -- A totally ordered type, by its three-way comparison.
 use Rattle.std.specs.Prelude.{◌≡◌, Bool, true, false}
-use Rattle.truth.specs.declared.scalar.Ordering.{Ordering}
-use Rattle.truth.specs.declared.scalar.Ordering.TheVariants.{Less, Equal, Greater}
+use Rattle.std.specs.declared.cmp.Ordering.{Ordering}
+use Rattle.std.specs.declared.cmp.Ordering.TheVariants.{Less, Equal, Greater}
 
 -- What an answer of the comparison says of a and b.
 pub data View {K : Type 0} (less : K → K → Type 0) (a b : K) : Ordering → Type 0 where

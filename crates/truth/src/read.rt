@@ -20,9 +20,9 @@ pub fn column_value(row: &[u8], nulls: u64, c: Column) -> Value
     ensures { keyed result ≡ row_keys row.now nulls c.0 }
 {
     if null_marked(nulls, c.0) {
-        return Value::Null;
+        return None;
     }
-    Value::Known(Scalar(value_in(row, c.0 as usize)))
+    Some(Scalar(value_in(row, c.0 as usize)))
 }
 
 // The value of a column, a literal or a null; every other kind has none of its own.
@@ -34,7 +34,7 @@ pub fn leaf_value(f: Fields, row: &[u8], nulls: u64) -> Value
         return column_value(row, nulls, Column(f.a));
     }
     if f.kind == 2 {
-        return Value::Known(Scalar(f.b as u64 + 4294967296 * f.c as u64));
+        return Some(Scalar(f.b as u64 + 4294967296 * f.c as u64));
     }
-    Value::Null
+    None
 }

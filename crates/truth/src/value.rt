@@ -1,64 +1,31 @@
 // Values, null among them, and what comparing them says.
-ghost use Rattle.std.specs.Prelude.{◌≡◌, not};
+ghost use Rattle.std.specs.Prelude.{◌≡◌};
 ghost use Rattle.std.proofs.Math.Option.{some};
 ghost use Rattle.truth.specs.Halves.{key};
-ghost use Rattle.truth.specs.Order.{is_less, is_equal, is_greater};
 ghost use Rattle.truth.specs.Comparison.{comparison_holds};
 ghost use Rattle.truth.specs.Evaluate.{keyed, comparing, same, null_test, of_truth, to_truth};
 ghost use Rattle.truth.specs.Evaluate.{comparison_at, compared_of, part_of, divided_of, connected_of, low_code, high_code};
 ghost use Rattle.truth.specs.Evaluate.{between_of};
 
-use crate::scalar::{Ordering, Scalar, scalar_cmp};
-use division::divide::{Division, divide};
-use three_valued::logic::{Truth, and_of, or_of, truth_of_bool, xor_of};
+use crate::scalar::{Scalar, scalar_cmp};
+use division::divide::divide;
+use std::cmp::Ordering;
+use three_valued::logic::{Truth, and_of, or_of, xor_of};
 
-#[derive(Clone, Copy)]
-pub enum Value {
-    Null,
-    Known(Scalar),
-}
-
-fn is_less(o: Ordering) -> bool
-    ensures { result ≡ is_less o }
-{
-    match o {
-        Ordering::Less => true,
-        Ordering::Equal => false,
-        Ordering::Greater => false,
-    }
-}
-
-pub fn is_equal(o: Ordering) -> bool
-    ensures { result ≡ is_equal o }
-{
-    match o {
-        Ordering::Less => false,
-        Ordering::Equal => true,
-        Ordering::Greater => false,
-    }
-}
-
-fn is_greater(o: Ordering) -> bool
-    ensures { result ≡ is_greater o }
-{
-    match o {
-        Ordering::Less => false,
-        Ordering::Equal => false,
-        Ordering::Greater => true,
-    }
-}
+/// None is null.
+pub type Value = Option<Scalar>;
 
 // The six ordinary comparisons, by the operator's code: 0 Eq, 2 NotEq, 4 Lt, 5 LtEq, 6 Gt, 7 GtEq.
 fn holds(code: u8, o: Ordering) -> bool
     ensures { result ≡ comparison_holds (comparison_at code) o }
 {
     match code {
-        0 => is_equal(o),
-        2 => !is_equal(o),
-        4 => is_less(o),
-        5 => !is_greater(o),
-        6 => is_greater(o),
-        _ => !is_less(o),
+        0 => o.is_eq(),
+        2 => o.is_ne(),
+        4 => o.is_lt(),
+        5 => o.is_le(),
+        6 => o.is_gt(),
+        _ => o.is_ge(),
     }
 }
 
@@ -66,12 +33,9 @@ fn holds(code: u8, o: Ordering) -> bool
 fn compare_values(code: u8, x: Value, y: Value) -> Truth
     ensures { result ≡ comparing (comparison_at code) (keyed x) (keyed y) }
 {
-    match x {
-        Value::Null => Truth::Unknown,
-        Value::Known(a) => match y {
-            Value::Null => Truth::Unknown,
-            Value::Known(b) => truth_of_bool(holds(code, scalar_cmp(a, b))),
-        },
+    match (x, y) {
+        (Some(a), Some(b)) => Truth::from(holds(code, scalar_cmp(a, b))),
+        _ => Truth::Unknown,
     }
 }
 
@@ -79,16 +43,7 @@ fn compare_values(code: u8, x: Value, y: Value) -> Truth
 fn same_values(x: Value, y: Value) -> bool
     ensures { result ≡ same (keyed x) (keyed y) }
 {
-    match x {
-        Value::Null => match y {
-            Value::Null => true,
-            Value::Known(_) => false,
-        },
-        Value::Known(a) => match y {
-            Value::Null => false,
-            Value::Known(b) => is_equal(scalar_cmp(a, b)),
-        },
-    }
+    x == y
 }
 
 // The operators of codes 0 to 7.
@@ -96,27 +51,20 @@ pub fn compared(code: u8, x: Value, y: Value) -> Truth
     ensures { result ≡ compared_of code (keyed x) (keyed y) }
 {
     if code == 1 {
-        return truth_of_bool(same_values(x, y));
+        return Truth::from(same_values(x, y));
     }
     if code == 3 {
-        return truth_of_bool(!same_values(x, y));
+        return Truth::from(!same_values(x, y));
     }
     compare_values(code, x, y)
 }
 
 // Of one division FloorDivide, code 13, takes the quotient, Modulus the remainder.
-fn part_of(code: u8, d: Division) -> Value
+fn part_of(code: u8, d: Option<(u64, u64)>) -> Value
     ensures { keyed result ≡ part_of code d }
 {
-    match d {
-        Division::Null => Value::Null,
-        Division::Exact(quotient, remainder) => {
-            if code == 13 {
-                return Value::Known(Scalar(quotient));
-            }
-            Value::Known(Scalar(remainder))
-        }
-    }
+    let (quotient, remainder) = d?;
+    Some(Scalar(if code == 13 { quotient } else { remainder }))
 }
 
 fn divide_known(code: u8, a: Scalar, b: Scalar) -> Value
@@ -126,16 +74,11 @@ fn divide_known(code: u8, a: Scalar, b: Scalar) -> Value
 }
 
 // The operators of codes 13 and 14. A null on either side gives null.
+#[tactic(auto, unfolding(crate::specs::Evaluate::divided_of))]
 pub fn divided(code: u8, x: Value, y: Value) -> Value
     ensures { keyed result ≡ divided_of code (keyed x) (keyed y) }
 {
-    match x {
-        Value::Null => Value::Null,
-        Value::Known(a) => match y {
-            Value::Null => Value::Null,
-            Value::Known(b) => divide_known(code, a, b),
-        },
-    }
+    divide_known(code, x?, y?)
 }
 
 // The operators of codes 15 to 19.
@@ -160,13 +103,15 @@ pub fn between(code: u8, x: Value, low: Value, high: Value) -> Truth
     and_of(above, below)
 }
 
-fn low_code(code: u8) -> u8
+/// The comparison with the lower end, of is_between's code.
+pub fn low_code(code: u8) -> u8
     ensures { result ≡ low_code code }
 {
     if code <= 1 { 7 } else { 6 }
 }
 
-fn high_code(code: u8) -> u8
+/// The comparison with the upper end.
+pub fn high_code(code: u8) -> u8
     ensures { result ≡ high_code code }
 {
     if (code == 0) | (code == 2) { 5 } else { 4 }
@@ -175,10 +120,7 @@ fn high_code(code: u8) -> u8
 pub fn is_null(x: Value) -> bool
     ensures { result ≡ null_test (keyed x) }
 {
-    match x {
-        Value::Null => true,
-        Value::Known(_) => false,
-    }
+    x.is_none()
 }
 
 // A truth as a value: unknown is null, false is below true.
@@ -186,9 +128,9 @@ pub fn value_of_truth(t: Truth) -> Value
     ensures { keyed result ≡ of_truth t }
 {
     match t {
-        Truth::False => Value::Known(Scalar(0)),
-        Truth::Unknown => Value::Null,
-        Truth::True => Value::Known(Scalar(1)),
+        Truth::False => Some(Scalar(0)),
+        Truth::Unknown => None,
+        Truth::True => Some(Scalar(1)),
     }
 }
 
@@ -196,7 +138,7 @@ pub fn truth_of_value(x: Value) -> Truth
     ensures { result ≡ to_truth (keyed x) }
 {
     match x {
-        Value::Null => Truth::Unknown,
-        Value::Known(v) => truth_of_bool(is_equal(scalar_cmp(v, Scalar(1)))),
+        None => Truth::Unknown,
+        Some(v) => Truth::from(scalar_cmp(v, Scalar(1)).is_eq()),
     }
 }

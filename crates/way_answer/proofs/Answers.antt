@@ -10,7 +10,7 @@ use borrow.Author.Tests.{lt-ltb, le-ltb}
 use Rattle.checking.specs.Check.{check_answer}
 use Rattle.checking.specs.Checked.{Checked}
 use Rattle.checking.specs.Tree.{tree_count}
-use Rattle.checking.specs.declared.check.CheckAnswer.TheVariants as check
+use Rattle.checking.specs.Answer as check
 use Rattle.checking.proofs.Accepted.{checked}
 use Rattle.truth.specs.AExpr.{AExpr}
 use Rattle.truth.specs.FromBytes.{aexpr_of, aexpr_at}
@@ -24,7 +24,7 @@ use Rattle.merge.proofs.Accepted.{inputs-fall}
 use Rattle.read_operands.specs.Walk.{walked, first_of}
 use Rattle.read_operands.proofs.Walks.{first-length}
 use Rattle.reading.proofs.Screens.{minterms-walked, minterms-below, classify-used, classify-all_used}
-use Rattle.judge_lines.specs.declared.answer.WayAnswer.TheVariants as way
+use Rattle.judge_lines.specs.WayAnswer as way
 use Rattle.judge_lines.specs.Lines.{without, is_nothing, nothing_passes, first_true}
 use Rattle.judge_lines.specs.Answer.{line_of, line_answer}
 use Rattle.judge_lines.proofs.LeftOut.{opaque-first}

@@ -3,13 +3,13 @@
 use Rattle.std.specs.Prelude.{cond, List, ℕ, ltb, length}
 use Rattle.checking.specs.Check.{check_answer}
 use Rattle.checking.specs.Tree.{tree_count}
-use Rattle.checking.specs.declared.check.CheckAnswer.{CheckAnswer}
-use Rattle.checking.specs.declared.check.CheckAnswer.TheVariants as check
+use Rattle.checking.specs.Answer.{CheckAnswer}
+use Rattle.checking.specs.Answer as check
 use Rattle.truth.specs.FromBytes.{aexpr_at}
 use Rattle.merge.specs.Minterms.{minterms}
 use Rattle.merge.specs.Plain.{plain_screen}
-use Rattle.judge_lines.specs.declared.answer.WayAnswer.{WayAnswer}
-use Rattle.judge_lines.specs.declared.answer.WayAnswer.TheVariants as way
+use Rattle.judge_lines.specs.WayAnswer.{WayAnswer}
+use Rattle.judge_lines.specs.WayAnswer as way
 use Rattle.judge_lines.specs.Answer.{line_answer}
 
 -- 8, 9, 17 and the rest, of a checked screen.

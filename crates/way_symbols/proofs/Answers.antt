@@ -10,15 +10,15 @@ use lib.ListN.{length}
 use Rattle.checking.specs.Check.{check_answer_in}
 use Rattle.checking.specs.Checked.{Checked}
 use Rattle.checking.specs.Tree.{tree_count}
-use Rattle.checking.specs.declared.check.CheckAnswer.{CheckAnswer}
-use Rattle.checking.specs.declared.check.CheckAnswer.TheVariants as check
+use Rattle.checking.specs.Answer.{CheckAnswer}
+use Rattle.checking.specs.Answer as check
 use Rattle.checking.proofs.Accepted.{checked-in, checked-accepted}
 use Rattle.truth.specs.AExpr.{AExpr}
 use Rattle.truth.specs.FromBytes.{aexpr_at}
 use Rattle.merge.specs.Minterms.{minterms}
 use Rattle.merge.specs.Plain.{plain_screen}
-use Rattle.judge_lines.specs.declared.answer.WayAnswer.{WayAnswer}
-use Rattle.judge_lines.specs.declared.answer.WayAnswer.TheVariants as way
+use Rattle.judge_lines.specs.WayAnswer.{WayAnswer}
+use Rattle.judge_lines.specs.WayAnswer as way
 use Rattle.judge_lines.specs.Answer.{line_answer}
 use Rattle.plain_lines.specs.Refusal.{refusal_if}
 use Rattle.way_answer.specs.Answer.{way_checked, way_if, way_answer}

@@ -6,8 +6,8 @@ use Prim.Native.Nat.{ℕ, ◌≤◌, ◌<◌}
 use native.Mathlib.Omega.{arith}
 use lib.ListN.{length}
 use Rattle.checking.proofs.Accepted.{checked-in}
-use Rattle.judge_lines.specs.declared.answer.WayAnswer.{WayAnswer}
-use Rattle.judge_lines.specs.declared.answer.WayAnswer.TheVariants as way
+use Rattle.judge_lines.specs.WayAnswer.{WayAnswer}
+use Rattle.judge_lines.specs.WayAnswer as way
 use Rattle.way_answer.specs.Answer.{way_answer}
 use Rattle.in_the_way.specs.Calls.{way_number, line_out, way_listed, WayPromise}
 use Rattle.numbered_screen.specs.Numbered.{Numbered}

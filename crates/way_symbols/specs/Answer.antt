@@ -2,7 +2,7 @@
 -- the pool, text the bytes of the text pool.
 use Rattle.std.specs.Prelude.{List, ℕ}
 use Rattle.checking.specs.Check.{check_answer_in}
-use Rattle.judge_lines.specs.declared.answer.WayAnswer.{WayAnswer}
+use Rattle.judge_lines.specs.WayAnswer.{WayAnswer}
 use Rattle.way_answer.specs.Answer.{way_checked, way_if}
 use Rattle.symbol_screens.specs.Rewriting.{lent}
 

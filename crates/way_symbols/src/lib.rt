@@ -35,11 +35,10 @@ fn line_of_numbers(
     ensures promise { WayPromiseWith text.now table.now records.now
         pool.now used root result line.new }
 {
-    let k = plain_numbers(table, records, pool, text, used, root, columns, numbers);
-    if k != 0 {
-        return k;
+    match plain_numbers(table, records, pool, text, used, root, columns, numbers) {
+        Err(r) => r.number(),
+        Ok(()) => line_of_screen(&columns[..table.len()], numbers, pool, used, root, line),
     }
-    line_of_screen(&columns[..table.len()], numbers, pool, used, root, line)
 }
 
 // It has two callers, so that its copies stand in a frame of their own, which a screen without symbols does not pay for.

@@ -15,7 +15,7 @@ use Rattle.column_constraints.specs.Abstraction.{Conjuncts, numbered, column_of}
 use Rattle.column_constraints.specs.declared.column.ColumnConstraints.{ColumnConstraints}
 use Rattle.merge.specs.Collect.{is_in}
 use Rattle.merge.specs.Write.{splice, word_bytes}
-use Rattle.merge.proofs.Splices.{set4, splice-splice}
+use Rattle.merge.proofs.Splices.{splice-splice}
 use Rattle.masks.proofs.Bits.{mask_none}
 use Rattle.masks.proofs.Blocks.{mark_more}
 use Rattle.read_operands.specs.Walk.{first_of}
@@ -29,10 +29,6 @@ use Rattle.row_shown.specs.Bits.{bits_column}
 use Rattle.write_places.specs.Written.{RowWritten}
 
 -- ---- Bytes.
-pub word-put : (l : List ℕ) (i x a b c d : ℕ) → a ≡ x % 256 → b ≡ x / 256 % 256 → c ≡ x / 65536 % 256 → d ≡ x / 16777216 % 256
-    → i + 4 ≤ length l → set (set (set (set l i a) (i + 1) b) (i + 2) c) (i + 3) d ≡ splice l i (word_bytes x)
-word-put l i x a b c d ea eb ec ed h = rw (ea, eb, ec, ed) (set4 l i _ _ _ _ h)
-
 pub places-length : (f : ℕ → Place) (n : ℕ) → length (places_bytes f n) ≡ 16 * n
 unfolding places_bytes
 places-length f zero = refl

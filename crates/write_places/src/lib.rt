@@ -1,47 +1,24 @@
 // The places of the resolved columns, written into the lent row.
 #![tactic(auto)]
 
-ghost use Rattle.std.specs.Prelude.{◌≡◌, cond, not, ◌||◌, ◌+◌, ◌*◌, ◌%◌, ◌/◌, ◌^◌, ◌≤◌, ◌<◌, length};
+ghost use Rattle.std.specs.Prelude.{◌≡◌, cond, not, ◌||◌, ◌+◌, ◌*◌, ◌^◌, ◌≤◌, ◌<◌, length};
 ghost use Rattle.constraints.specs.Column.{is_null_required};
 ghost use Rattle.column_constraints.specs.Abstraction.{conjuncts, numbered, column_of};
 ghost use Rattle.merge.specs.Collect.{is_in};
-ghost use Rattle.merge.specs.Write.{splice, word_bytes};
+ghost use Rattle.merge.specs.Write.{splice};
 ghost use Rattle.read_operands.specs.Walk.{first_of};
 ghost use Rattle.column_table.specs.Rows.{row_of};
 ghost use Rattle.column_table.specs.State.{ColumnTable, Shows};
 ghost use Rattle.column_table.specs.Words.{columns_of};
-ghost use Rattle.row_shown.specs.Shown.{exactly, value_place, value_bytes, place_bytes};
+ghost use Rattle.row_shown.specs.Shown.{exactly, value_place, place_bytes};
 ghost use Rattle.row_shown.specs.Bits.{bits_column};
 ghost use Rattle.write_places.specs.Written.{RowWritten};
 
 use column_constraints::column::{ColumnConstraints, is_null};
 use column_table::cells::load;
 use masks::with_bit;
+use rewrite::write::put_value;
 use row_shown::place::{Place, null_place, value_place};
-
-fn low_byte(x: u32) -> u8
-    ensures { result ≡ x % 256 }
-{
-    (x % 256) as u8
-}
-
-fn put_word(s: &mut [u8], at: usize, x: u32)
-    requires { at + 4 ≤ length s.old }
-    ensures { s.new ≡ splice s.old at (word_bytes x) }
-{
-    s[at] = low_byte(x);
-    s[at + 1] = low_byte(x / 256);
-    s[at + 2] = low_byte(x / 65536);
-    s[at + 3] = low_byte(x / 16777216);
-}
-
-fn put_value(s: &mut [u8], at: usize, x: u64)
-    requires { at + 8 ≤ length s.old }
-    ensures { s.new ≡ splice s.old at (value_bytes x) }
-{
-    put_word(s, at, (x % 4294967296) as u32);
-    put_word(s, at + 4, (x / 4294967296) as u32);
-}
 
 /// The place of column c.
 fn put_place(row: &mut [u8], c: usize, place: Place)
@@ -59,12 +36,10 @@ fn has_entered(order: &[u32], n: usize, c: u32) -> bool
     requires { n ≤ length order.now }
     ensures { result ≡ is_in c (first_of order.now n) }
 {
-    let mut i: usize = 0;
-    while i < n {
+    for i in 0..n {
         if order[i] == c {
             return true;
         }
-        i += 1;
     }
     false
 }
@@ -122,14 +97,12 @@ pub fn write_places(
         RowWritten (first_of order.now n) (λ c. bits_column (T c)) columns row.old row.new result }
 {
     let mut nulls: u64 = 0;
-    let mut c: usize = 0;
-    while c < columns {
+    for c in 0..columns {
         let k = load(cells, c);
         let null = is_shown_null(order, n, c as u32, k);
         let place = shown_place(told, pool, marks, c, k, null);
         put_place(row, c, place);
         nulls = with_bit(nulls, c as u32, null);
-        c += 1;
     }
     nulls
 }

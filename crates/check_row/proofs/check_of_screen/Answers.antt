@@ -1,3 +1,4 @@
+use mathlib.Core.Path.{◌∙◌}
 use Prim.Native.Nat.{◌≤◌}
 use native.Mathlib.Omega.{arith}
 use Rattle.check_row.proofs.Answers.{row-refused, few-columns, few-lines, columns-there, row-tested, with-listed}
@@ -9,21 +10,21 @@ named p = record { answer = p.0; listed = p.1 }
 
 pub judge_row-requires : goal.judge_row-requires
 judge_row-requires c =
-    let few : _ ≤ 128 = few-lines c.args.table.now c.args.records.now c.args.pool.now c.args.used c.args.root c.args.row.now c.args.nulls c.plain_lines-lines.result c.plain_lines-lines.ensures.answer _ _ c.plain_lines-lines.ensures.lines c.in-Lines.is in
+    let few : _ ≤ 128 = few-lines c.args.table.now c.args.records.now c.args.pool.now c.args.used c.args.root c.args.row.now c.args.nulls c.plain_lines-lines.result c.plain_lines-lines.ensures.answer _ _ c.plain_lines-lines.ensures.lines c.in-Ok.is in
     record {
       columns_bound = (
         few-columns c.args.table.now c.args.records.now c.args.pool.now c.args.used c.args.root c.args.row.now c.args.nulls c.plain_lines-lines.result c.plain_lines-lines.ensures.answer _ _
-            c.plain_lines-lines.ensures.lines c.in-Lines.is,
+            c.plain_lines-lines.ensures.lines c.in-Ok.is,
         omega (arith, few),
       );
-      by_index = columns-there c.args.table.now c.args.records.now c.args.pool.now c.args.used c.args.root c.args.row.now c.args.nulls c.plain_lines-lines.result c.plain_lines-lines.ensures.answer _ _ c.plain_lines-lines.ensures.lines c.in-Lines.is;
+      by_index = columns-there c.args.table.now c.args.records.now c.args.pool.now c.args.used c.args.root c.args.row.now c.args.nulls c.plain_lines-lines.result c.plain_lines-lines.ensures.answer _ _ c.plain_lines-lines.ensures.lines c.in-Ok.is;
     }
 
-pub returns-in-Refused : goal.returns-in-Refused
-returns-in-Refused c =
-    named (with-listed c.args.table.now c.args.records.now c.args.pool.now c.args.used c.args.root c.args.row.now c.args.nulls _ (row-refused c.args.table.now c.args.records.now c.args.pool.now c.args.used c.args.root c.args.row.now c.args.nulls c.plain_lines-lines.result c.plain_lines-lines.ensures.answer _ c.in-Refused.is))
+pub returns-in-Err : goal.returns-in-Err
+returns-in-Err c =
+    named (with-listed c.args.table.now c.args.records.now c.args.pool.now c.args.used c.args.root c.args.row.now c.args.nulls _ (c.number.ensures ∙ row-refused c.args.table.now c.args.records.now c.args.pool.now c.args.used c.args.root c.args.row.now c.args.nulls c.plain_lines-lines.result c.plain_lines-lines.ensures.answer _ c.in-Err.is))
 
-pub returns-in-Lines : goal.returns-in-Lines
-returns-in-Lines c =
+pub returns-in-Ok : goal.returns-in-Ok
+returns-in-Ok c =
     named (with-listed c.args.table.now c.args.records.now c.args.pool.now c.args.used c.args.root c.args.row.now c.args.nulls _ (row-tested c.args.table.now c.args.records.now c.args.pool.now c.args.used c.args.root c.args.row.now c.args.nulls c.plain_lines-lines.result c.plain_lines-lines.ensures.answer _ _
-    c.plain_lines-lines.ensures.lines c.in-Lines.is _ c.judge_row.ensures))
+    c.plain_lines-lines.ensures.lines c.in-Ok.is _ c.judge_row.ensures))

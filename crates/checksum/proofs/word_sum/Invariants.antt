@@ -6,7 +6,3 @@ use Rattle.checksum.proofs.word_sum.Given as goal
 abbrev pub invariant-loop-k : goal.invariant-loop-k
 invariant-loop-k l =
     (l.k ≤ 64) × (l.sum ≤ 8589934590 * l.k) × (l.sum ≡ word_sum l.block l.k)
-
-abbrev pub decreases-loop-k : goal.decreases-loop-k
-decreases-loop-k l =
-    64 - l.k

@@ -7,7 +7,3 @@ use Rattle.checksum_bench.proofs.by_pairs.Given as goal
 abbrev pub invariant-loop-k : goal.invariant-loop-k
 invariant-loop-k l =
     (1 ≤ l.k) × (l.k ≤ 256) × (l.sum ≤ 65535) × (l.sum ≡ ones_sum (cleared l.block) l.k)
-
-abbrev pub decreases-loop-k : goal.decreases-loop-k
-decreases-loop-k l =
-    256 - l.k

@@ -27,11 +27,6 @@ overflow_add-size c =
     let g : c.args.c.len ≤ 128 = few _ _ _ c.requires in
     omega (arith, g, c.loop-p.invariant.1, c.place_length-size.ensures.upper_bound, c.loop-p-test.true)
 
-pub overflow_add-p : goal.overflow_add-p
-overflow_add-p c =
-    let g : c.args.c.len ≤ 128 = few _ _ _ c.requires in
-    omega (arith, g, c.loop-p-test.true)
-
 pub loop-p-preserved : goal.loop-p-preserved
 loop-p-preserved c = (
   search rules,

@@ -12,7 +12,3 @@ abbrev pub invariant-loop-p : goal.invariant-loop-p
 invariant-loop-p l =
     (l.p ≤ l.places) × (l.size ≤ 8589934640 * l.p) × ((s : Conjuncts) → s.kinds ≡ (kinds_in l.told) → s.values ≡ (values_in l.told) → (text :
     List ℕ) → l.size ≡ 0 + length (text_to (shown_in l.t text) l.a.0 s (numbered l.marks l.c) l.p))
-
-abbrev pub decreases-loop-p : goal.decreases-loop-p
-decreases-loop-p l =
-    l.places - l.p

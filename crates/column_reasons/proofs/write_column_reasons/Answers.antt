@@ -35,11 +35,6 @@ write_place-next-requires c =
     c.comparison_at-k.result (c.comparison_at-k.ensures sj refl refl) (c.loop-p.invariant.2 sj refl refl) c.loop-p-test.true (c.requires.1 sj refl refl) in
     omega (arith, r, c.loop-p.invariant.1)
 
-pub overflow_add-p : goal.overflow_add-p
-overflow_add-p c =
-    let g : c.args.c.len ≤ 128 = few _ _ _ c.requires.0 in
-    omega (arith, g, c.loop-p-test.true)
-
 pub loop-p-preserved : goal.loop-p-preserved
 loop-p-preserved c = (
   search rules,

@@ -13,7 +13,3 @@ invariant-loop-p l =
     (l.p ≤ l.places) × (length l.out ≡ length l.initial.out) × ((s : Conjuncts) → s.kinds ≡ (kinds_in l.told) → s.values ≡ (values_in l.told) → l.next
     ≡ l.at + length (text_to (shown_in l.t l.text) l.a.0 s (numbered l.marks l.c) l.p)) × ((s : Conjuncts) → s.kinds ≡ (kinds_in l.told)
     → s.values ≡ (values_in l.told) → l.out ≡ splice l.initial.out l.at (text_to (shown_in l.t l.text) l.a.0 s (numbered l.marks l.c) l.p))
-
-abbrev pub decreases-loop-p : goal.decreases-loop-p
-decreases-loop-p l =
-    l.places - l.p

@@ -1,29 +1,15 @@
-use mathlib.Core.Bool.{true}
-use native.Mathlib.Omega.{arith}
-use Rattle.records.proofs.Loops.{all_none, all_more, all_fails, all_done, flag_no, flag_yes}
-use Rattle.file_structure.specs.Read.{order_ok, follows_ok, blocks_in}
+use Prim.Native.Nat.{ℕ, ◌/◌, ◌-◌, ◌+◌}
+use mathlib.Core.Path.{refl}
+use lib.ListN.{length}
+use borrow.Author.Tests.{tests}
+use Rattle.std.proofs.Common.{rules}
+use Rattle.records.proofs.Ranges.{all_in_range}
 use Rattle.file_structure.proofs.Parts.{part_block, part_block_next}
-use borrow.Author.Rules.{rules}
-use mathlib.Core.Path.{ap}
-use mathlib.Core.Bool.{not}
+use Rattle.file_structure.specs.Read.{order_ok, follows_ok, block_at, blocks_in}
 use Rattle.file_structure.proofs.order_ok.Goals as goal
-
-pub loop-i-init : goal.loop-i-init
-loop-i-init c = (search rules, search rules, all_none _)
-
-pub returns-then-not-follows_ok : goal.returns-then-not-follows_ok
-unfolding order_ok blocks_in
-returns-then-not-follows_ok c =
-    rw (← c.loop-i.invariant.1) (all_fails _ _ _ c.loop-i-test.true (flag_no (rw (part_block, part_block_next) at c.follows_ok.ensures) (ap not c.if-not-follows_ok.true)))
-
-pub loop-i-preserved : goal.loop-i-preserved
-loop-i-preserved c = (
-  omega arith,
-  c.loop-i.invariant.1,
-  all_more _ _ c.loop-i.invariant.2 (flag_yes (rw (part_block, part_block_next) at
-      c.follows_ok.ensures) (ap not c.if-not-follows_ok.false)),
-)
 
 pub returns : goal.returns
 unfolding order_ok blocks_in
-returns c = rw (← c.loop-i.invariant.1) (all_done _ _ _ c.loop-i.invariant.0 (omega arith) c.loop-i.invariant.2)
+returns c =
+    all_in_range (λ (j : ℕ). follows_ok (block_at c.args.f.now j) (block_at c.args.f.now (j + 1))) (length c.args.f.now / 512 - 1) _ _ _ c.all.ensures.ran refl
+    (λ x b q k. search (rules, tests, part_block, part_block_next))

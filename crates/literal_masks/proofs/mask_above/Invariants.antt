@@ -10,7 +10,3 @@ abbrev pub invariant-loop-i : goal.invariant-loop-i
 invariant-loop-i l =
     (l.i ≤ l.rows) × (l.m ≡ mask_to (λ (j : ℕ). ltb (bias_of l.v) (bias_of (cell_of l.columns l.values l.c l.base (l.i + j)))) (l.rows -
     l.i)) × Wide l.columns l.values l.c l.base l.i l.rows
-
-abbrev pub decreases-loop-i : goal.decreases-loop-i
-decreases-loop-i l =
-    l.i

@@ -1,40 +1,48 @@
-use Rattle.std.proofs.Common.{◌≡◌, ℕ, ◌≤◌, ◌<◌, length, arith}
-use mathlib.Core.Path.{ap, ◌∙◌, subst}
-use mathlib.Core.Bool.{true}
-use Rattle.merge.specs.Minterms.{minterms}
+use Rattle.std.proofs.Common.{length, arith}
+use mathlib.Core.Path.{ap, ◌∙◌}
+use Rattle.merge.specs.Minterms.{minterms, pending}
 use Rattle.read_operands.specs.Walk.{walked}
-use Rattle.next_minterm.specs.Iter.{stack_in, Walkable, Next}
-use Rattle.next_minterm.proofs.Steps.{Turning, to_come, new-walkable, begins, turn}
+use Rattle.next_minterm.specs.Iter.{stack_in}
+use Rattle.next_minterm.proofs.Steps.{new-walkable, begins, count, stop, over, more}
 use Rattle.minterm_iter.proofs.minterms.Goals as goal
 
-pub loop-more-init : goal.loop-more-init
-loop-more-init c =
-    let e = c.new-it.ensures in
+pub loop-item-init : goal.loop-item-init
+loop-item-init c =
+    let e = rw (← c.into_iter-item-iterator.ensures.into_iter_gives) at c.new-item-items.ensures in
+    let s = c.into_iter-item-iterator.result.stack in
     record {
       same = ap (λ r. r.now) e.0;
-      walkable = new-walkable c.args.rs.now c.new-it.result.stack c.args.root.0 (e.1, e.2) c.requires.below;
-      turning = begins c.args.rs.now c.args.root.0 (stack_in c.new-it.result.stack) c.args.nodes.now e.1;
+      walkable = new-walkable c.args.rs.now s c.args.root.0 (e.1, e.2) c.requires.below;
+      turning = begins c.args.rs.now c.args.root.0 (stack_in s) c.args.nodes.now e.1;
     }
 
-pub loop-more-preserved : goal.loop-more-preserved
-loop-more-preserved c =
-    let e = rw c.loop-more.invariant.same at c.next-item.ensures in
-    let h = rw c.loop-more-test.true at c.loop-more.invariant.turning in
-    let room : 128 ≤ length c.loop-more.nodes = omega (arith, c.requires.room, c.loop-more.auto.nodes) in
+pub loop-item-preserved : goal.loop-item-preserved
+loop-item-preserved c =
+    let e = rw c.loop-item.invariant.same at c.next.ensures.steps in
+    let p = rw (c.in-Some.is, c.in-Ok.is) at e.1 in
     record {
-      same = ap (λ r. r.now) c.next-item.ensures.0 ∙ c.loop-more.invariant.same;
+      same = ap (λ r. r.now) c.next.ensures.steps.0 ∙ c.loop-item.invariant.same;
       walkable = e.2;
-      turning = (turn (walked c.args.rs.now) (minterms (walked c.args.rs.now) c.args.root.0) (stack_in c.loop-more.it.stack)
-          (stack_in c.next-item.new.self.stack) c.loop-more.nodes c.take-found.new.nodes c.loop-more.len
-          c.take-found.result.len c.next-item.result c.take-found.result.more room h e.1 c.take-found.ensures).0;
+      turning = more (walked c.args.rs.now) (minterms (walked c.args.rs.now) c.args.root.0) (stack_in c.loop-item.item-iterator.stack)
+          (stack_in c.next.new.self.stack) c.loop-item.nodes c.loop-item.len c.in-Ok.n.0 (omega arith) (omega arith) p
+          c.loop-item.invariant.turning;
     }
 
-pub loop-more-smaller : goal.loop-more-smaller
-loop-more-smaller c =
-    let e = rw c.loop-more.invariant.same at c.next-item.ensures in
-    let h = rw c.loop-more-test.true at c.loop-more.invariant.turning in
-    let room : 128 ≤ length c.loop-more.nodes = omega (arith, c.requires.room, c.loop-more.auto.nodes) in
-    rw c.loop-more-test.true
-    (turn (walked c.args.rs.now) (minterms (walked c.args.rs.now) c.args.root.0) (stack_in c.loop-more.it.stack)
-    (stack_in c.next-item.new.self.stack) c.loop-more.nodes c.take-found.new.nodes c.loop-more.len
-    c.take-found.result.len c.next-item.result c.take-found.result.more room h e.1 c.take-found.ensures).1
+pub returns-then-len-ge128 : goal.returns-then-len-ge128
+returns-then-len-ge128 c =
+    let e = rw c.loop-item.invariant.same at c.next.ensures.steps in
+    let p = rw (c.in-Some.is, c.in-Ok.is) at e.1 in
+    let q = ap length p in
+    let n = count (minterms (walked c.args.rs.now) c.args.root.0) c.loop-item.nodes
+    (pending (walked c.args.rs.now) (stack_in c.loop-item.item-iterator.stack)) c.loop-item.len c.loop-item.invariant.turning.0 in
+    let f = over (walked c.args.rs.now) (minterms (walked c.args.rs.now) c.args.root.0) (stack_in c.loop-item.item-iterator.stack)
+    c.loop-item.nodes (omega (arith, n, q)) in
+    record { counted = f.0; all = f.1 }
+
+pub returns : goal.returns
+returns c =
+    let e = rw c.loop-item.invariant.same at c.next.ensures.steps in
+    let p = rw c.in-None.is at e.1 in
+    let f = stop (walked c.args.rs.now) (minterms (walked c.args.rs.now) c.args.root.0) (stack_in c.loop-item.item-iterator.stack)
+    c.loop-item.nodes c.loop-item.len p.0 c.loop-item.invariant.turning (stack_in c.loop-item.item-iterator.stack) in
+    record { counted = f.0; all = f.1 }

@@ -20,9 +20,9 @@ loop-x-init c =
       top_pending R c.args.stack.now c.args.depth live,
     )
 
-pub returns-in-One : goal.returns-in-One
-returns-in-One c =
-    let e = sym (ap sides_in c.in-One.is) ∙ c.sides_at-s.ensures in (
+pub returns : goal.returns
+returns c =
+    let e = sym (ap sides_in c.in_default.is) ∙ c.sides_at.ensures in (
       sym c.loop-x.invariant.3 ∙ turn_one _ c.loop-x.top (stack_of c.loop-x.stack c.loop-x.left) c.loop-x.invariant.2 e,
       c.loop-x.invariant.2.1,
       omega (arith, c.loop-x.invariant.0),
@@ -30,17 +30,17 @@ returns-in-One c =
 
 pub returns-then-left-ge127 : goal.returns-then-left-ge127
 returns-then-left-ge127 c =
-    let e = sym (ap sides_in c.in-Both.is) ∙ c.sides_at-s.ensures in
+    let e = sym (ap sides_in c.in-Some.is) ∙ c.sides_at.ensures in
     step-over _ _ c.loop-x.top _ _ c.loop-x.stack c.loop-x.left c.loop-x.invariant.2 e c.if-left-ge127.true c.loop-x.invariant.3
 
 pub loop-x-smaller : goal.loop-x-smaller
 loop-x-smaller c =
-    let e = sym (ap sides_in c.in-Both.is) ∙ c.sides_at-s.ensures in
+    let e = sym (ap sides_in c.in-Some.is) ∙ c.sides_at.ensures in
     (left_below _ c.loop-x.top _ _ c.loop-x.stack c.loop-x.left c.loop-x.invariant.2 e).0
 
 pub loop-x-preserved : goal.loop-x-preserved
 loop-x-preserved c =
-    let e = sym (ap sides_in c.in-Both.is) ∙ c.sides_at-s.ensures in
+    let e = sym (ap sides_in c.in-Some.is) ∙ c.sides_at.ensures in
     let room : c.loop-x.left < length c.loop-x.stack = omega (arith, c.loop-x.invariant.0, c.loop-x.invariant.1) in (
       omega arith,
       length-set c.loop-x.stack c.loop-x.left _ ∙ c.loop-x.invariant.1,

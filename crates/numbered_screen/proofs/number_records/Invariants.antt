@@ -1,5 +1,5 @@
 use mathlib.Core.Path.{◌≡◌}
-use Prim.Native.Nat.{◌-◌, ◌≤◌}
+use Prim.Native.Nat.{◌≤◌}
 use lib.ListN.{length, get_or}
 use Rattle.record_check.proofs.Filling.{Filled}
 use Rattle.numbered_screen.specs.Numbered.{number_byte}
@@ -8,7 +8,3 @@ use Rattle.numbered_screen.proofs.number_records.Given as goal
 abbrev pub invariant-loop-i : goal.invariant-loop-i
 invariant-loop-i l =
     (l.i ≤ l.n) × (length l.records ≡ length l.initial.records) × Filled (λ k. number_byte k (get_or l.rs k 0)) l.records l.i
-
-abbrev pub decreases-loop-i : goal.decreases-loop-i
-decreases-loop-i l =
-    l.n - l.i

@@ -11,7 +11,3 @@ use Rattle.plain.proofs.plain_conjuncts.Given as goal
 abbrev pub invariant-loop-i : goal.invariant-loop-i
 invariant-loop-i l =
     (l.i ≤ l.n) × ((p : List ℕ) → all (λ (k : ℕ). plain_conjunct (aexpr_of l.rs p) (get_or l.nodes k 0)) l.i ≡ true)
-
-abbrev pub decreases-loop-i : goal.decreases-loop-i
-decreases-loop-i l =
-    l.n - l.i

@@ -1,5 +1,6 @@
 use borrow.Author.Rules.{rules}
-use mathlib.Core.Path.{sym, ◌∙◌}
+use mathlib.Core.Path.{sym, refl}
+use Rattle.std.proofs.lemmas.Result.{err_from_is_err_and}
 use Prim.Native.Nat.{◌≤◌, ◌<◌}
 use native.Mathlib.Omega.{arith}
 use Rattle.checking.proofs.Accepted.{checked, checked-used, accepted-root}
@@ -8,17 +9,17 @@ use Rattle.plain_lines.proofs.lines_within.Goals as goal
 
 pub overflow_cast-used : goal.overflow_cast-used
 overflow_cast-used c =
-    let h : c.args.used ≤ 4096 = checked-used c.args.t.now c.args.rs.now c.args.p.now c.args.used c.args.root (checked c.args.t.now c.args.rs.now c.args.p.now c.args.used c.args.root (sym c.check_counted-answer.ensures.value ∙ c.in-Accepted.is)) in
+    let h : c.args.used ≤ 4096 = checked-used c.args.t.now c.args.rs.now c.args.p.now c.args.used c.args.root (checked c.args.t.now c.args.rs.now c.args.p.now c.args.used c.args.root (sym c.in_ok-check_counted.ensures.value)) in
     omega (arith, h)
 
 pub overflow_cast-root : goal.overflow_cast-root
 overflow_cast-root c =
-    let h : c.args.root < 4096 = accepted-root c.args.t.now c.args.rs.now c.args.p.now c.args.used c.args.root (sym c.check_counted-answer.ensures.value ∙ c.in-Accepted.is) in
+    let h : c.args.root < 4096 = accepted-root c.args.t.now c.args.rs.now c.args.p.now c.args.used c.args.root (sym c.in_ok-check_counted.ensures.value) in
     omega (arith, h)
 
 pub lines_checked-requires : goal.lines_checked-requires
 lines_checked-requires c =
-    let accepted = sym c.check_counted-answer.ensures.value ∙ c.in-Accepted.is in
+    let accepted = sym c.in_ok-check_counted.ensures.value in
     let ok = checked c.args.t.now c.args.rs.now c.args.p.now c.args.used c.args.root
     accepted in
     let h : c.args.root < c.args.used = ok.root-used in
@@ -26,7 +27,7 @@ lines_checked-requires c =
     c.args.used c.args.root ok in
     record {
       root_value = accepted;
-      counted = λ a k. c.check_counted-answer.ensures.counted c.in-Accepted.is a (omega (arith, k, h));
+      counted = λ a k. c.in_ok-check_counted.ensures.counted refl a (omega (arith, k, h));
       root_in_bounds = omega (
         arith,
         h,
@@ -35,10 +36,10 @@ lines_checked-requires c =
       in_bounds = search rules;
     }
 
-pub returns-in-Refused : goal.returns-in-Refused
-returns-in-Refused c =
-    record {
-      answer = refused-first c.args.t.now c.args.rs.now c.args.p.now c.args.used c.args.root _
-          (sym c.check_counted-answer.ensures.value ∙ c.in-Refused.is);
+pub returns-in_err-check_counted : goal.returns-in_err-check_counted
+returns-in_err-check_counted c =
+    let p = err_from_is_err_and c.from_residual.result c.from_residual.ensures.1 in
+    rw (p.1, p.2) record {
+      answer = refused-first c.args.t.now c.args.rs.now c.args.p.now c.args.used c.args.root _ (sym c.in_err-check_counted.ensures.value);
       lines = tt;
     }

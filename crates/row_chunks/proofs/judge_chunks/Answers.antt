@@ -1,8 +1,10 @@
 use borrow.Author.Rules.{rules}
+use mathlib.Core.Path.{refl}
+use mathlib.Core.Bool.{true≢false}
 use Rattle.row_chunks.proofs.judge_chunks.Goals as goal
 
-pub judge_both-requires : goal.judge_both-requires
-judge_both-requires c =
+pub judge_sorted-requires : goal.judge_sorted-requires
+judge_sorted-requires c =
     record {
       in_bounds = c.requires.in_bounds;
       nulls_len_bound = c.requires.nulls_len_bound;
@@ -13,7 +15,8 @@ judge_both-requires c =
         c.mark_reached.ensures.closed,
         search rules,
       );
-      in_bounds_2 = c.second_pays.ensures c.if-second_pays.true;
+      one = λ e. absurd (true≢false e);
+      two = λ _. (refl, c.second_pays.ensures c.if-second_pays.true);
     }
 
 pub judge_asked-requires : goal.judge_asked-requires

@@ -1,4 +1,4 @@
-use Prim.Native.Nat.{ℕ, ◌-◌, ◌*◌, ◌≤◌}
+use Prim.Native.Nat.{ℕ, ◌*◌, ◌≤◌}
 use mathlib.Core.Path.{◌≡◌}
 use lib.ListN.{get_or, length}
 use lib.Dec.{eqb}
@@ -11,7 +11,3 @@ invariant-loop-i l =
     (l.i ≤ l.rows) × (l.at ≤ 2 * l.i) × (length l.list ≡ length l.initial.list) × (l.at ≡ length (bytes_of (numbers (λ (j : ℕ). eqb
     (get_or l.classes j 0) 2) l.i))) × (l.list ≡ overwrite l.initial.list 0 (bytes_of (numbers (λ (j : ℕ). eqb (get_or l.classes j 0)
     2) l.i)))
-
-abbrev pub decreases-loop-i : goal.decreases-loop-i
-decreases-loop-i l =
-    l.rows - l.i

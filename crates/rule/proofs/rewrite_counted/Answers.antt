@@ -1,3 +1,4 @@
+use mathlib.Core.Path.{refl}
 use borrow.Author.Rules.{rules}
 use Prim.Native.Nat.{◌≤◌, ◌<◌}
 use native.Mathlib.Omega.{arith}
@@ -40,21 +41,21 @@ merge_sized-requires c =
       );
     }
 
-pub merge_few-requires : goal.merge_few-requires
-merge_few-requires c =
+pub merge_in-requires : goal.merge_in-requires
+merge_in-requires c =
     let few : length (mt.minterms (walked c.args.rs.now) c.args.root.0) ≤ 128 = omega (
       arith,
       c.minterms-n.ensures.counted,
     ) in
-    record { accepted = accepted-as_ever c.args.text.now c.args.t.now c.args.rs.now c.args.p.now c.args.used c.args.root.0 c.requires.accepted (c.requires.free c.if-symbols.false).1; counted = c.requires.counted; small = c.requires.small; walked = c.minterms-n.ensures.all few; there = (c.if-n-le16.true, search rules) }
+    record { accepted = accepted-as_ever c.args.text.now c.args.t.now c.args.rs.now c.args.p.now c.args.used c.args.root.0 c.requires.accepted (c.requires.free c.if-symbols.false).1; counted = c.requires.counted; small = c.requires.small; walked = c.minterms-n.ensures.all few; sizes = (omega arith, refl, refl); there = (c.if-n-le16.true, search rules) }
 
 pub returns-then-n-le16 : goal.returns-then-n-le16
 returns-then-n-le16 c =
     record {
       explains = (λ _. let h = c.requires.free c.if-symbols.false in
           numbers-explain c.args.text.now c.args.t.now c.args.rs.now c.args.p.now c.args.used c.args.root.0 (le-leb (lent c.args.text.now) 8193
-          (omega (arith, h.0))) h.1 c.merge_few.result c.args.reasons.now _ _ c.merge_few.ensures.answer
-          c.merge_few.ensures.bytes c.merge_few.ensures.passes c.merge_few.ensures.text c.merge_few.ensures.length);
+          (omega (arith, h.0))) h.1 c.merge_in.result c.args.reasons.now _ _ c.merge_in.ensures.answer
+          c.merge_in.ensures.bytes c.merge_in.ensures.passes c.merge_in.ensures.text c.merge_in.ensures.length);
     }
 
 pub merge_sized-requires-then-symbols-2 : goal.merge_sized-requires-then-symbols-2
@@ -74,19 +75,19 @@ merge_sized-requires-then-symbols-2 c =
       );
     }
 
-pub merge_many-requires : goal.merge_many-requires
-merge_many-requires c =
+pub merge_in-requires-2 : goal.merge_in-requires-2
+merge_in-requires-2 c =
     let few : length (mt.minterms (walked c.args.rs.now) c.args.root.0) ≤ 128 = omega (
       arith,
       c.minterms-n.ensures.counted,
     ) in
-    record { accepted = accepted-as_ever c.args.text.now c.args.t.now c.args.rs.now c.args.p.now c.args.used c.args.root.0 c.requires.accepted (c.requires.free c.if-symbols-2.false).1; counted = c.requires.counted; small = c.requires.small; walked = c.minterms-n.ensures.all few; there = (omega arith, search rules) }
+    record { accepted = accepted-as_ever c.args.text.now c.args.t.now c.args.rs.now c.args.p.now c.args.used c.args.root.0 c.requires.accepted (c.requires.free c.if-symbols-2.false).1; counted = c.requires.counted; small = c.requires.small; walked = c.minterms-n.ensures.all few; sizes = (omega arith, refl, refl); there = (omega arith, search rules) }
 
 pub returns : goal.returns
 returns c =
     record {
       explains = (λ _. let h = c.requires.free c.if-symbols-2.false in
           numbers-explain c.args.text.now c.args.t.now c.args.rs.now c.args.p.now c.args.used c.args.root.0 (le-leb (lent c.args.text.now) 8193
-          (omega (arith, h.0))) h.1 c.merge_many.result c.args.reasons.now _ _ c.merge_many.ensures.answer
-          c.merge_many.ensures.bytes c.merge_many.ensures.passes c.merge_many.ensures.text c.merge_many.ensures.length);
+          (omega (arith, h.0))) h.1 c.merge_in-2.result c.args.reasons.now _ _ c.merge_in-2.ensures.answer
+          c.merge_in-2.ensures.bytes c.merge_in-2.ensures.passes c.merge_in-2.ensures.text c.merge_in-2.ensures.length);
     }

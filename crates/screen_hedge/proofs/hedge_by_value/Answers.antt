@@ -1,12 +1,13 @@
-use mathlib.Core.Path.{refl, sym, ◌∙◌}
+use mathlib.Core.Path.{refl, sym, ◌∙◌, ap}
+use Rattle.hedge.specs.Answer.{hedge_answered}
 use Rattle.screen_hedge.proofs.hedge_by_value.Goals as goal
 
-pub returns-in-Refused : goal.returns-in-Refused
-returns-in-Refused c =
-    let e = sym c.hedge_list_with.ensures.value ∙ c.in-Refused.is in
-    rw e (refl, refl, refl, refl, c.hedge_list_with.ensures.list_after, refl)
+pub returns-in-Err : goal.returns-in-Err
+returns-in-Err c =
+    let e = sym c.hedge_list_with.ensures.value ∙ ap hedge_answered c.in-Err.is in
+    rw e (c.number.ensures, refl, refl, refl, c.hedge_list_with.ensures.list_after, refl)
 
-pub returns-in-Listed : goal.returns-in-Listed
-returns-in-Listed c =
-    let e = sym c.hedge_list_with.ensures.value ∙ c.in-Listed.is in
+pub returns-in-Ok : goal.returns-in-Ok
+returns-in-Ok c =
+    let e = sym c.hedge_list_with.ensures.value ∙ ap hedge_answered c.in-Ok.is in
     rw e (refl, refl, refl, refl, c.hedge_list_with.ensures.list_after, refl)

@@ -1,18 +1,14 @@
-use Rattle.records.proofs.Loops.{all_none, all_more, all_fails, all_done}
-use borrow.Author.Tests.{eq-eqb, ne_eqb}
-use mathlib.Core.Bool.{true, not}
-use mathlib.Core.Path.{ap}
-use borrow.Author.Rules.{rules}
+use Prim.Native.Nat.{ℕ, ◌+◌, ◌*◌}
+use mathlib.Core.Path.{refl}
+use mathlib.Core.Bool.{not}
+use lib.Dec.{eqb}
+use lib.ListN.{get_or}
+use borrow.Author.Tests.{tests}
+use Rattle.std.proofs.Common.{rules}
+use Rattle.records.proofs.Ranges.{all_in_range}
 use Rattle.symbol_free.proofs.no_text_record.Goals as goal
 
-pub loop-k-init : goal.loop-k-init
-loop-k-init c = (search rules, all_none _)
-
-pub returns-then-rs-k-eq4 : goal.returns-then-rs-k-eq4
-returns-then-rs-k-eq4 c = all_fails _ _ _ c.loop-k-test.true (ap not (eq-eqb _ _ c.if-rs-k-eq4.true))
-
-pub loop-k-preserved : goal.loop-k-preserved
-loop-k-preserved c = (search rules, all_more _ _ c.loop-k.invariant.1 (ap not (ne_eqb _ _ c.if-rs-k-eq4.false)))
-
 pub returns : goal.returns
-returns c = search all_done
+returns c =
+    all_in_range (λ (k : ℕ). not (eqb (get_or c.args.rs.now (16 * k + 2) 0) 4)) c.args.used _ _ _ c.all.ensures.ran refl
+    (λ x b q k. search (rules, tests))

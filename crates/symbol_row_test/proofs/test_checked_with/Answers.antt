@@ -1,14 +1,16 @@
 use borrow.Author.Rules.{rules}
 use native.Mathlib.Omega.{arith}
-use mathlib.Core.Path.{sym, ◌∙◌}
+use mathlib.Core.Path.{sym, refl}
+use Rattle.std.proofs.lemmas.Result.{err_from_is_err_and}
+use Rattle.refusal.proofs.Numbers.{number-positive}
 use Rattle.checking.proofs.Accepted.{checked-lent_in}
 use Rattle.symbol_screens.specs.Rewriting.{lent}
 use Rattle.symbol_reduction.proofs.Constants.{reduced_none}
 use Rattle.symbol_row_test.proofs.AnswersWith.{columns-small, text-small, row-refused, row-tested}
 use Rattle.symbol_row_test.proofs.test_checked_with.Goals as goal
 
-pub row_fault_with-fault-requires : goal.row_fault_with-fault-requires
-row_fault_with-fault-requires c =
+pub row_fault_with-requires : goal.row_fault_with-requires
+row_fault_with-requires c =
     record {
       table_len_bound = columns-small c.args.text.now c.args.table.now c.args.records.now c.args.pool.now
           c.args.used c.args.root.0 c.requires.checked_in;
@@ -16,10 +18,11 @@ row_fault_with-fault-requires c =
           c.args.records.now c.args.pool.now c.args.used c.args.root.0 c.requires.checked_in;
     }
 
-pub returns-then-fault-ne0 : goal.returns-then-fault-ne0
-returns-then-fault-ne0 c =
-    row-refused c.args.text.now c.args.table.now c.args.records.now c.args.pool.now c.args.row.now c.args.nulls c.args.used c.args.root.0 _ c.requires.tree_value (omega arith) _
-    c.row_fault_with-fault.ensures c.if-fault-ne0.true
+pub returns-in_err-row_fault_with : goal.returns-in_err-row_fault_with
+returns-in_err-row_fault_with c =
+    let p = err_from_is_err_and c.from_residual.result c.from_residual.ensures.1 in
+    rw (p.1, p.2) (row-refused c.args.text.now c.args.table.now c.args.records.now c.args.pool.now c.args.row.now c.args.nulls c.args.used c.args.root.0 _ c.requires.tree_value (omega arith) _
+    c.in_err-row_fault_with.ensures (number-positive _))
 
 pub copy_front-requires : goal.copy_front-requires
 copy_front-requires c =
@@ -29,7 +32,7 @@ pub reduced_truth-requires : goal.reduced_truth-requires
 reduced_truth-requires c =
     record {
       checked_in = c.requires.checked_in;
-      nulls_value = sym c.row_fault_with-fault.ensures ∙ c.if-fault-ne0.false;
+      nulls_value = sym c.in_ok-row_fault_with.ensures;
       used_in_bounds = search rules;
       reduced = reduced_none c.args.text.now
           c.args.table.now c.args.records.now c.args.pool.now c.args.row.now c.args.nulls
@@ -39,4 +42,4 @@ reduced_truth-requires c =
 pub returns : goal.returns
 returns c =
     row-tested c.args.text.now c.args.table.now c.args.records.now c.args.pool.now c.args.row.now c.args.nulls c.args.used c.args.root.0 _ c.requires.tree_value (omega arith) _
-    c.row_fault_with-fault.ensures c.if-fault-ne0.false _ c.reduced_truth.ensures.value
+    c.in_ok-row_fault_with.ensures refl _ c.reduced_truth.ensures.value

@@ -10,7 +10,3 @@ abbrev pub invariant-loop-i : goal.invariant-loop-i
 invariant-loop-i l =
     (l.i ≤ l.count) × (l.next ≡ l.at + 2 * l.i) × (length l.s ≡ length l.initial.s) × (l.s ≡ splice l.initial.s l.at (hex_bytes (bytes_from l.text
     l.start l.i)))
-
-abbrev pub decreases-loop-i : goal.decreases-loop-i
-decreases-loop-i l =
-    l.count - l.i

@@ -102,7 +102,7 @@ returns-then-f-eq6 c =
       c.if-f-eq6.true,
       ← c.input_value-x.ensures,
       ← null_test_lem,
-    ) (c.truth_of_bool.ensures ∙ rw c.is_null.ensures)
+    ) (c.from.ensures ∙ rw c.is_null.ensures)
 
 pub returns : goal.returns
 unfolding symbol_truth
@@ -115,4 +115,4 @@ returns c =
       ←
           c.input_value-x.ensures,
       ← null_test_lem,
-    ) (c.truth_of_bool-2.ensures ∙ rw c.is_null-2.ensures)
+    ) (c.from-2.ensures ∙ rw c.is_null-2.ensures)

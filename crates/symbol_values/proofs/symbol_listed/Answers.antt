@@ -17,14 +17,14 @@ symbol_cmp-requires c = (
   ))),
 )
 
-pub returns-then-is_equal : goal.returns-then-is_equal
-returns-then-is_equal c =
+pub returns-then-is_eq : goal.returns-then-is_eq
+returns-then-is_eq c =
     list-found _ _ _ _ _ _ c.loop-i.invariant.3 c.loop-i-test.true _ (λ q. omega (arith, c.type_inv.text q))
     c.requires.v_value (pooled-at _ _ _ _ _ c.requires.pooled_from c.loop-i.invariant.1 (omega (
       arith,
       c.loop-i-test.true,
       c.loop-i.invariant.2,
-    ))) _ (rw c.value_in-w.ensures at c.symbol_cmp.ensures) _ c.is_equal.ensures c.if-is_equal.true
+    ))) _ (rw c.value_in-w.ensures at c.symbol_cmp.ensures) _ c.is_eq.ensures c.if-is_eq.true
 
 pub loop-i-preserved : goal.loop-i-preserved
 loop-i-preserved c = (
@@ -33,7 +33,7 @@ loop-i-preserved c = (
   search rules,
   list-more _ _ _ _ _ _ c.loop-i.invariant.3 c.loop-i-test.true _ (λ q.
       omega (arith, c.type_inv.text q)) c.requires.v_value (pooled-at _ _ _ _ _ c.requires.pooled_from c.loop-i.invariant.1 (omega (arith, c.loop-i-test.true, c.loop-i.invariant.2))) _ (rw c.value_in-w.ensures at c.symbol_cmp.ensures) _
-      c.is_equal.ensures c.if-is_equal.false,
+      c.is_eq.ensures c.if-is_eq.false,
 )
 
 pub returns : goal.returns

@@ -9,7 +9,3 @@ abbrev pub invariant-loop-i : goal.invariant-loop-i
 invariant-loop-i l =
     (l.i ≤ l.end) × (l.start ≤ l.i) × (l.end ≡ l.start + l.count) × (holds_symbol l.text (symbol_key l.text l.v) (values_from l.pool l.i
     (l.end - l.i)) ≡ holds_symbol l.text (symbol_key l.text l.v) (values_from l.pool l.start l.count))
-
-abbrev pub decreases-loop-i : goal.decreases-loop-i
-decreases-loop-i l =
-    l.end - l.i

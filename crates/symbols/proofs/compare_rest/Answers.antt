@@ -1,6 +1,6 @@
 use mathlib.Core.Path.{◌∙◌}
 use native.Mathlib.Omega.{arith}
-use Rattle.symbols.proofs.Comparing.{rest-less, rest-greater, rest-next, rest_ended}
+use Rattle.symbols.proofs.Comparing.{rest-less, rest-greater, rest-next, rest_ended, count-order}
 use Rattle.symbols.proofs.compare_rest.Goals as goal
 
 pub loop-k-init : goal.loop-k-init
@@ -16,4 +16,4 @@ pub loop-k-preserved : goal.loop-k-preserved
 loop-k-preserved c = rest-next c.loop-k.invariant (omega arith) (omega arith) (omega arith)
 
 pub returns : goal.returns
-returns c = c.compare_counts.ensures ∙ rest_ended c.loop-k.invariant (omega arith)
+returns c = c.cmp.ensures ∙ count-order _ _ ∙ rest_ended c.loop-k.invariant (omega arith)

@@ -6,7 +6,3 @@ use Rattle.symbols.proofs.compare_rest.Given as goal
 abbrev pub invariant-loop-k : goal.invariant-loop-k
 invariant-loop-k l =
     Rest l.text l.i l.m l.j l.n l.k
-
-abbrev pub decreases-loop-k : goal.decreases-loop-k
-decreases-loop-k l =
-    l.e - l.k

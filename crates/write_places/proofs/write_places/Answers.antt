@@ -22,9 +22,6 @@ put_place-requires c = omega (arith, c.loop-c-test.true, c.requires.3, c.loop-c.
 pub with_bit-nulls-requires : goal.with_bit-nulls-requires
 with_bit-nulls-requires c = omega (arith, c.loop-c-test.true, c.requires.2)
 
-pub overflow_add-c : goal.overflow_add-c
-overflow_add-c c = omega (arith, c.loop-c-test.true, c.requires.2)
-
 pub loop-c-preserved : goal.loop-c-preserved
 loop-c-preserved c = (
   search rules,

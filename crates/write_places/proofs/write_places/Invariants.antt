@@ -14,7 +14,3 @@ invariant-loop-c l =
     (l.c ≤ l.columns) × (length l.row ≡ length l.initial.row) × ((T : ColumnTable) → Shows (conjuncts l.told l.pool) (columns_of l.cells)
     l.marks T → RowWritten (first_of l.order l.n) (λ x. bits_column (T x)) l.c l.initial.row l.row
     l.nulls)
-
-abbrev pub decreases-loop-c : goal.decreases-loop-c
-decreases-loop-c l =
-    l.columns - l.c

@@ -12,10 +12,10 @@ pub returns-then-nulls-eq0 : goal.returns-then-nulls-eq0
 returns-then-nulls-eq0 c =
     λ table chain ec lim en. row_plain table _ chain _ _ _ _ _ c.requires.columns_in_bounds c.outside.ensures.wide_row c.outside.ensures.result_value ec lim en c.if-outside-ne0.false c.if-nulls-eq0.true
 
-pub returns-then-not-marks_fit : goal.returns-then-not-marks_fit
-returns-then-not-marks_fit c =
-    λ table chain ec lim en. row-marks table _ chain _ c.args.row c.args.columns c.args.nulls c.outside.result c.requires.columns_in_bounds c.outside.ensures.wide_row c.outside.ensures.result_value ec lim en c.marks_fit.result c.marks_fit.ensures (ap not c.if-not-marks_fit.true)
+pub returns-then-not-marks_ok : goal.returns-then-not-marks_ok
+returns-then-not-marks_ok c =
+    λ table chain ec lim en. row-marks table _ chain _ c.args.row c.args.columns c.args.nulls c.outside.result c.requires.columns_in_bounds c.outside.ensures.wide_row c.outside.ensures.result_value ec lim en c.marks_ok.result c.marks_ok.ensures (ap not c.if-not-marks_ok.true)
 
 pub returns : goal.returns
 returns c =
-    λ table chain ec lim en. row-nulls table _ chain _ c.args.row c.args.columns c.args.nulls c.outside.result c.requires.columns_in_bounds c.outside.ensures.wide_row c.outside.ensures.result_value ec lim en c.if-outside-ne0.false c.marks_fit.result c.marks_fit.ensures (ap not c.if-not-marks_fit.false) c.null_values.result c.null_values.ensures
+    λ table chain ec lim en. row-nulls table _ chain _ c.args.row c.args.columns c.args.nulls c.outside.result c.requires.columns_in_bounds c.outside.ensures.wide_row c.outside.ensures.result_value ec lim en c.if-outside-ne0.false c.marks_ok.result c.marks_ok.ensures (ap not c.if-not-marks_ok.false) c.null_values.result c.null_values.ensures

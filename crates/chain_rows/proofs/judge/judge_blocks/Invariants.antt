@@ -1,12 +1,7 @@
-use Rattle.std.proofs.Common.{◌≡◌, ◌-◌, ◌≤◌, length}
+use Rattle.std.proofs.Common.{◌*◌, length, min}
 use Rattle.chain_rows.specs.Classes.{Classed}
 use Rattle.chain_rows.proofs.judge.judge_blocks.Given as goal
 
-abbrev pub invariant-loop-base : goal.invariant-loop-base
-invariant-loop-base l =
-    (l.base ≤ length l.nulls) × (length l.truths ≡ length l.initial.truths) × (length l.unknowns ≡ length l.initial.unknowns) × (length
-    l.keys ≡ length l.initial.keys) × (length l.classes ≡ length l.initial.classes) × Classed l.records l.pool l.columns l.values l.nulls l.root.0 l.classes l.base
-
-abbrev pub decreases-loop-base : goal.decreases-loop-base
-decreases-loop-base l =
-    length l.nulls - l.base
+abbrev pub invariant-loop-block : goal.invariant-loop-block
+invariant-loop-block l =
+    Classed l.records l.pool l.columns l.values l.nulls l.root.0 l.classes (min (64 * l.block) (length l.nulls))

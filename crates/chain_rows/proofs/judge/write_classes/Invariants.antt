@@ -1,4 +1,4 @@
-use Rattle.std.proofs.Common.{◌≡◌, ℕ, ◌-◌, ◌≤◌, cond, length}
+use Rattle.std.proofs.Common.{◌≡◌, ℕ, ◌≤◌, cond, length}
 use Rattle.checking.specs.Columns.{bit}
 use Rattle.masks.proofs.Blocks.{KeptBelow}
 use Rattle.masks.proofs.Operands.{KeysTo}
@@ -8,7 +8,3 @@ abbrev pub invariant-loop-i : goal.invariant-loop-i
 invariant-loop-i l =
     (l.i ≤ l.rows) × (length l.classes ≡ length l.initial.classes) × KeysTo (λ (j : ℕ). cond (bit l.m.truths j) 2 (cond (bit
     l.m.unknowns j) 1 0)) l.classes l.base l.i × KeptBelow l.initial.classes l.classes l.base
-
-abbrev pub decreases-loop-i : goal.decreases-loop-i
-decreases-loop-i l =
-    l.rows - l.i

@@ -13,7 +13,3 @@ abbrev pub invariant-loop-i : goal.invariant-loop-i
 invariant-loop-i l =
     (l.i ≤ l.n) × (all (λ (j : ℕ). line_true (places_row l.row l.nulls) (classify (aexpr_of l.rs l.p) (get_or l.nodes j 0))) l.i ≡
     true)
-
-abbrev pub decreases-loop-i : goal.decreases-loop-i
-decreases-loop-i l =
-    l.n - l.i

@@ -9,6 +9,3 @@ abbrev pub invariant-loop-i : goal.invariant-loop-i
 invariant-loop-i l =
     (l.i ≤ l.end) × (l.end ≡ l.start + l.count)
     × (holds_key (key_in l.whole.0 l.half) (values_from l.p l.i (l.end - l.i)) ≡ holds_key (key_in l.whole.0 l.half) (values_from l.p l.start l.count))
-
-abbrev pub decreases-loop-i : goal.decreases-loop-i
-decreases-loop-i l = l.end - l.i

@@ -1,11 +1,38 @@
-use Rattle.records.proofs.Laws.{flags}
+use Rattle.std.proofs.Common.{ℕ, ◌≡◌, ◌%◌}
+use native.Mathlib.Omega.{arith}
 use Rattle.checking.specs.Fault.{answer_of}
 use Rattle.checking.proofs.check.answer_of.Goals as goal
 
-pub returns-then-fault-eq0 : goal.returns-then-fault-eq0
+pub returns-in-0 : goal.returns-in-0
 unfolding answer_of
-returns-then-fault-eq0 c = search flags
+returns-in-0 c = rw c.in-0.is
 
-pub returns : goal.returns
+pub returns-in-1 : goal.returns-in-1
 unfolding answer_of
-returns c = search flags
+returns-in-1 c = rw c.in-1.is
+
+pub returns-in-2 : goal.returns-in-2
+unfolding answer_of
+returns-in-2 c = rw c.in-2.is
+
+pub returns-in-3 : goal.returns-in-3
+unfolding answer_of
+returns-in-3 c = rw c.in-3.is
+
+pub returns-in-4 : goal.returns-in-4
+unfolding answer_of
+returns-in-4 c = rw c.in-4.is
+
+pub returns-in-5 : goal.returns-in-5
+unfolding answer_of
+returns-in-5 c = rw c.in-5.is
+
+pub returns-in-6 : goal.returns-in-6
+unfolding answer_of
+returns-in-6 c = rw c.in-6.is
+
+pub returns-in_default : goal.returns-in_default
+unfolding answer_of
+returns-in_default c =
+    let e : c.args.fault % 8 ≡ 7 = omega arith in
+    rw e

@@ -71,9 +71,6 @@ offset_bounds-trees-i c = omega (arith, c.loop-i-test.true, c.ranges.used.fits)
 pub bounds-trees-i : goal.bounds-trees-i
 bounds-trees-i c = omega (arith, c.loop-i-test.true, c.loop-i.invariant.2, c.requires.used_in_bounds_2)
 
-pub overflow_add-i : goal.overflow_add-i
-overflow_add-i c = omega (arith, c.loop-i-test.true, c.ranges.used.fits)
-
 pub loop-i-preserved : goal.loop-i-preserved
 loop-i-preserved c =
     let right = step_right c.args.text c.args.t.now c.args.rs.now c.args.p.now c.loop-i.types c.loop-i.trees c.loop-i.i c.fields_in-f.result c.record_step-s.result c.requires.t_value c.loop-i.invariant.3

@@ -1,4 +1,4 @@
-use Prim.Native.Nat.{ℕ, ◌-◌, ◌≤◌}
+use Prim.Native.Nat.{ℕ, ◌≤◌}
 use lib.ListN.{length}
 use mathlib.Core.Path.{◌≡◌}
 use Rattle.checking.specs.Tree.{Counted}
@@ -12,7 +12,3 @@ abbrev pub invariant-loop-i : goal.invariant-loop-i
 invariant-loop-i l =
     (l.i ≤ l.used) × (length l.types ≡ length l.initial.types) × (length l.trees ≡ length l.initial.trees) × Entered l.t l.rs l.types l.i ×
     Counted l.rs l.trees l.i × (first (λ (j : ℕ). record_fault_in l.text l.t l.rs l.p (node j)) l.i ≡ 0)
-
-abbrev pub decreases-loop-i : goal.decreases-loop-i
-decreases-loop-i l =
-    l.used - l.i

@@ -7,7 +7,4 @@ use Rattle.checking.proofs.reads.fill_words.Given as goal
 
 abbrev pub invariant-loop-i : goal.invariant-loop-i
 invariant-loop-i l =
-    (l.i ≤ l.root.0 + 1) × (length l.words ≡ length l.initial.words) × Filled (columns_word l.rs) l.words l.i
-
-abbrev pub decreases-loop-i : goal.decreases-loop-i
-decreases-loop-i l = l.root.0 + 1 - l.i
+    (l.i ≤ l.fn.root.0 + 1) × (length l.words ≡ length l.initial.words) × Filled (columns_word l.rs) l.words l.i

@@ -1,10 +1,9 @@
-use mathlib.Core.Path.{refl, sym, ◌∙◌, subst}
-use mathlib.Core.Bool.{true, false, not}
-use Prim.Native.Nat.{◌<◌}
+use mathlib.Core.Path.{◌≡◌, refl, sym, ◌∙◌, subst}
+use mathlib.Core.Bool.{Bool, true, false, not, ◌&&◌}
+use Prim.Native.Nat.{ℕ, ◌<◌, ◌≤◌}
 use native.Mathlib.Omega.{arith}
-use borrow.Author.Tests.{ltb-true, not-true}
+use borrow.Author.Tests.{le-ltb}
 use lib.Dec.{ltb}
-use Rattle.records.proofs.Laws.{and_left, and_right}
 use Rattle.column_table.specs.Words.{columns_of}
 use Rattle.column_table.specs.State.{Collects}
 use Rattle.collect_constraints.proofs.Collecting.{collect-none, collect-more, collected-all}
@@ -32,14 +31,12 @@ loop-i-init c = (
 
 pub bounds-nodes-i : goal.bounds-nodes-i
 bounds-nodes-i c =
-    let h : c.loop-i.i < c.args.n = ltb-true _ _ (and_left (ltb c.loop-i.i c.args.n) (not c.loop-i.held.unsat)
-    c.loop-i-test.true) in
+    let h : c.loop-i.i < c.args.n = c.loop-i-test.true in
     omega (arith, h, c.requires.n_bound.2)
 
 pub collect_conjunct-held-requires : goal.collect_conjunct-held-requires
 collect_conjunct-held-requires c =
-    let h : c.loop-i.i < c.args.n = ltb-true _ _ (and_left (ltb c.loop-i.i c.args.n) (not c.loop-i.held.unsat)
-    c.loop-i-test.true) in
+    let h : c.loop-i.i < c.args.n = c.loop-i-test.true in
     record {
       fits = (
         record {
@@ -87,23 +84,10 @@ collect_conjunct-held-requires c =
       columns_below = c.requires.by_index_2 _ h;
     }
 
-pub overflow_add-i : goal.overflow_add-i
-overflow_add-i c =
-    let h : c.loop-i.i < c.args.n = ltb-true _ _ (and_left (ltb c.loop-i.i c.args.n) (not c.loop-i.held.unsat)
-    c.loop-i-test.true) in
-    omega (arith, h, c.requires.n_bound.0, c.requires.n_bound.1)
-
-pub loop-i-smaller : goal.loop-i-smaller
-loop-i-smaller c =
-    let h : c.loop-i.i < c.args.n = ltb-true _ _ (and_left (ltb c.loop-i.i c.args.n) (not c.loop-i.held.unsat)
-    c.loop-i-test.true) in
-    omega (arith, h, c.loop-i.invariant.0)
-
 pub loop-i-preserved : goal.loop-i-preserved
 loop-i-preserved c =
-    let h : c.loop-i.i < c.args.n = ltb-true _ _ (and_left (ltb c.loop-i.i c.args.n) (not c.loop-i.held.unsat)
-    c.loop-i-test.true) in
-    let live = not-true c.loop-i.held.unsat (and_right (ltb c.loop-i.i c.args.n) (not c.loop-i.held.unsat) c.loop-i-test.true) in (
+    let h : c.loop-i.i < c.args.n = c.loop-i-test.true in
+    let live = c.if-held.false in (
       omega (arith, h),
       omega (arith, c.loop-i.invariant.1, c.collect_conjunct-held.ensures.columns_bound.0),
       omega (arith, c.loop-i.invariant.2, c.collect_conjunct-held.ensures.columns_bound.1),
@@ -124,10 +108,19 @@ loop-i-preserved c =
       c.collect_conjunct-held.auto.equals ∙ c.loop-i.invariant.11,
     )
 
-pub returns : goal.returns
-returns c =
+-- nothing is read behind a column that became impossible
+stopped : (b s : Bool) → s ≡ true → (b && not s) ≡ false
+stopped true s e = rw e refl
+stopped false s e = refl
+
+-- or behind the last conjunct
+past : (i n : ℕ) (s : Bool) → n ≤ i → (ltb i n && not s) ≡ false
+past i n s h = rw (le-ltb i n h) refl
+
+pub returns-then-held : goal.returns-then-held
+returns-then-held c =
     record {
-      collects = (c.loop-i.seen, collected-all _ _ _ _ _ _ _ _ _ _ _ _ _ _ _ _ _ _ _ c.loop-i.invariant.4.0 c.loop-i.invariant.0 c.loop-i-test.false);
+      collects = (c.loop-i.seen, collected-all _ _ _ _ _ _ _ _ _ _ _ _ _ _ _ _ _ _ _ c.loop-i.invariant.4.0 c.loop-i.invariant.0 (stopped (ltb c.loop-i.i c.args.n) _ c.if-held.true));
       columns_bound = (
         omega (arith, c.loop-i.invariant.0, c.loop-i.invariant.1),
         omega (arith, c.loop-i.invariant.0, c.loop-i.invariant.2),
@@ -138,6 +131,24 @@ returns c =
         ),
         c.loop-i.invariant.6 ∙ c.requires.n_bound.3,
         c.loop-i.invariant.5,
-        nulls_all _ _ _ _ _ (columns_of c.loop-i.cells) c.loop-i.invariant.0 c.loop-i.invariant.4.0.stops c.loop-i-test.false c.loop-i.invariant.4.1,
+        nulls_all _ _ _ _ _ (columns_of c.loop-i.cells) c.loop-i.invariant.0 c.loop-i.invariant.4.0.stops (stopped (ltb c.loop-i.i c.args.n) _ c.if-held.true) c.loop-i.invariant.4.1,
+      );
+    }
+
+pub returns : goal.returns
+returns c =
+    record {
+      collects = (c.loop-i.seen, collected-all _ _ _ _ _ _ _ _ _ _ _ _ _ _ _ _ _ _ _ c.loop-i.invariant.4.0 c.loop-i.invariant.0 (past c.loop-i.i c.args.n c.loop-i.held.unsat c.loop-i-test.false));
+      columns_bound = (
+        omega (arith, c.loop-i.invariant.0, c.loop-i.invariant.1),
+        omega (arith, c.loop-i.invariant.0, c.loop-i.invariant.2),
+        omega (
+          arith,
+          c.loop-i.invariant.0,
+          c.loop-i.invariant.3,
+        ),
+        c.loop-i.invariant.6 ∙ c.requires.n_bound.3,
+        c.loop-i.invariant.5,
+        nulls_all _ _ _ _ _ (columns_of c.loop-i.cells) c.loop-i.invariant.0 c.loop-i.invariant.4.0.stops (past c.loop-i.i c.args.n c.loop-i.held.unsat c.loop-i-test.false) c.loop-i.invariant.4.1,
       );
     }

@@ -15,7 +15,3 @@ invariant-loop-i l =
     (aexpr_of l.rs l.pool) l.nodes l.i) × NullLines (aexpr_of l.rs l.pool) l.nodes l.i (columns_of l.cells)) × (length l.marks ≡ length
     l.initial.marks) × (length l.cells ≡ length l.initial.cells) × (length l.order ≡ length l.initial.order) × (length l.kept ≡ length l.initial.kept) ×
     (length l.lefts ≡ length l.initial.lefts) × (length l.rights ≡ length l.initial.rights) × (length l.equals ≡ length l.initial.equals)
-
-abbrev pub decreases-loop-i : goal.decreases-loop-i
-decreases-loop-i l =
-    l.n - l.i

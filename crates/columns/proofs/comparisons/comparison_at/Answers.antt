@@ -1,11 +1,11 @@
 use Rattle.column_constraints.specs.Steps.{placed}
 use Rattle.columns.proofs.comparisons.comparison_at.Goals as goal
 
-pub returns-in-Nothing : goal.returns-in-Nothing
+pub returns-in-None : goal.returns-in-None
 unfolding placed
-returns-in-Nothing c =
-    λ t e f. rw (← c.fixed_value-f.ensures t c.args.marks.now, c.in-Nothing.is) (c.at_place.ensures t e f)
+returns-in-None c =
+    λ t e f. rw (← c.fixed_value.ensures t c.args.marks.now, c.in-None.is) (c.at_place.ensures t e f)
 
-pub returns-in-At : goal.returns-in-At
+pub returns-in-Some : goal.returns-in-Some
 unfolding placed
-returns-in-At c = λ t e g. rw (← c.fixed_value-f.ensures t c.args.marks.now, c.in-At.is) c.at_point.ensures
+returns-in-Some c = λ t e g. rw (← c.fixed_value.ensures t c.args.marks.now, c.in-Some.is) c.at_point.ensures

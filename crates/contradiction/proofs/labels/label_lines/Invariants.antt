@@ -12,7 +12,3 @@ abbrev pub invariant-loop-i : goal.invariant-loop-i
 invariant-loop-i l =
     (l.i ≤ l.n) × ((p : List ℕ) → ((j : ℕ) → j < l.n → ColumnsBelow 64 (classify (aexpr_of l.rs p) (get_or l.nodes j 0))) →
     Labels (lines_to (aexpr_of l.rs p) l.nodes l.i) l.labels) × (length l.labels ≡ length l.initial.labels)
-
-abbrev pub decreases-loop-i : goal.decreases-loop-i
-decreases-loop-i l =
-    l.n - l.i

@@ -6,7 +6,3 @@ use Rattle.contradiction.proofs.labels.number_columns.Given as goal
 abbrev pub invariant-loop-c : goal.invariant-loop-c
 invariant-loop-c l =
     (l.c ≤ 64) × ((k : ℕ) → k < l.c → get_or l.labels k 0 ≡ k) × (length l.labels ≡ length l.initial.labels)
-
-abbrev pub decreases-loop-c : goal.decreases-loop-c
-decreases-loop-c l =
-    64 - l.c

@@ -8,7 +8,3 @@ abbrev pub invariant-loop-c : goal.invariant-loop-c
 invariant-loop-c l =
     (l.c ≤ 64) × ((k : ℕ) → k < l.c → get_or l.labels k 0 ≡ renamed l.from l.to (get_or l.initial.labels k 0)) × ((k : ℕ) → l.c ≤ k →
     get_or l.labels k 0 ≡ get_or l.initial.labels k 0) × (length l.labels ≡ length l.initial.labels)
-
-abbrev pub decreases-loop-c : goal.decreases-loop-c
-decreases-loop-c l =
-    64 - l.c

@@ -12,7 +12,3 @@ abbrev pub invariant-loop-i : goal.invariant-loop-i
 invariant-loop-i l =
     (l.i ≤ l.n) × Shows (conjuncts l.told l.pool) (columns_of l.cells) l.marks (told_to l.labels (aexpr_of
     l.rs l.pool) l.nodes l.i) × (length l.cells ≡ length l.initial.cells) × (length l.marks ≡ length l.initial.marks)
-
-abbrev pub decreases-loop-i : goal.decreases-loop-i
-decreases-loop-i l =
-    l.n - l.i

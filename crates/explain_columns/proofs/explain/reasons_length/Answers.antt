@@ -27,9 +27,6 @@ pub overflow_add-size : goal.overflow_add-size
 overflow_add-size c =
     omega (arith, c.loop-w.invariant.1, c.row_length-size.ensures.upper_bound, c.loop-w-test.true, c.requires.fits.2)
 
-pub overflow_add-w : goal.overflow_add-w
-overflow_add-w c = omega (arith, c.loop-w-test.true, c.requires.fits.2)
-
 pub loop-w-preserved : goal.loop-w-preserved
 loop-w-preserved c = (
   omega (arith, c.loop-w-test.true),

@@ -16,7 +16,3 @@ invariant-loop-w l =
     (l.w ≤ l.columns) × (l.size ≤ 1116691503200 * l.w) × ((s : Conjuncts) → s.kinds ≡ (kinds_in l.told) → s.values ≡ (values_in l.told) →
     (text : List ℕ) → l.size ≡ 0 + length (table_text (shown_in l.t text) (first_of l.order l.w) (shown s (columns_of l.cells)
     l.marks)))
-
-abbrev pub decreases-loop-w : goal.decreases-loop-w
-decreases-loop-w l =
-    l.columns - l.w

@@ -32,9 +32,6 @@ write_row_reasons-next-requires c =
           _ _ c.loop-w-test.true (c.requires.by_index _ c.loop-w-test.true) c.slot-x.ensures c.load-c.ensures (c.loop-w.invariant.2 s ek ev) (c.requires.marks_in_bounds s ek ev) in omega (arith, r, c.loop-w.invariant.1);
     }
 
-pub overflow_add-w : goal.overflow_add-w
-overflow_add-w c = omega (arith, c.loop-w-test.true, c.requires.fits.2)
-
 pub loop-w-preserved : goal.loop-w-preserved
 loop-w-preserved c = (
   omega (arith, c.loop-w-test.true),

@@ -17,7 +17,3 @@ invariant-loop-w l =
     ≡ 0 + length (table_text (shown_in l.t l.text) (first_of l.order l.w) (shown s (columns_of l.cells) l.marks))) × ((s :
     Conjuncts) → s.kinds ≡ (kinds_in l.told) → s.values ≡ (values_in l.told) → l.out ≡ splice l.initial.out 0 (table_text (shown_in l.t l.text)
     (first_of l.order l.w) (shown s (columns_of l.cells) l.marks)))
-
-abbrev pub decreases-loop-w : goal.decreases-loop-w
-decreases-loop-w l =
-    l.columns - l.w

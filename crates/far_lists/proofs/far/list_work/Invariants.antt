@@ -5,6 +5,3 @@ use Rattle.far_lists.proofs.far.list_work.Given as goal
 
 abbrev pub invariant-loop-j : goal.invariant-loop-j
 invariant-loop-j l = (l.j ≤ 128) × (l.lists ≤ l.j) × (l.total ≤ l.j * 16384) × ((i : ℕ) → i < l.j → get_or (starts_in l.told) i 0 + get_or (counts_in l.told) i 0 ≤ l.places)
-
-abbrev pub decreases-loop-j : goal.decreases-loop-j
-decreases-loop-j l = 128 - l.j

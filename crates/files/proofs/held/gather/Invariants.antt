@@ -9,7 +9,3 @@ abbrev pub invariant-loop-i : goal.invariant-loop-i
 invariant-loop-i l =
     (l.i ≤ l.n) × (l.n ≡ length l.f / 512) × (length l.dst ≡ length l.initial.dst) × (l.at ≡ length (held_to l.kind l.f l.i)) × (l.dst ≡
     overwrite l.initial.dst 0 (held_to l.kind l.f l.i))
-
-abbrev pub decreases-loop-i : goal.decreases-loop-i
-decreases-loop-i l =
-    l.n - l.i

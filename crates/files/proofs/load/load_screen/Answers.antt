@@ -1,3 +1,4 @@
+use Rattle.std.proofs.lemmas.Result.{err_from_is_err_and}
 use mathlib.Core.Path.{refl, sym, ◌∙◌}
 use native.Mathlib.Omega.{arith}
 use Rattle.records.proofs.Loops.{flag_no, flag_yes}
@@ -39,13 +40,14 @@ unfolding root_of
 check_held-requires c =
     record { f_value = flag_yes c.structure_ok.ensures (ap not c.if-not-structure_ok.false); columns_value = c.total_of-columns.ensures; used_value = c.total_of-used.ensures; values_value = c.total_of-values.ensures; text_value = c.total_of-text.ensures; root_value = c.end_word-root.ensures }
 
-pub returns-in-Refused : goal.returns-in-Refused
-returns-in-Refused c =
+pub returns-in_err-check_held : goal.returns-in_err-check_held
+returns-in_err-check_held c =
     let r = room-told _ _ _ _ _ _ _ _ _ _ c.total_of-columns.ensures c.total_of-used.ensures c.total_of-values.ensures
     c.total_of-text.ensures c.room_ok.ensures in
-    record {
+    let q = err_from_is_err_and c.from_residual.result c.from_residual.ensures.1 in
+    rw (q.1, q.2) record {
       answer = refused-check _ _ _ _ _ _ (flag_yes c.structure_ok.ensures (ap not c.if-not-structure_ok.false)) (flag_yes r (ap not c.if-not-room_ok.false)) (sym
-          c.check_held.ensures ∙ c.in-Refused.is);
+          c.in_err-check_held.ensures);
       table = refl;
       records = refl;
       pool = refl;
@@ -59,38 +61,38 @@ gather-requires c =
     c.total_of-text.ensures c.room_ok.ensures in
     record { f_value = ok_blocks _ s; f_in_bounds = room-table _ _ _ _ _ s (flag_yes r (ap not c.if-not-room_ok.false)) }
 
-pub gather-requires-in-Accepted : goal.gather-requires-in-Accepted
-gather-requires-in-Accepted c =
+pub gather-requires-2 : goal.gather-requires-2
+gather-requires-2 c =
     let s = flag_yes c.structure_ok.ensures (ap not c.if-not-structure_ok.false) in
     let r = room-told _ _ _ _ _ _ _ _ _ _ c.total_of-columns.ensures c.total_of-used.ensures c.total_of-values.ensures
     c.total_of-text.ensures c.room_ok.ensures in
     record { f_value = ok_blocks _ s; f_in_bounds = room-records _ _ _ _ _ s (flag_yes r (ap not c.if-not-room_ok.false)) }
 
-pub gather-requires-in-Accepted-2 : goal.gather-requires-in-Accepted-2
-gather-requires-in-Accepted-2 c =
+pub gather-requires-3 : goal.gather-requires-3
+gather-requires-3 c =
     let s = flag_yes c.structure_ok.ensures (ap not c.if-not-structure_ok.false) in
     let r = room-told _ _ _ _ _ _ _ _ _ _ c.total_of-columns.ensures c.total_of-used.ensures c.total_of-values.ensures
     c.total_of-text.ensures c.room_ok.ensures in
     record { f_value = ok_blocks _ s; f_in_bounds = room-pool _ _ _ _ _ s (flag_yes r (ap not c.if-not-room_ok.false)) }
 
-pub gather-requires-in-Accepted-3 : goal.gather-requires-in-Accepted-3
-gather-requires-in-Accepted-3 c =
+pub gather-requires-4 : goal.gather-requires-4
+gather-requires-4 c =
     let s = flag_yes c.structure_ok.ensures (ap not c.if-not-structure_ok.false) in
     let r = room-told _ _ _ _ _ _ _ _ _ _ c.total_of-columns.ensures c.total_of-used.ensures c.total_of-values.ensures
     c.total_of-text.ensures c.room_ok.ensures in
     record { f_value = ok_blocks _ s; f_in_bounds = room-text _ _ _ _ _ s (flag_yes r (ap not c.if-not-room_ok.false)) }
 
-pub returns-in-Accepted : goal.returns-in-Accepted
+pub returns : goal.returns
 unfolding root_of
-returns-in-Accepted c =
+returns c =
     let s = flag_yes c.structure_ok.ensures (ap not c.if-not-structure_ok.false) in
     let r = room-told _ _ _ _ _ _ _ _ _ _ c.total_of-columns.ensures c.total_of-used.ensures c.total_of-values.ensures
     c.total_of-text.ensures c.room_ok.ensures in
     record {
-      answer = loaded_all _ _ _ _ _ _ _ _ _ _ s (flag_yes r (ap not c.if-not-room_ok.false)) (sym c.check_held.ensures ∙ c.in-Accepted.is)
+      answer = loaded_all _ _ _ _ _ _ _ _ _ _ s (flag_yes r (ap not c.if-not-room_ok.false)) (sym c.in_ok-check_held.ensures)
           c.end_word-root.ensures c.total_of-columns.ensures c.total_of-used.ensures c.total_of-values.ensures c.total_of-text.ensures;
       table = c.gather.ensures;
-      records = c.gather-in-Accepted.ensures;
-      pool = c.gather-in-Accepted-2.ensures;
-      text = c.gather-in-Accepted-3.ensures;
+      records = c.gather-2.ensures;
+      pool = c.gather-3.ensures;
+      text = c.gather-4.ensures;
     }

@@ -11,7 +11,3 @@ abbrev pub invariant-loop-i : goal.invariant-loop-i
 invariant-loop-i l =
     (l.i ≤ l.n) × (l.nodes ≡ l.initial.nodes) × (first_true (λ (k : ℕ). not (nothing_passes (aexpr_of l.rs l.p) (without k (first_of
     l.initial.nodes l.n)))) l.i ≡ l.i) × (length l.marks ≡ length l.initial.marks)
-
-abbrev pub decreases-loop-i : goal.decreases-loop-i
-decreases-loop-i l =
-    l.n - l.i

@@ -1,4 +1,4 @@
-use Prim.Native.Nat.{ℕ, ◌+◌, ◌-◌, ◌≤◌}
+use Prim.Native.Nat.{ℕ, ◌+◌, ◌≤◌}
 use mathlib.Core.Path.{◌≡◌}
 use lib.ListN.{length, get_or}
 use Rattle.truth.specs.FromBytes.{null_marked}
@@ -12,7 +12,3 @@ invariant-loop-i l =
     (l.i ≤ l.rows) × (length l.keys ≡ length l.initial.keys) × (l.marks ≡ mask_to (λ (j : ℕ). null_marked (get_or l.nulls (l.base + j) 0)
     l.c) l.i) × ShownTo (λ (j : ℕ). null_marked (get_or l.nulls (l.base + j) 0) l.c) (λ (j : ℕ). chain_value l.columns l.values l.nulls
     l.c (l.base + j)) l.keys l.at l.i × KeptBelow l.initial.keys l.keys l.at
-
-abbrev pub decreases-loop-i : goal.decreases-loop-i
-decreases-loop-i l =
-    l.rows - l.i

@@ -7,7 +7,3 @@ use Rattle.masks.proofs.reach.mark_reached.Given as goal
 abbrev pub invariant-loop-n : goal.invariant-loop-n
 invariant-loop-n l =
     (l.n ≤ l.initial.n) × (length l.marks ≡ length l.initial.marks) × (4096 ≤ length l.marks) × Reached l.records l.marks (l.initial.n - 1) l.n
-
-abbrev pub decreases-loop-n : goal.decreases-loop-n
-decreases-loop-n l =
-    l.n

@@ -5,15 +5,15 @@ use Rattle.membership.proofs.member.listed.Goals as goal
 pub loop-i-init : goal.loop-i-init
 loop-i-init c = (search rules, search rules, list-start _ _ _ _)
 
-pub returns-then-is_equal : goal.returns-then-is_equal
-returns-then-is_equal c =
+pub returns-then-is_eq : goal.returns-then-is_eq
+returns-then-is_eq c =
     list-found _ _ _ _ _ c.loop-i.invariant.2
     c.loop-i-test.true
     (rw (
       ← c.value_in.ensures,
       ← c.scalar_cmp.ensures,
-      ← c.is_equal.ensures,
-    ) c.if-is_equal.true)
+      ← c.is_eq.ensures,
+    ) c.if-is_eq.true)
 
 pub loop-i-preserved : goal.loop-i-preserved
 loop-i-preserved c = (
@@ -24,8 +24,8 @@ loop-i-preserved c = (
       (rw (
         ← c.value_in.ensures,
         ← c.scalar_cmp.ensures,
-        ← c.is_equal.ensures,
-      ) c.if-is_equal.false),
+        ← c.is_eq.ensures,
+      ) c.if-is_eq.false),
 )
 
 pub returns : goal.returns

@@ -3,12 +3,12 @@ use Rattle.truth.specs.Evaluate.{member_of}
 use mathlib.Core.Path.{◌∙◌}
 use Rattle.membership.proofs.member.member.Goals as goal
 
-pub returns-in-Null : goal.returns-in-Null
+pub returns-in-None : goal.returns-in-None
 unfolding member_of
-returns-in-Null c = c.null_in.ensures ∙ rw c.in-Null.is (member-null _ _ _ _ _)
+returns-in-None c = c.null_in.ensures ∙ rw c.in-None.is (member-null _ _ _ _ _)
 
-pub returns-in-Known : goal.returns-in-Known
+pub returns-in-Some : goal.returns-in-Some
 unfolding member_of
-returns-in-Known c =
-    c.known_in.ensures ∙ rw (c.in-Known.is, c.listed.ensures)
+returns-in-Some c =
+    c.known_in.ensures ∙ rw (c.in-Some.is, c.listed.ensures)
     (member-known _ _ _ _ _ _)

@@ -4,7 +4,7 @@ use Rattle.membership.proofs.member.null_in.Goals as goal
 
 pub returns-then-equal : goal.returns-then-equal
 unfolding null_in3
-returns-then-equal c = search (flags, ← c.truth_of_bool.ensures)
+returns-then-equal c = search (flags, ← c.from.ensures)
 
 pub returns-then-holds-count : goal.returns-then-holds-count
 unfolding null_in3

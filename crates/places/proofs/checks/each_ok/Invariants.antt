@@ -9,7 +9,3 @@ use Rattle.places.proofs.checks.each_ok.Given as goal
 abbrev pub invariant-loop-c : goal.invariant-loop-c
 invariant-loop-c l =
     (l.c ≤ l.columns) × (all (λ (k : ℕ). place_ok (null_marked l.nulls k) (whole_at l.row k) (half_at l.row k)) l.c ≡ true)
-
-abbrev pub decreases-loop-c : goal.decreases-loop-c
-decreases-loop-c l =
-    l.columns - l.c

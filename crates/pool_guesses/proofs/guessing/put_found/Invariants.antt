@@ -6,7 +6,3 @@ use Rattle.pool_guesses.proofs.guessing.put_found.Given as goal
 abbrev pub invariant-loop-k : goal.invariant-loop-k
 invariant-loop-k l =
     (l.k ≤ l.n) × (length l.spots ≡ length l.initial.spots)
-
-abbrev pub decreases-loop-k : goal.decreases-loop-k
-decreases-loop-k l =
-    l.n - l.k

@@ -6,7 +6,3 @@ use Rattle.pool_guesses.proofs.guessing.take_crowded.Given as goal
 abbrev pub invariant-loop-i : goal.invariant-loop-i
 invariant-loop-i l =
     (l.i ≤ 64) × (l.n ≤ l.i) × (length l.few ≡ length l.initial.few) × (length l.rows ≡ length l.initial.rows)
-
-abbrev pub decreases-loop-i : goal.decreases-loop-i
-decreases-loop-i l =
-    64 - l.i

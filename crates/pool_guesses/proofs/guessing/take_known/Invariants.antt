@@ -7,7 +7,3 @@ abbrev pub invariant-loop-i : goal.invariant-loop-i
 invariant-loop-i l =
     (l.i ≤ 64) × (l.n ≤ l.i) × (length l.spots ≡ length l.initial.spots) × (length l.few ≡ length l.initial.few) × (length l.rows ≡ length
     l.initial.rows)
-
-abbrev pub decreases-loop-i : goal.decreases-loop-i
-decreases-loop-i l =
-    64 - l.i

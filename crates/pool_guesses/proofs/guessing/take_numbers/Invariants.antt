@@ -6,7 +6,3 @@ use Rattle.pool_guesses.proofs.guessing.take_numbers.Given as goal
 abbrev pub invariant-loop-i : goal.invariant-loop-i
 invariant-loop-i l =
     (l.i ≤ 64) × (length l.spots ≡ length l.initial.spots)
-
-abbrev pub decreases-loop-i : goal.decreases-loop-i
-decreases-loop-i l =
-    64 - l.i

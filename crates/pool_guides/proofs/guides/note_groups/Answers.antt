@@ -1,23 +1,21 @@
 use mathlib.Core.Path.{refl, ◌∙◌}
-use native.Mathlib.Omega.{arith}
 use borrow.Author.Rules.{rules}
 use Rattle.pool_guides.proofs.guides.note_groups.Goals as goal
+use Rattle.pool_guides.proofs.guides.note_groups.Goals.{then-p-own, else-p-own}
 
-pub loop-t-init : goal.loop-t-init
-loop-t-init c = (search rules, search rules, search rules, (λ q l. refl), refl)
+pub loop-turn-init : goal.loop-turn-init
+loop-turn-init c = (search rules, search rules, λ q l. refl)
 
-pub bounds-order-p : goal.bounds-order-p
-bounds-order-p c = omega (arith, c.loop-t.invariant.4, c.requires)
-
-pub loop-t-preserved-then-p-own : goal.loop-t-preserved-then-p-own
-loop-t-preserved-then-p-own c = (search rules, search rules, search rules, c.loop-t.invariant.3, c.loop-t.invariant.4)
-
-pub loop-t-preserved : goal.loop-t-preserved
-loop-t-preserved c =
-    (search rules, search rules, search rules, (λ q l. c.note_group.ensures q l ∙ c.loop-t.invariant.3 q l), search rules)
-
-pub shape_of-order : goal.shape_of-order
-shape_of-order c = c.loop-t.invariant.4
+pub loop-turn-preserved : goal.loop-turn-preserved
+loop-turn-preserved c =
+    elim c.if-p-own.branch [
+      | then-p-own w ↦ (search rules, search rules, rw w.order-is c.loop-turn.invariant.2)
+      | else-p-own w ↦ (
+        search rules,
+        search rules,
+        rw w.order-is (λ q l. w.note_group.ensures q l ∙ c.loop-turn.invariant.2 q l),
+      )
+    ]
 
 pub returns : goal.returns
-returns c = c.loop-t.invariant.3
+returns c = c.loop-turn.invariant.2

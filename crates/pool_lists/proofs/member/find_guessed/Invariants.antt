@@ -6,7 +6,3 @@ use Rattle.pool_lists.proofs.member.find_guessed.Given as goal
 abbrev pub invariant-loop-i : goal.invariant-loop-i
 invariant-loop-i l =
     (l.i ≤ 64) × FindsTo l.keys l.at (values_from l.pool l.start l.count) l.i l.m
-
-abbrev pub decreases-loop-i : goal.decreases-loop-i
-decreases-loop-i l =
-    64 - l.i

@@ -21,9 +21,6 @@ pub sweep_edge-m-requires : goal.sweep_edge-m-requires
 sweep_edge-m-requires c =
     record { fits = (c.loop-e.invariant.2, (c.requires.edges_below _ c.loop-e-test.true).0, (c.requires.edges_below _ c.loop-e-test.true).1, c.requires.fits.3); fact = c.loop-e.invariant.6.edge _ c.loop-e-test.true }
 
-pub overflow_add-e : goal.overflow_add-e
-overflow_add-e c = search (rules, c.loop-e-test.true, c.ranges.edges.fits)
-
 pub loop-e-preserved : goal.loop-e-preserved
 loop-e-preserved c = (
   omega (arith, c.loop-e-test.true),

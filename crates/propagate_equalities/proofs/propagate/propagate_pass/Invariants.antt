@@ -17,7 +17,3 @@ invariant-loop-e l =
     (length l.cells ≡ length l.initial.cells) × QuietEdges (shown (conjuncts l.told l.pool) (columns_of
     l.cells) l.marks) l.lefts l.rights l.e l.word × QuietEdges (shown (conjuncts l.told l.pool) (columns_of
     l.cells) l.marks) l.lefts l.rights l.edges (bit_or l.before l.word)
-
-abbrev pub decreases-loop-e : goal.decreases-loop-e
-decreases-loop-e l =
-    l.edges - l.e

@@ -7,6 +7,3 @@ use Rattle.ranked_chain.proofs.lists.raise_lists.Given as goal
 abbrev pub invariant-loop-i : goal.invariant-loop-i
 invariant-loop-i l =
     (l.i ≤ l.used) × (length l.out ≡ length l.initial.out) × RaisedLists l.words l.i l.initial.out l.out
-
-abbrev pub decreases-loop-i : goal.decreases-loop-i
-decreases-loop-i l = l.used - l.i

@@ -7,6 +7,3 @@ use Rattle.ranked_chain.proofs.literals.rank_literals.Given as goal
 abbrev pub invariant-loop-i : goal.invariant-loop-i
 invariant-loop-i l =
     (l.i ≤ l.used) × (length l.out ≡ length l.initial.out) × RankedLiterals l.records l.ranks l.used l.i l.out
-
-abbrev pub decreases-loop-i : goal.decreases-loop-i
-decreases-loop-i l = l.used - l.i

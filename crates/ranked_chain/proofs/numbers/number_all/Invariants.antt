@@ -7,7 +7,3 @@ use Rattle.ranked_chain.proofs.numbers.number_all.Given as goal
 abbrev pub invariant-loop-i : goal.invariant-loop-i
 invariant-loop-i l =
     (l.i ≤ l.n) × (length l.numbers ≡ length l.initial.numbers) × Numbered l.codes l.values l.i l.numbers
-
-abbrev pub decreases-loop-i : goal.decreases-loop-i
-decreases-loop-i l =
-    l.n - l.i

@@ -12,7 +12,3 @@ abbrev pub invariant-loop-i : goal.invariant-loop-i
 invariant-loop-i l =
     (l.i ≤ l.n) × (length l.values ≡ length l.initial.values) × Filled (λ k. cond (in_pool l.size (word_at l.rs l.p l.used k)) (word_at l.rs
     l.p l.used k) 0) l.values l.i
-
-abbrev pub decreases-loop-i : goal.decreases-loop-i
-decreases-loop-i l =
-    l.n - l.i

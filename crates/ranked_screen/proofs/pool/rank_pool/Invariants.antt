@@ -8,7 +8,3 @@ use Rattle.ranked_screen.proofs.pool.rank_pool.Given as goal
 abbrev pub invariant-loop-k : goal.invariant-loop-k
 invariant-loop-k l =
     (l.k ≤ l.n) × (length l.pool ≡ length l.initial.pool) × RankedPool l.p l.ranks l.used l.k l.pool
-
-abbrev pub decreases-loop-k : goal.decreases-loop-k
-decreases-loop-k l =
-    l.n - l.k

@@ -8,7 +8,3 @@ use Rattle.ranked_screen.proofs.record.rank_records.Given as goal
 abbrev pub invariant-loop-i : goal.invariant-loop-i
 invariant-loop-i l =
     (l.i ≤ l.used) × (length l.src ≡ length l.initial.src) × RankedRecords l.rs l.ranks l.words l.i l.src
-
-abbrev pub decreases-loop-i : goal.decreases-loop-i
-decreases-loop-i l =
-    l.used - l.i

@@ -2,8 +2,5 @@ use mathlib.Core.Path.{◌∙◌}
 use Rattle.read_operands.proofs.Classifying.{classify-law}
 use Rattle.reading.proofs.classify.classify.Goals as goal
 
-pub returns-then-at-rs : goal.returns-then-at-rs
-returns-then-at-rs c = λ p. c.classify_record.ensures p _ ∙ classify-law _ p _ _ c.record_at.ensures
-
 pub returns : goal.returns
-returns c = λ p. c.classify_record-2.ensures p _ ∙ classify-law _ p _ _ c.record_at-2.ensures
+returns c = λ p. c.classify_record.ensures p _ ∙ classify-law _ p _ _ c.record_at.ensures

@@ -8,7 +8,3 @@ use Rattle.reckoning.proofs.reckon.kept_trees.Given as goal
 abbrev pub invariant-loop-i : goal.invariant-loop-i
 invariant-loop-i l =
     (l.i ≤ l.kept) × (l.sum ≤ 65536 * l.i) × (l.sum ≡ sum_at (λ n. get_or l.trees n 0) (first_of l.nodes l.i))
-
-abbrev pub decreases-loop-i : goal.decreases-loop-i
-decreases-loop-i l =
-    l.kept - l.i

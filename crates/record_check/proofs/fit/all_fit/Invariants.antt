@@ -7,6 +7,3 @@ use Rattle.record_check.proofs.fit.all_fit.Given as goal
 
 abbrev pub invariant-loop-k : goal.invariant-loop-k
 invariant-loop-k l = (l.k ≤ l.count) × (all (λ (j : ℕ). in_type_in l.text l.ty (value_at l.p (l.start + j))) l.k ≡ true)
-
-abbrev pub decreases-loop-k : goal.decreases-loop-k
-decreases-loop-k l = l.count - l.k

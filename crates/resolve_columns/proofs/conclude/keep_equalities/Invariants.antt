@@ -12,7 +12,3 @@ invariant-loop-e v =
     (v.e ≤ v.edges) × (v.next ≤ v.keeps + v.e) × ((t : Conjuncts) (marks : List ℕ) (T : ColumnTable) (l rights : List ℕ) →
     Shows t (columns_of v.cells) marks T → Keeps v.initial.kept v.keeps l → Kept T (edges_of v.lefts rights v.equals v.e) v.kept v.next
     v.dropped l) × (length v.kept ≡ length v.initial.kept)
-
-abbrev pub decreases-loop-e : goal.decreases-loop-e
-decreases-loop-e l =
-    l.edges - l.e

@@ -38,9 +38,6 @@ overflow_add-total c =
     let g = c.count_row-total.ensures t refl in
     omega (arith, c.loop-o-test.true, c.loop-o.invariant.0, c.loop-o.invariant.1, c.requires.fits.2, f, g)
 
-pub overflow_add-o : goal.overflow_add-o
-overflow_add-o c = omega (arith, c.loop-o-test.true, c.requires.fits.2)
-
 pub loop-o-smaller : goal.loop-o-smaller
 loop-o-smaller c = omega (arith, c.loop-o-test.true)
 

@@ -14,7 +14,3 @@ invariant-loop-o l =
     (columns_of l.initial.cells) l.initial.marks T → Resolved (conjuncts l.told l.pool) (columns_of l.cells) l.marks
     (first_of l.order l.o) false l.unsat l.total T) × Fits l.cells l.marks × (length l.marks ≡ length l.initial.marks) × (length l.cells ≡
     length l.initial.cells)
-
-abbrev pub decreases-loop-o : goal.decreases-loop-o
-decreases-loop-o l =
-    l.columns - l.o

@@ -28,9 +28,6 @@ write_row-u-requires c =
       u_bound = (r.0, r.1);
     }
 
-pub overflow_add-w : goal.overflow_add-w
-overflow_add-w c = omega (arith, c.loop-w-test.true, c.requires.fits.2)
-
 pub loop-w-preserved : goal.loop-w-preserved
 loop-w-preserved c = (
   omega (arith, c.loop-w-test.true),

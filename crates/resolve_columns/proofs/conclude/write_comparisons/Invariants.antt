@@ -13,7 +13,3 @@ abbrev pub invariant-loop-w : goal.invariant-loop-w
 invariant-loop-w l =
     (l.w ≤ l.columns) × ((s : Conjuncts) → s.kinds ≡ (kinds_in l.told) → s.values ≡ (values_in l.told) → Written l.t l.used l.initial.rs (comparisons
     lined (first_of l.order l.w) (shown s (columns_of l.cells) l.marks)) l.u l.rs)
-
-abbrev pub decreases-loop-w : goal.decreases-loop-w
-decreases-loop-w l =
-    l.columns - l.w

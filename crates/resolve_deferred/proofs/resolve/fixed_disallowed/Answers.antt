@@ -2,15 +2,15 @@ use Rattle.constraints.specs.Payload.{payload}
 use Rattle.constraints.specs.Lined.{lined}
 use Rattle.resolve_deferred.proofs.resolve.fixed_disallowed.Goals as goal
 
-pub returns-in-Nothing : goal.returns-in-Nothing
-returns-in-Nothing c = λ t e. rw (← c.fixed_value-f.ensures t c.args.marks.now, c.in-Nothing.is)
+pub returns-in-None : goal.returns-in-None
+returns-in-None c = λ t e. rw (← c.fixed_value.ensures t c.args.marks.now, c.in-None.is)
 
-pub returns-in-At : goal.returns-in-At
+pub returns-in-Some : goal.returns-in-Some
 unfolding lined payload
-returns-in-At c =
+returns-in-Some c =
     λ t e. rw (
-      ← c.fixed_value-f.ensures t c.args.marks.now,
-      c.in-At.is,
+      ← c.fixed_value.ensures t c.args.marks.now,
+      c.in-Some.is,
       e.0,
       e.1,
       e.2,

@@ -10,6 +10,3 @@ abbrev pub invariant-loop-i : goal.invariant-loop-i
 invariant-loop-i l = (l.i ≤ l.n) × (length l.own ≡ length l.initial.own) ×
     Fine (length l.initial.own) l.own l.c.len × ((t : Conjuncts) → t.kinds ≡ (kinds_in l.told) → t.values ≡ (values_in l.told) →
     column_of t (numbered l.own l.c) ≡ step_marks t l.marks l.i (column_of t (numbered l.initial.own l.initial.c)))
-
-abbrev pub decreases-loop-i : goal.decreases-loop-i
-decreases-loop-i l = l.n - l.i

@@ -35,9 +35,6 @@ write_place-at-requires c =
       omega (arith, r, c.loop-p.invariant.2),
     )
 
-pub overflow_add-p : goal.overflow_add-p
-overflow_add-p c = let g : c.args.c.len ≤ 128 = few _ _ _ c.requires.0 in omega (arith, g, c.loop-p-test.true)
-
 pub loop-p-preserved : goal.loop-p-preserved
 loop-p-preserved c = (
   search rules,

@@ -12,7 +12,3 @@ abbrev pub invariant-loop-p : goal.invariant-loop-p
 invariant-loop-p l =
     (l.p ≤ l.places) × (l.at ≤ l.u + 3 * l.p) × (length l.rs ≡ length l.initial.rs) × ((s : Conjuncts) → s.kinds ≡ (kinds_in l.told) → s.values
     ≡ (values_in l.told) → l.at ≡ l.u + 3 * length (placed_to s (numbered l.marks l.c) l.p)) × ((s : Conjuncts) → s.kinds ≡ (kinds_in l.told) → s.values ≡ (values_in l.told) → l.rs ≡ write_comparisons l.t l.u (bits_in l.a.0 (placed_to s (numbered l.marks l.c) l.p)) l.initial.rs)
-
-abbrev pub decreases-loop-p : goal.decreases-loop-p
-decreases-loop-p l =
-    l.places - l.p

@@ -12,6 +12,3 @@ invariant-loop-i l =
     × (length l.rs ≡ length l.initial.rs)
     × (l.acc ≡ acc_at (chain_at l.nodes l.kept l.used) l.at (l.i - 1))
     × (l.rs ≡ ands_to (chain_at l.nodes l.kept l.used) l.at (l.i - 1) l.initial.rs)
-
-abbrev pub decreases-loop-i : goal.decreases-loop-i
-decreases-loop-i l = l.total - l.i

@@ -1,4 +1,4 @@
-use Rattle.std.proofs.Common.{◌≡◌, ℕ, ◌-◌, ◌≤◌, cond, length}
+use Rattle.std.proofs.Common.{◌≡◌, ℕ, ◌≤◌, cond, length}
 use Rattle.checking.specs.Columns.{bit}
 use Rattle.masks.proofs.Blocks.{KeptBelow}
 use Rattle.masks.proofs.Operands.{KeysTo}
@@ -8,7 +8,3 @@ abbrev pub invariant-loop-i : goal.invariant-loop-i
 invariant-loop-i l =
     (l.i ≤ 64) × (length l.keys ≡ length l.initial.keys) × KeysTo (λ (j : ℕ). cond (bit l.word j) l.on l.off) l.keys l.at l.i × KeptBelow
     l.initial.keys l.keys l.at
-
-abbrev pub decreases-loop-i : goal.decreases-loop-i
-decreases-loop-i l =
-    64 - l.i

@@ -1,4 +1,4 @@
-use Rattle.std.proofs.Common.{◌≡◌, ℕ, ◌+◌, ◌-◌, ◌≤◌, length}
+use Rattle.std.proofs.Common.{◌≡◌, ℕ, ◌+◌, ◌≤◌, length}
 use Rattle.truth.specs.Evaluate.{null_test}
 use Rattle.masks.specs.Masks.{mask_to}
 use Rattle.masks.specs.Block.{chain_worth}
@@ -11,7 +11,3 @@ invariant-loop-i l =
     l.columns l.values l.nulls l.n.0 (l.base + j))) l.i) × ShownTo (λ (j : ℕ). null_test (chain_worth l.records l.pool l.columns
     l.values l.nulls l.n.0 (l.base + j))) (λ (j : ℕ). chain_worth l.records l.pool l.columns l.values l.nulls l.n.0 (l.base + j))
     l.keys l.at l.i × KeptBelow l.initial.keys l.keys l.at
-
-abbrev pub decreases-loop-i : goal.decreases-loop-i
-decreases-loop-i l =
-    l.rows - l.i

@@ -12,7 +12,3 @@ abbrev pub invariant-loop-i : goal.invariant-loop-i
 invariant-loop-i l =
     (l.i ≤ l.m) × (smallest_of l.best ≡ smallest (is_feasible lined (column_of (conjuncts l.told
     l.pool) (numbered l.marks l.c))) (values_from l.pool (l.s + l.i) (l.m - l.i)))
-
-abbrev pub decreases-loop-i : goal.decreases-loop-i
-decreases-loop-i l =
-    l.i

@@ -8,7 +8,3 @@ use Rattle.row_shown.proofs.place.value_place.Given as goal
 abbrev pub invariant-loop-i : goal.invariant-loop-i
 invariant-loop-i l =
     (l.i ≤ l.n) × (allowed_by (kinds_in l.told) (starts_in l.told) (counts_in l.told) l.pool l.marks l.i ≡ none)
-
-abbrev pub decreases-loop-i : goal.decreases-loop-i
-decreases-loop-i l =
-    l.n - l.i

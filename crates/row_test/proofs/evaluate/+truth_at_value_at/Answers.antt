@@ -148,14 +148,14 @@ truth_at-returns-in-6 t c =
     null_truth c.args.records.now c.args.pool.now c.args.row.now c.args.nulls c.args.n _
     c.requires c.fields_in-f.ensures c.in-6.is _
     _ _
-    c.value_at.ensures c.is_null.ensures c.truth_of_bool.ensures
+    c.value_at.ensures c.is_null.ensures c.from.ensures
 
 pub truth_at-returns-in-7 : goal.truth_at-returns-in-7
 truth_at-returns-in-7 t c =
     not-null_truth c.args.records.now c.args.pool.now c.args.row.now c.args.nulls c.args.n
     _ c.requires c.fields_in-f.ensures c.in-7.is
     _ _ _
-    c.value_at-in-7.ensures c.is_null-in-7.ensures c.truth_of_bool-in-7.ensures
+    c.value_at-in-7.ensures c.is_null-in-7.ensures c.from-in-7.ensures
 
 pub truth_at-returns-in-8 : goal.truth_at-returns-in-8
 truth_at-returns-in-8 t c =
@@ -271,13 +271,13 @@ value_at-returns-in-5 t c =
 pub value_at-returns-in-6 : goal.value_at-returns-in-6
 value_at-returns-in-6 t c =
     truth-is_value c.args.records.now c.args.pool.now c.args.row.now c.args.nulls c.args.n _ c.requires c.fields_in-f.ensures c.if-f-le3.false (λ q. omega (arith, q, c.in-6.is)) _ _
-    (null_truth c.args.records.now c.args.pool.now c.args.row.now c.args.nulls c.args.n _ c.requires c.fields_in-f.ensures c.in-6.is _ _ _ c.value_at.ensures c.is_null.ensures c.truth_of_bool.ensures)
+    (null_truth c.args.records.now c.args.pool.now c.args.row.now c.args.nulls c.args.n _ c.requires c.fields_in-f.ensures c.in-6.is _ _ _ c.value_at.ensures c.is_null.ensures c.from.ensures)
     c.value_of_truth-in-6.ensures
 
 pub value_at-returns-in-7 : goal.value_at-returns-in-7
 value_at-returns-in-7 t c =
     truth-is_value c.args.records.now c.args.pool.now c.args.row.now c.args.nulls c.args.n _ c.requires c.fields_in-f.ensures c.if-f-le3.false (λ q. omega (arith, q, c.in-7.is)) _ _
-    (not-null_truth c.args.records.now c.args.pool.now c.args.row.now c.args.nulls c.args.n _ c.requires c.fields_in-f.ensures c.in-7.is _ _ _ c.value_at-in-7.ensures c.is_null-in-7.ensures c.truth_of_bool-in-7.ensures)
+    (not-null_truth c.args.records.now c.args.pool.now c.args.row.now c.args.nulls c.args.n _ c.requires c.fields_in-f.ensures c.in-7.is _ _ _ c.value_at-in-7.ensures c.is_null-in-7.ensures c.from-in-7.ensures)
     c.value_of_truth-in-7.ensures
 
 pub value_at-returns-in-8 : goal.value_at-returns-in-8

@@ -1,35 +1,16 @@
-use Rattle.records.proofs.Loops.{all_none, all_more, all_fails, all_done}
-use borrow.Author.Tests.{not-true, not-false}
-use borrow.Author.Rules.{rules}
-use Rattle.row_test.specs.RowTest.{columns_ok}
-use mathlib.Core.Path.{ap}
-use mathlib.Core.Bool.{not}
+use Prim.Native.Nat.{ℕ}
+use mathlib.Core.Path.{refl}
+use lib.ListN.{get_or, length}
+use borrow.Author.Tests.{tests}
+use Rattle.std.proofs.Common.{rules}
+use Rattle.records.proofs.Ranges.{all_in_range}
+use Rattle.records.specs.Bytes.{value_at}
+use Rattle.truth.specs.FromBytes.{null_marked}
+use Rattle.row_test.specs.RowTest.{column_ok, columns_ok}
 use Rattle.row_test.proofs.row.columns_ok.Goals as goal
-
-pub loop-c-init : goal.loop-c-init
-loop-c-init c = (search rules, all_none _)
-
-pub returns-then-not-column_ok : goal.returns-then-not-column_ok
-unfolding columns_ok
-returns-then-not-column_ok c =
-    all_fails _ _ _ c.loop-c-test.true
-    (rw (
-      ← c.value_in.ensures,
-      ← c.null_marked-null.ensures,
-      ← c.column_ok.ensures,
-    ) (not-true _ (ap not c.if-not-column_ok.true)))
-
-pub loop-c-preserved : goal.loop-c-preserved
-loop-c-preserved c = (
-  search rules,
-  all_more _ _ c.loop-c.invariant.1
-      (rw (
-        ← c.value_in.ensures,
-        ← c.null_marked-null.ensures,
-        ← c.column_ok.ensures,
-      ) (not-false _ (ap not c.if-not-column_ok.false))),
-)
 
 pub returns : goal.returns
 unfolding columns_ok
-returns c = search all_done
+returns c =
+    all_in_range (λ (k : ℕ). column_ok (get_or c.args.table.now k 0) (null_marked c.args.nulls k) (value_at c.args.row.now k))
+    (length c.args.table.now) _ _ _ c.all.ensures.ran refl (λ x b q k. search (rules, tests))

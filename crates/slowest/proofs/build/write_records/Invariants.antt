@@ -8,7 +8,3 @@ use Rattle.slowest.proofs.build.write_records.Given as goal
 abbrev pub invariant-loop-i : goal.invariant-loop-i
 invariant-loop-i l =
     (l.i ≤ 3 * l.n) × (length l.records ≡ length l.initial.records) × (l.records ≡ splice l.initial.records 0 (bytes_to l.n l.i))
-
-abbrev pub decreases-loop-i : goal.decreases-loop-i
-decreases-loop-i l =
-    3 * l.n - l.i

@@ -7,7 +7,3 @@ use Rattle.slowest.proofs.build.write_table.Given as goal
 abbrev pub invariant-loop-i : goal.invariant-loop-i
 invariant-loop-i l =
     (l.i ≤ l.n) × (length l.table ≡ length l.initial.table) × (l.table ≡ splice l.initial.table 0 (replicate l.i 1))
-
-abbrev pub decreases-loop-i : goal.decreases-loop-i
-decreases-loop-i l =
-    l.n - l.i

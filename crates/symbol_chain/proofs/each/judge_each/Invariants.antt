@@ -16,7 +16,3 @@ invariant-loop-r l =
     l.records l.pool [] 0 l.used 0 l.out × (all (λ i. is_tested (answer_at_with l.text l.table l.records l.pool l.used l.root.0
     l.values l.nulls i)) l.r ≡ true) × Judged (answer_at_with l.text l.table l.records l.pool l.used l.root.0 l.values l.nulls)
     l.classes l.r
-
-abbrev pub decreases-loop-r : goal.decreases-loop-r
-decreases-loop-r l =
-    length l.nulls - l.r

@@ -3,6 +3,7 @@ use mathlib.Core.Bool.{true}
 use native.Mathlib.Omega.{arith}
 use borrow.Author.Tests.{eq-eqb, ne_eqb}
 use Rattle.records.proofs.Loops.{all_none, all_more, all_fails, all_done}
+use Rattle.refusal.proofs.Numbers.{fault-positive, fault-zero}
 use Rattle.symbol_chain.specs.ChainWith.{row_fits_with}
 use Rattle.symbol_chain.proofs.RowClasses.{row_inside}
 use Rattle.symbol_chain.proofs.ranked.rows_fit_with.Goals as goal
@@ -18,16 +19,16 @@ chain_fault-requires c =
           c.loop-r-test.true;
     }
 
-pub returns-then-chain_fault-ne0 : goal.returns-then-chain_fault-ne0
+pub returns-then-is_err : goal.returns-then-is_err
 unfolding row_fits_with
-returns-then-chain_fault-ne0 c =
-    all_fails (row_fits_with c.args.text.now c.args.table.now c.args.values.now c.args.nulls.now) _ _ c.loop-r-test.true (ne_eqb _ 0 (λ z. c.if-chain_fault-ne0.true (c.chain_fault.ensures ∙ z)))
+returns-then-is_err c =
+    all_fails (row_fits_with c.args.text.now c.args.table.now c.args.values.now c.args.nulls.now) _ _ c.loop-r-test.true (ne_eqb _ 0 (λ z. fault-positive _ (sym c.is_err.ensures.value ∙ c.if-is_err.true) (c.chain_fault.ensures ∙ z)))
 
 pub loop-r-preserved : goal.loop-r-preserved
 unfolding row_fits_with
 loop-r-preserved c = (
   omega (arith, c.loop-r-test.true),
-  all_more (row_fits_with c.args.text.now c.args.table.now c.args.values.now c.args.nulls.now) _ c.loop-r.invariant.1 (eq-eqb _ 0 (sym c.chain_fault.ensures ∙ c.if-chain_fault-ne0.false)),
+  all_more (row_fits_with c.args.text.now c.args.table.now c.args.values.now c.args.nulls.now) _ c.loop-r.invariant.1 (eq-eqb _ 0 (sym c.chain_fault.ensures ∙ fault-zero _ (sym c.is_err.ensures.value ∙ c.if-is_err.false))),
 )
 
 pub returns : goal.returns

@@ -9,7 +9,3 @@ use Rattle.symbol_chain.proofs.ranked.rows_fit_with.Given as goal
 abbrev pub invariant-loop-r : goal.invariant-loop-r
 invariant-loop-r l =
     (l.r ≤ length l.nulls) × (all (row_fits_with l.text l.table l.values l.nulls) l.r ≡ true)
-
-abbrev pub decreases-loop-r : goal.decreases-loop-r
-decreases-loop-r l =
-    length l.nulls - l.r

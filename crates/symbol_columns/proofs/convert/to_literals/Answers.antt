@@ -17,9 +17,6 @@ load-c-requires c = (omega (arith, c.loop-x-test.true, c.requires.0), c.loop-x.i
 pub store-requires : goal.store-requires
 store-requires c = (omega (arith, c.loop-x-test.true, c.requires.0), c.loop-x.invariant.2 ∙ c.requires.1)
 
-pub overflow_add-x : goal.overflow_add-x
-overflow_add-x c = omega (arith, c.loop-x-test.true, c.requires.0)
-
 pub loop-x-smaller : goal.loop-x-smaller
 loop-x-smaller c = omega (arith, c.loop-x-test.true)
 

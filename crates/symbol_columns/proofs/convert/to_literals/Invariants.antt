@@ -14,7 +14,3 @@ invariant-loop-x l =
     (l.x ≤ length l.t) × ((p : List ℕ) (s : Conjuncts) (marks : List ℕ) (T : ColumnTable) → Shows s (columns_of
     l.initial.cells) marks T → Shows s (columns_of l.cells) marks (converted_to l.x l.t (aexpr_of l.rs p) l.nodes T)) × (length l.cells
     ≡ length l.initial.cells)
-
-abbrev pub decreases-loop-x : goal.decreases-loop-x
-decreases-loop-x l =
-    length l.t - l.x

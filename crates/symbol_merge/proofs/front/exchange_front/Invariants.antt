@@ -6,7 +6,3 @@ use Rattle.symbol_merge.proofs.front.exchange_front.Given as goal
 abbrev pub invariant-loop-i : goal.invariant-loop-i
 invariant-loop-i l =
     (l.i ≤ l.size) × (l.rs ≡ fronted l.i l.initial.src l.initial.rs) × (l.src ≡ fronted l.i l.initial.rs l.initial.src)
-
-abbrev pub decreases-loop-i : goal.decreases-loop-i
-decreases-loop-i l =
-    l.size - l.i

@@ -6,7 +6,3 @@ use Rattle.symbol_merge.proofs.front.put_front.Given as goal
 abbrev pub invariant-loop-i : goal.invariant-loop-i
 invariant-loop-i l =
     (l.i ≤ l.size) × (l.rs ≡ fronted l.i l.src l.initial.rs)
-
-abbrev pub decreases-loop-i : goal.decreases-loop-i
-decreases-loop-i l =
-    l.size - l.i

@@ -7,7 +7,3 @@ use Rattle.symbol_reduction.proofs.reduce.reduce.Given as goal
 abbrev pub invariant-loop-i : goal.invariant-loop-i
 invariant-loop-i l =
     (l.i ≤ l.used) × (length l.out ≡ length l.initial.out) × Reduced l.text l.table l.records l.pool l.row l.nulls l.used l.i l.out
-
-abbrev pub decreases-loop-i : goal.decreases-loop-i
-decreases-loop-i l =
-    l.used - l.i

@@ -1,5 +1,5 @@
 use mathlib.Core.Path.{◌≡◌}
-use Prim.Native.Nat.{◌-◌, ◌≤◌}
+use Prim.Native.Nat.{◌≤◌}
 use lib.ListN.{length}
 use Rattle.text_order.specs.Starts.{Starts}
 use Rattle.text_order.proofs.making.fill_starts.Given as goal
@@ -7,7 +7,3 @@ use Rattle.text_order.proofs.making.fill_starts.Given as goal
 abbrev pub invariant-loop-s : goal.invariant-loop-s
 invariant-loop-s l =
     (l.s ≤ l.size) × (length l.values ≡ length l.initial.values) × Starts l.size l.s l.values
-
-abbrev pub decreases-loop-s : goal.decreases-loop-s
-decreases-loop-s l =
-    l.size - l.s

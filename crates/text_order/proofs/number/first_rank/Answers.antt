@@ -16,7 +16,7 @@ returns-then-depth_in-l c =
 pub loop-left-preserved : goal.loop-left-preserved
 loop-left-preserved c = (
   omega (arith, c.link_in-s.ensures),
-  ap (λ z. walk (c.loop-left.left - 1) c.args.codes.now z c.args.l) c.link_in-s.ensures ∙ walk-on _ _ _ _ c.loop-left-test.true (omega (
+  ap (λ z. walk (c.loop-left._left - 1) c.args.codes.now z c.args.l) c.link_in-s.ensures ∙ walk-on _ _ _ _ c.loop-left-test.true (omega (
     arith,
     c.depth_in.ensures,
     c.if-depth_in-l.false,

@@ -5,8 +5,4 @@ use Rattle.text_order.proofs.number.first_rank.Given as goal
 
 abbrev pub invariant-loop-left : goal.invariant-loop-left
 invariant-loop-left l =
-    (l.s < 8192) × (walk l.left l.codes l.s l.l ≡ walk 17 l.codes l.start l.l)
-
-abbrev pub decreases-loop-left : goal.decreases-loop-left
-decreases-loop-left l =
-    l.left
+    (l.s < 8192) × (walk l._left l.codes l.s l.l ≡ walk 17 l.codes l.start l.l)

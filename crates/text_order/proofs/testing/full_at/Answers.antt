@@ -1,6 +1,6 @@
 use mathlib.Core.Path.{◌∙◌, ap}
 use native.Mathlib.Omega.{arith}
-use Rattle.text_order.specs.Starts.{part_at, most_at}
+use Rattle.text_order.specs.Starts.{part_at}
 use Rattle.text_order.proofs.Words.{most-few}
 use Rattle.text_order.proofs.testing.full_at.Goals as goal
 

@@ -3,7 +3,6 @@ use mathlib.Core.Bool.{true≢false}
 use mathlib.Core.Logic.{inl, inr}
 use native.Mathlib.Omega.{arith}
 use lib.ListN.{length}
-use Rattle.text_order.specs.Starts.{most_at, part_at}
 use Rattle.text_order.proofs.Words.{most-few, most-inside, part_pooled}
 use Rattle.text_order.proofs.testing.is_linked.Goals as goal
 

@@ -1,10 +1,10 @@
 use Rattle.truth.proofs.value.truth_of_value.Goals as goal
 
-pub returns-in-Known : goal.returns-in-Known
-returns-in-Known c =
+pub returns-in-Some : goal.returns-in-Some
+returns-in-Some c =
     rw (
-      c.in-Known.is,
-      c.truth_of_bool.ensures,
-      c.is_equal.ensures,
+      c.in-Some.is,
+      c.from.ensures,
+      c.is_eq.ensures,
       c.scalar_cmp.ensures,
     )

@@ -6,6 +6,3 @@ use Rattle.way_answer.proofs.indexed.looks_often.Given as goal
 abbrev pub invariant-loop-j : goal.invariant-loop-j
 invariant-loop-j l =
     (l.j ≤ 128) × (l.total ≤ l.j * 8192) × ((i : ℕ) → i < l.j → get_or (starts_in l.told) i 0 + get_or (counts_in l.told) i 0 ≤ 8192)
-
-abbrev pub decreases-loop-j : goal.decreases-loop-j
-decreases-loop-j l = 128 - l.j

@@ -1,5 +1,0 @@
-use Rattle.records.proofs.Laws.{flags}
-use Rattle.records.proofs.operator.is_comparison.Goals as goal
-
-pub returns : goal.returns
-returns c = search (flags, ← c.operator_code.ensures)

@@ -1,6 +1,0 @@
-use borrow.Author.Rules.{rules}
-use Rattle.row_chunks.proofs.judge_both.Goals as goal
-
-pub judge_parts-requires : goal.judge_parts-requires
-judge_parts-requires c =
-    record { in_bounds = c.requires.in_bounds; nulls_len_bound = c.requires.nulls_len_bound; values_len = c.requires.values_len; every_row = c.requires.every_row; root_value = c.requires.root_value; in_bounds_2 = (search rules, search rules, search rules); ordered = c.order_both.ensures }
