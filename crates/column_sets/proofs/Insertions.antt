@@ -1,12 +1,14 @@
 -- A number that a column takes, or has already. Assumes nothing.
-use mathlib.Core.Path.{◌≡◌, refl, sym, ◌∙◌, ap}
+use mathlib.Core.Path.{◌≡◌, refl, sym, ◌∙◌, ap, subst}
 use mathlib.Core.Bool.{Bool, true, false, not, cond, ◌&&◌, ◌||◌, true≢false, or-true, or-false, and-true}
-use mathlib.Core.Bool.{and-eq-true_iff, not-not}
+use mathlib.Core.Bool.{and-eq-true_iff, not-not, and-false}
 use mathlib.Core.List.{List, [], ◌∷◌, ◌++◌, map}
 use mathlib.Core.Option.{Option, none, some}
-use Prim.Native.Nat.{ℕ, zero, suc, ◌+◌, ◌<◌}
+use mathlib.Core.Logic.{⊎_elim}
+use Prim.Native.Nat.{ℕ, zero, suc, ◌+◌, ◌≤◌, ◌<◌}
 use lib.IntN.{ℤ}
 use native.Mathlib.Omega.{arith}
+use native.Mathlib.Nat.{le_of_suc-le-suc, not-suc-le-zero, eq-or-lt_of_le, le_antisymm}
 use native.Mathlib.Numerals.{add-one}
 use lib.ListN.{length, get_or, set}
 use lib.Dec.{ltb}
@@ -27,7 +29,7 @@ use Rattle.constraints.proofs.Sets.{retain-subset}
 use Rattle.constraints.specs.Resolve.{is_allowed}
 use Rattle.column_constraints.proofs.Lines.{contains-values}
 use Rattle.column_constraints.proofs.Pigeon.{Eq, yes, no, eq-view}
-use Rattle.column_sets.proofs.Numbers.{more, gather-push, marked_step, marked-none, excl_step}
+use Rattle.column_sets.proofs.Numbers.{more, found, done, gather-push, marked_step, marked-none, excl_step}
 
 abbrev has : ℕ → List Lined → Bool
 has v l = contains lined (payload.key v) l
@@ -245,6 +247,16 @@ pub any-more : (ks ss cs ps a : List ℕ) (v : ℕ) (i : ℕ) → has v (disallo
 any-more ks ss cs ps a v i h e = more (λ n. has v (disallowed_by ks ss cs ps a n))
     (λ n. (of_kind ks 2 (get_or a n 0) && given v (list_of ss cs ps (get_or a n 0)))) (any_step ks ss cs ps a v) i h e
 
+pub any_found : (ks ss cs ps a : List ℕ) (v : ℕ) (i n : ℕ) → i < n →
+    (of_kind ks 2 (get_or a i 0) && given v (list_of ss cs ps (get_or a i 0))) ≡ true → true ≡
+    has v (disallowed_by ks ss cs ps a n)
+any_found ks ss cs ps a v i n l e = found (λ n. has v (disallowed_by ks ss cs ps a n))
+    (λ n. (of_kind ks 2 (get_or a n 0) && given v (list_of ss cs ps (get_or a n 0)))) (any_step ks ss cs ps a v) i n l e
+
+pub any-done : (ks ss cs ps a : List ℕ) (v : ℕ) (i n : ℕ) → i ≤ n → n ≤ i → has v (disallowed_by ks ss cs ps a i) ≡
+    false → false ≡ has v (disallowed_by ks ss cs ps a n)
+any-done ks ss cs ps a v i n l g h = done (λ n. has v (disallowed_by ks ss cs ps a n)) i n l g h
+
 -- ---- the walk for a value in every allowed list
 is_allowed-common : (o : Option (List Lined)) (l : List Lined) (k : ℤ) → contains lined k (q.common lined o l) ≡
     (is_allowed lined o k && contains lined k l)
@@ -277,6 +289,21 @@ pub all_more : (ks ss cs ps a : List ℕ) (v i : ℕ) → is_allowed lined (allo
     true → (of_kind ks 1 (get_or a i 0) && not (given v (list_of ss cs ps (get_or a i 0)))) ≡ false →
     is_allowed lined (allowed_by ks ss cs ps a (i + 1)) (payload.key v) ≡ true
 all_more ks ss cs ps a v i h e = rw (add-one, all_step ks ss cs ps a v i, h, e)
+
+pub all_fails : (ks ss cs ps a : List ℕ) (v i n : ℕ) → i < n →
+    (of_kind ks 1 (get_or a i 0) && not (given v (list_of ss cs ps (get_or a i 0)))) ≡ true → false ≡
+    is_allowed lined (allowed_by ks ss cs ps a n) (payload.key v)
+all_fails ks ss cs ps a v i zero l e = absurd (not-suc-le-zero l)
+all_fails ks ss cs ps a v i (suc n) l e = ⊎_elim
+    (λ p. sym (all_step ks ss cs ps a v n ∙
+    rw (← p, e) (and-false (is_allowed lined (allowed_by ks ss cs ps a i) (payload.key v)))))
+    (λ k. sym (all_step ks ss cs ps a v n ∙ rw (← all_fails ks ss cs ps a v i n k e)))
+    (eq-or-lt_of_le (le_of_suc-le-suc l))
+
+pub all_done : (ks ss cs ps a : List ℕ) (v i n : ℕ) → i ≤ n → n ≤ i → is_allowed lined (allowed_by ks ss cs ps a i)
+    (payload.key v) ≡ true → true ≡ is_allowed lined (allowed_by ks ss cs ps a n) (payload.key v)
+all_done ks ss cs ps a v i n l g h =
+    subst (λ (k : ℕ). true ≡ is_allowed lined (allowed_by ks ss cs ps a k) (payload.key v)) (le_antisymm l g) (sym h)
 
 -- ---- an impossible column takes nothing, another one does
 pub live_add : (a : q.Constraint Lined) (cc : q.ColumnConstraints Lined) → cc.unsat ≡ false → q.put lined a cc ≡

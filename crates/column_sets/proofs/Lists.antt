@@ -4,7 +4,7 @@ use mathlib.Core.Bool.{Bool, true, false, not, cond, ◌&&◌, ◌||◌, true≢
 use mathlib.Core.Bool.{or_assoc}
 use mathlib.Core.List.{List, [], ◌∷◌, ◌++◌, map}
 use mathlib.Core.Option.{Option, none, some}
-use Prim.Native.Nat.{ℕ, zero, suc, ◌+◌}
+use Prim.Native.Nat.{ℕ, zero, suc, ◌+◌, ◌≤◌, ◌<◌}
 use lib.IntN.{ℤ}
 use native.Mathlib.Omega.{arith}
 use native.Mathlib.Numerals.{add-one}
@@ -30,6 +30,7 @@ use Rattle.constraints.specs.Bound as b
 use Rattle.constraints.proofs.Columns.{is_empty-snoc}
 use Rattle.column_constraints.specs.Steps.{any_of, outside, any_of_kind, changes_in}
 use Rattle.column_constraints.proofs.Lines.{any-lines}
+use Rattle.column_sets.proofs.Numbers.{more, found, done}
 use Rattle.column_sets.proofs.Insertions.{within, all_within, any-within}
 
 abbrev has : ℕ → List Lined → Bool
@@ -59,6 +60,18 @@ an_step f p s n = rw (values-snoc p s n) (any_append f (values_from p s n) (valu
 pub an_none : (f : ℕ → Bool) (p : List ℕ) (s : ℕ) → any_of f (values_from p s 0) ≡ false
 unfolding values_from
 an_none f p s = refl
+
+pub an_more : (f : ℕ → Bool) (p : List ℕ) (s i : ℕ) → any_of f (values_from p s i) ≡ false → f (value_at p (s + i)) ≡
+    false → any_of f (values_from p s (i + 1)) ≡ false
+an_more f p s i h e = more (λ n. any_of f (values_from p s n)) (λ n. f (value_at p (s + n))) (an_step f p s) i h e
+
+pub an_found : (f : ℕ → Bool) (p : List ℕ) (s i n : ℕ) → i < n → f (value_at p (s + i)) ≡ true → true ≡
+    any_of f (values_from p s n)
+an_found f p s i n l e = found (λ n. any_of f (values_from p s n)) (λ n. f (value_at p (s + n))) (an_step f p s) i n l e
+
+pub an_done : (f : ℕ → Bool) (p : List ℕ) (s i n : ℕ) → i ≤ n → n ≤ i → any_of f (values_from p s i) ≡ false → false ≡
+    any_of f (values_from p s n)
+an_done f p s i n l g h = done (λ n. any_of f (values_from p s n)) i n l g h
 
 -- ---- the tests of values as such
 pub given-any : (v : ℕ) (l : List ℕ) → given v l ≡ any_of (λ w. is_equal (scalar_cmp payload v w)) l
@@ -205,6 +218,18 @@ kind-step ks k a n = refl
 pub kind-none : (ks : List ℕ) (k : ℕ) (a : List ℕ) → any_of_kind ks k a 0 ≡ false
 unfolding any_of_kind
 kind-none ks k a = refl
+
+pub kind-more : (ks : List ℕ) (k : ℕ) (a : List ℕ) (i : ℕ) → any_of_kind ks k a i ≡ false → of_kind ks k (get_or a i 0) ≡
+    false → any_of_kind ks k a (i + 1) ≡ false
+kind-more ks k a i h e = more (λ n. any_of_kind ks k a n) (λ n. of_kind ks k (get_or a n 0)) (kind-step ks k a) i h e
+
+pub kind-found : (ks : List ℕ) (k : ℕ) (a : List ℕ) (i n : ℕ) → i < n → of_kind ks k (get_or a i 0) ≡ true → true ≡
+    any_of_kind ks k a n
+kind-found ks k a i n l e = found (λ n. any_of_kind ks k a n) (λ n. of_kind ks k (get_or a n 0)) (kind-step ks k a) i n l e
+
+pub kind-done : (ks : List ℕ) (k : ℕ) (a : List ℕ) (i n : ℕ) → i ≤ n → n ≤ i → any_of_kind ks k a i ≡ false → false ≡
+    any_of_kind ks k a n
+kind-done ks k a i n l g h = done (λ n. any_of_kind ks k a n) i n l g h
 
 pub no_excluded : (ks vs a : List ℕ) (n : ℕ) → is_empty (excluded_by ks vs a n) ≡ not (any_of_kind ks 0 a n)
 unfolding excluded_by gather any_of_kind

@@ -1,11 +1,11 @@
 -- Walks over the numbers of a column, and an array that gets one more. Assumes nothing.
-use mathlib.Core.Path.{◌≡◌, refl, sym, ◌∙◌, ap}
+use mathlib.Core.Path.{◌≡◌, refl, sym, ◌∙◌, ap, subst}
 use mathlib.Core.Bool.{Bool, true, false, cond, ◌&&◌, ◌||◌, or-true, or-false}
 use mathlib.Core.List.{List, [], ◌∷◌, ◌++◌}
 use mathlib.Core.Logic.{⊎_elim}
-use Prim.Native.Nat.{ℕ, zero, suc, ◌+◌, ◌<◌}
+use Prim.Native.Nat.{ℕ, zero, suc, ◌+◌, ◌≤◌, ◌<◌}
 use native.Mathlib.Omega.{arith}
-use native.Mathlib.Nat.{le_of_suc-le-suc, not-suc-le-zero, eq-or-lt_of_le}
+use native.Mathlib.Nat.{le_of_suc-le-suc, not-suc-le-zero, eq-or-lt_of_le, le_antisymm}
 use native.Mathlib.Numerals.{add-one}
 use lib.ListN.{length, get_or, set}
 use lib.Seq.{get_or-set_same, get_or-set_other}
@@ -35,6 +35,9 @@ finds w p s i (suc n) l e = s n ∙ ⊎_elim (λ q. rw (← q, e) (or-true (w i)
 pub found : (w p : ℕ → Bool) → ((n : ℕ) → w (suc n) ≡ (w n || p n)) → (i n : ℕ) → i < n → p i ≡ true → true ≡ w n
 found w p s i n l e = sym (finds w p s i n l e)
 
+pub done : (w : ℕ → Bool) (i n : ℕ) → i ≤ n → n ≤ i → w i ≡ false → false ≡ w n
+done w i n l g h = subst (λ (k : ℕ). false ≡ w k) (le_antisymm l g) (sym h)
+
 -- the three walks
 pub marked_step : (a : List ℕ) (j n : ℕ) → marked a (suc n) j ≡ (marked a n j || eqb (get_or a n 0) j)
 unfolding marked
@@ -61,8 +64,33 @@ pub excl_none : (ks vs a : List ℕ) (v : ℕ) → has v (excluded_by ks vs a 0)
 unfolding excluded_by gather
 excl_none ks vs a v = refl
 
+pub mk_more : (a : List ℕ) (j : ℕ) (i : ℕ) → marked a i j ≡ false → eqb (get_or a i 0) j ≡ false → marked a (i + 1) j ≡
+    false
+mk_more a j i h e = more (λ n. marked a n j) (λ n. eqb (get_or a n 0) j) (marked_step a j) i h e
+
 pub mk_found : (a : List ℕ) (j : ℕ) (i n : ℕ) → i < n → eqb (get_or a i 0) j ≡ true → true ≡ marked a n j
 mk_found a j i n l e = found (λ n. marked a n j) (λ n. eqb (get_or a n 0) j) (marked_step a j) i n l e
+
+pub mk_done : (a : List ℕ) (j : ℕ) (i n : ℕ) → i ≤ n → n ≤ i → marked a i j ≡ false → false ≡ marked a n j
+mk_done a j i n l g h = done (λ n. marked a n j) i n l g h
+
+pub ex-more : (ks vs a : List ℕ) (v : ℕ) (i : ℕ) → has v (excluded_by ks vs a i) ≡ false →
+    (of_kind ks 0 (get_or a i 0) && is_equal (scalar_cmp payload v (get_or vs (get_or a i 0) 0))) ≡ false →
+    has v (excluded_by ks vs a (i + 1)) ≡ false
+ex-more ks vs a v i h e = more (λ n. has v (excluded_by ks vs a n))
+    (λ n. (of_kind ks 0 (get_or a n 0) && is_equal (scalar_cmp payload v (get_or vs (get_or a n 0) 0)))) (excl_step ks vs a v)
+    i h e
+
+pub ex-found : (ks vs a : List ℕ) (v : ℕ) (i n : ℕ) → i < n →
+    (of_kind ks 0 (get_or a i 0) && is_equal (scalar_cmp payload v (get_or vs (get_or a i 0) 0))) ≡ true → true ≡
+    has v (excluded_by ks vs a n)
+ex-found ks vs a v i n l e = found (λ n. has v (excluded_by ks vs a n))
+    (λ n. (of_kind ks 0 (get_or a n 0) && is_equal (scalar_cmp payload v (get_or vs (get_or a n 0) 0)))) (excl_step ks vs a v)
+    i n l e
+
+pub ex-done : (ks vs a : List ℕ) (v : ℕ) (i n : ℕ) → i ≤ n → n ≤ i → has v (excluded_by ks vs a i) ≡ false → false ≡
+    has v (excluded_by ks vs a n)
+ex-done ks vs a v i n l g h = done (λ n. has v (excluded_by ks vs a n)) i n l g h
 
 -- ---- an array of numbers that gets one more
 pub gather-same : {A : Type 0} (p : ℕ → Bool) (f : A → ℕ → A) (z : A) (a b : List ℕ) (n : ℕ) →

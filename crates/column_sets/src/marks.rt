@@ -65,14 +65,27 @@ pub fn excludes(told: &[u64], marks: &[u8], n: usize, v: Scalar) -> bool
     ensures { result ≡ contains lined (payload.key v.0) (excluded_by (kinds_in told.now) (values_in told.now)
         marks.now n) }
 {
-    (0..n).any(|i| is_excluded_by(told, byte(marks, i), v))
+    // A closure would have told, marks and v in memory: twice the time of a value.
+    for i in 0..n {
+        let j = byte(marks, i);
+        if is_excluded_by(told, j, v) {
+            return true;
+        }
+    }
+    false
 }
 
 fn in_list(pool: &[u8], start: u32, count: u32, v: Scalar) -> bool
     ensures { result ≡ contains payload (payload.key v.0) (values_from pool.now start count) }
 {
     let s = start as usize;
-    (0..count as usize).any(|i| same(v, Scalar(value_at(pool, s + i))))
+    for i in 0..count as usize {
+        let w = Scalar(value_at(pool, s + i));
+        if same(v, w) {
+            return true;
+        }
+    }
+    false
 }
 
 /// Is v in the list of conjunct j.
@@ -89,8 +102,10 @@ fn is_disallowed_by(told: &[u64], pool: &[u8], j: u8, v: Scalar) -> bool
     ensures { result ≡ (of_kind (kinds_in told.now) 2 j && contains payload (payload.key v.0)
         (list_of (starts_in told.now) (counts_in told.now) pool.now j)) }
 {
-    let h = listed(told, pool, j, v);
-    (kind_at(told, j as usize) == 2) & h
+    if kind_at(told, j as usize) != 2 {
+        return false;
+    }
+    listed(told, pool, j, v)
 }
 
 /// Is v a disallowed value.
@@ -99,15 +114,23 @@ pub fn disallows(told: &[u64], pool: &[u8], marks: &[u8], n: usize, v: Scalar) -
         (disallowed_by (kinds_in told.now) (starts_in told.now) (counts_in told.now) pool.now
         marks.now n) }
 {
-    (0..n).any(|i| is_disallowed_by(told, pool, byte(marks, i), v))
+    for i in 0..n {
+        let j = byte(marks, i);
+        if is_disallowed_by(told, pool, j, v) {
+            return true;
+        }
+    }
+    false
 }
 
 fn is_barred_by(told: &[u64], pool: &[u8], j: u8, v: Scalar) -> bool
     ensures { result ≡ (of_kind (kinds_in told.now) 1 j && not (contains payload (payload.key v.0)
         (list_of (starts_in told.now) (counts_in told.now) pool.now j))) }
 {
-    let h = listed(told, pool, j, v);
-    (kind_at(told, j as usize) == 1) & !h
+    if kind_at(told, j as usize) != 1 {
+        return false;
+    }
+    !listed(told, pool, j, v)
 }
 
 /// Is v in every allowed list.
@@ -116,13 +139,25 @@ pub fn allows(told: &[u64], pool: &[u8], marks: &[u8], n: usize, v: Scalar) -> b
         (counts_in told.now)
         pool.now marks.now n) (payload.key v.0) }
 {
-    (0..n).all(|i| !is_barred_by(told, pool, byte(marks, i), v))
+    for i in 0..n {
+        let j = byte(marks, i);
+        if is_barred_by(told, pool, j, v) {
+            return false;
+        }
+    }
+    true
 }
 
 pub fn has_mark(marks: &[u8], n: usize, j: u8) -> bool
     ensures { result ≡ marked marks.now n j }
 {
-    (0..n).any(|i| byte(marks, i) == j)
+    for i in 0..n {
+        let m = byte(marks, i);
+        if m == j {
+            return true;
+        }
+    }
+    false
 }
 
 // ---- numbers of conjuncts as sets
@@ -350,5 +385,11 @@ pub fn add_disallowed(
 pub fn has_kind(told: &[u64], marks: &[u8], n: usize, k: u64) -> bool
     ensures { result ≡ any_of_kind (kinds_in told.now) k marks.now n }
 {
-    (0..n).any(|i| kind_at(told, byte(marks, i) as usize) == k)
+    for i in 0..n {
+        let j = byte(marks, i);
+        if kind_at(told, j as usize) == k {
+            return true;
+        }
+    }
+    false
 }

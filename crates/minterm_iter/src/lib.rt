@@ -10,7 +10,7 @@ ghost use Rattle.merge.specs.Minterms.{minterms, pending};
 ghost use Rattle.read_operands.specs.Walk.{walked, first_of};
 ghost use Rattle.next_minterm.specs.Iter.{stack_in, Walkable, Next};
 
-use next_minterm::{Over, Stack, next_minterm, rooted};
+use next_minterm::{Over, Stack, next_minterm, rooted, take};
 use records::record::Node;
 
 #[derive(Clone, Copy)]
@@ -60,14 +60,11 @@ pub fn minterms(rs: &[u8], root: Node, nodes: &mut [u32]) -> usize
 {
     let mut len: usize = 0;
     for item in MintermIter::new(root, rs) {
-        let Ok(n) = item else {
-            return 129;
-        };
-        if 128 <= len {
-            return 129;
+        let found = take(nodes, len, Some(item));
+        len = found.len;
+        if !found.more {
+            return len;
         }
-        nodes[len] = n.0;
-        len += 1;
     }
     len
 }

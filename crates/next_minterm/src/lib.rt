@@ -1,9 +1,10 @@
-// The walk of `MintermIter` (crate minterm_iter) on plain slices and stacks: its first stack, and a step.
+// The walk of `MintermIter` (crate minterm_iter) on plain slices and stacks: its first stack, a step, and what a step gives taken
+// into an array.
 #![tactic(auto)]
 
 ghost use Rattle.std.specs.Prelude.{◌≡◌, [], ◌∷◌, ◌≤◌, length};
 ghost use Rattle.read_operands.specs.Walk.{walked, stack_of, InputsBelow};
-ghost use Rattle.next_minterm.specs.Iter.{stack_in, Next};
+ghost use Rattle.next_minterm.specs.Iter.{stack_in, Next, Taken};
 
 use limits::CONJUNCTS;
 use read_operands::minterms::sides_at;
@@ -69,4 +70,38 @@ pub fn rooted(root: Node) -> Stack
     let mut nodes = [0u32; CONJUNCTS];
     nodes[0] = root.0;
     Stack { nodes, len: 1 }
+}
+
+/// How many conjuncts are found, and whether there may be more. 129 stands for more than 128.
+#[derive(Clone, Copy)]
+pub struct Found {
+    pub len: usize,
+    pub more: bool,
+}
+
+/// An item taken into `nodes`, behind the `len` that are there.
+pub fn take(nodes: &mut [u32], len: usize, item: Option<Result<Node, Over>>) -> Found
+    requires { 128 ≤ length nodes.old }
+    ensures { Taken nodes.old len item nodes.new result.len result.more }
+{
+    match item {
+        None => Found { len, more: false },
+        Some(Ok(n)) => {
+            if 128 <= len {
+                return Found {
+                    len: 129,
+                    more: false,
+                };
+            }
+            nodes[len] = n.0;
+            Found {
+                len: len + 1,
+                more: true,
+            }
+        }
+        Some(Err(_)) => Found {
+            len: 129,
+            more: false,
+        },
+    }
 }

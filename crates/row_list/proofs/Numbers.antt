@@ -2,25 +2,27 @@
 use mathlib.Core.Path.{◌≡◌, refl, sym, ◌∙◌, ap}
 use mathlib.Core.Bool.{Bool, true, false, cond}
 use mathlib.Core.List.{List, [], ◌∷◌, ◌++◌, append-nil}
-use Prim.Native.Nat.{ℕ, zero, suc, ◌+◌, ◌/◌, ◌%◌, ◌≤◌, ◌<◌}
+use Prim.Native.Nat.{ℕ, zero, suc, ◌+◌, ◌*◌, ◌/◌, ◌%◌, ◌≤◌, ◌<◌}
 use native.Mathlib.Omega.{arith}
 use native.Mathlib.Numerals.{add-one}
 use lib.ListN.{length, get_or, set, take, drop, length-append, take-append-drop}
 use lib.Seq.{length-take-le, drop-cons, set_at}
-use Rattle.std.specs.List.{count_by}
-use Rattle.std.proofs.lemmas.List.Sums.{sum_by_more}
 use Rattle.file_blocks.specs.Format.{overwrite}
 use Rattle.file_blocks.proofs.Lists.{overwrite-none, overwrite-more, length-overwrite}
 use Rattle.row_list.specs.Numbers.{count, numbers, bytes_of}
 
 -- ---- counting
--- the elements of the front that meet p, by their places
-pub count-front : (p : ℕ → Bool) (l : List ℕ) (n : ℕ) → n ≤ length l
-    → count_by p (take n l) ≡ count (λ (i : ℕ). p (get_or l i 0)) n
+pub count_none : (f : ℕ → Bool) → 0 ≡ count f 0
 unfolding count
-count-front p l zero h = refl
-count-front p l (suc n) h =
-    rw add-one at (sum_by_more (λ x. cond (p x) 1 0) l n 0 (omega arith)) ∙ rw (count-front p l n (omega arith)) refl
+count_none f = refl
+
+pub count-more : (f : ℕ → Bool) (i n k : ℕ) → n ≡ count f i → k ≡ cond (f i) 1 0 → n + k ≡ count f (i + 1)
+unfolding count
+count-more f i n k e ek = rw (add-one, e, ek)
+
+pub one-small : (b : Bool) (k : ℕ) → k ≡ cond b 1 0 → k ≤ 1
+one-small true k e = omega (arith, e)
+one-small false k e = omega (arith, e)
 
 -- ---- the list
 pub put_small : (b : Bool) (at r : ℕ) → r ≡ at + cond b 2 0 → r ≤ at + 2

@@ -353,6 +353,13 @@ module _ (rs out : List ℕ) (used : ℕ) (copied : Copied rs out (16 * used)) (
         word_copied 12 (omega arith),
       )
 
+pub copied_more : (rs out : List ℕ) (i : ℕ) → i < length out → Copied rs out i → (b : ℕ) → b ≡ get_or rs i 0 →
+    Copied rs (set out i b) (i + 1)
+copied_more rs out i h c b e j k =
+    by-test (eqb j i)
+    (λ z. let q : j ≡ i = eqb-true j i z in rw q (get_or-set_same out i b 0 h ∙ e))
+    (λ z. let d : (j ≡ i → ⊥) = eqb-false j i z in get_or-set_other out i j b 0 d ∙ c j (omega (arith, k, d)))
+
 -- a copy of the records is reduced as far as nothing is
 pub reduced_none : (text t rs p row : List ℕ) (nulls used : ℕ) (out : List ℕ) → Copied rs out (16 * used) →
     Reduced text t rs p row nulls used 0 out

@@ -1,9 +1,12 @@
-use Rattle.std.proofs.Common.{length, arith}
-use mathlib.Core.Path.{ap, ◌∙◌}
+use Rattle.std.proofs.Common.{length, arith, ◌≤◌, ◌<◌}
+use Rattle.std.specs.Prelude.{Some}
+use mathlib.Core.Path.{◌≡◌, ap, ◌∙◌, subst}
+use borrow.Author.Tests.{not-false, not-true}
+use mathlib.Core.Bool.{true, false}
 use Rattle.merge.specs.Minterms.{minterms, pending}
 use Rattle.read_operands.specs.Walk.{walked}
 use Rattle.next_minterm.specs.Iter.{stack_in}
-use Rattle.next_minterm.proofs.Steps.{new-walkable, begins, count, stop, over, more}
+use Rattle.next_minterm.proofs.Steps.{new-walkable, begins, stop, Turned, turn}
 use Rattle.minterm_iter.proofs.minterms.Goals as goal
 
 pub loop-item-init : goal.loop-item-init
@@ -19,25 +22,50 @@ loop-item-init c =
 pub loop-item-preserved : goal.loop-item-preserved
 loop-item-preserved c =
     let e = rw c.loop-item.invariant.same at c.next.ensures.steps in
-    let p = rw (c.in-Some.is, c.in-Ok.is) at e.1 in
+    let h = rw c.in-Some.is at e.1 in
+    let room : 128 ≤ length c.loop-item.nodes = omega (arith, c.requires.room, c.loop-item.auto.nodes) in
+    let more : c.take-found.result.more ≡ true = not-false _ c.if-not-found.false in
+    let f = subst (Turned (walked c.args.rs.now) (minterms (walked c.args.rs.now) c.args.root.0)
+    (stack_in c.loop-item.item-iterator.stack) (stack_in c.next.new.self.stack) c.take-found.new.nodes c.take-found.result.len)
+    more (turn (walked c.args.rs.now) (minterms (walked c.args.rs.now) c.args.root.0)
+    (stack_in c.loop-item.item-iterator.stack) (stack_in c.next.new.self.stack) c.loop-item.nodes c.take-found.new.nodes
+    c.loop-item.len c.take-found.result.len (Some c.in-Some.item) c.take-found.result.more room
+    c.loop-item.invariant.turning h c.take-found.ensures) in
     record {
       same = ap (λ r. r.now) c.next.ensures.steps.0 ∙ c.loop-item.invariant.same;
       walkable = e.2;
-      turning = more (walked c.args.rs.now) (minterms (walked c.args.rs.now) c.args.root.0) (stack_in c.loop-item.item-iterator.stack)
-          (stack_in c.next.new.self.stack) c.loop-item.nodes c.loop-item.len c.in-Ok.n.0 (omega arith) (omega arith) p
-          c.loop-item.invariant.turning;
+      turning = f.0;
     }
 
-pub returns-then-len-ge128 : goal.returns-then-len-ge128
-returns-then-len-ge128 c =
+pub loop-item-smaller : goal.loop-item-smaller
+loop-item-smaller c =
     let e = rw c.loop-item.invariant.same at c.next.ensures.steps in
-    let p = rw (c.in-Some.is, c.in-Ok.is) at e.1 in
-    let q = ap length p in
-    let n = count (minterms (walked c.args.rs.now) c.args.root.0) c.loop-item.nodes
-    (pending (walked c.args.rs.now) (stack_in c.loop-item.item-iterator.stack)) c.loop-item.len c.loop-item.invariant.turning.0 in
-    let f = over (walked c.args.rs.now) (minterms (walked c.args.rs.now) c.args.root.0) (stack_in c.loop-item.item-iterator.stack)
-    c.loop-item.nodes (omega (arith, n, q)) in
-    record { counted = f.0; all = f.1 }
+    let h = rw c.in-Some.is at e.1 in
+    let room : 128 ≤ length c.loop-item.nodes = omega (arith, c.requires.room, c.loop-item.auto.nodes) in
+    let more : c.take-found.result.more ≡ true = not-false _ c.if-not-found.false in
+    let f = subst (Turned (walked c.args.rs.now) (minterms (walked c.args.rs.now) c.args.root.0)
+    (stack_in c.loop-item.item-iterator.stack) (stack_in c.next.new.self.stack) c.take-found.new.nodes c.take-found.result.len)
+    more (turn (walked c.args.rs.now) (minterms (walked c.args.rs.now) c.args.root.0)
+    (stack_in c.loop-item.item-iterator.stack) (stack_in c.next.new.self.stack) c.loop-item.nodes c.take-found.new.nodes
+    c.loop-item.len c.take-found.result.len (Some c.in-Some.item) c.take-found.result.more room
+    c.loop-item.invariant.turning h c.take-found.ensures) in
+    let g : length (pending (walked c.args.rs.now) (stack_in c.next.new.self.stack))
+    < length (pending (walked c.args.rs.now) (stack_in c.loop-item.item-iterator.stack)) = omega (arith, f.1) in
+    g
+
+pub returns-then-not-found : goal.returns-then-not-found
+returns-then-not-found c =
+    let e = rw c.loop-item.invariant.same at c.next.ensures.steps in
+    let h = rw c.in-Some.is at e.1 in
+    let room : 128 ≤ length c.loop-item.nodes = omega (arith, c.requires.room, c.loop-item.auto.nodes) in
+    let more : c.take-found.result.more ≡ false = not-true _ c.if-not-found.true in
+    let f = subst (Turned (walked c.args.rs.now) (minterms (walked c.args.rs.now) c.args.root.0)
+    (stack_in c.loop-item.item-iterator.stack) (stack_in c.next.new.self.stack) c.take-found.new.nodes c.take-found.result.len)
+    more (turn (walked c.args.rs.now) (minterms (walked c.args.rs.now) c.args.root.0)
+    (stack_in c.loop-item.item-iterator.stack) (stack_in c.next.new.self.stack) c.loop-item.nodes c.take-found.new.nodes
+    c.loop-item.len c.take-found.result.len (Some c.in-Some.item) c.take-found.result.more room
+    c.loop-item.invariant.turning h c.take-found.ensures) in
+    record { counted = f.0.0; all = f.0.1 }
 
 pub returns : goal.returns
 returns c =

@@ -1,26 +1,21 @@
-use Prim.Native.Nat.{ℕ}
-use mathlib.Core.Path.{refl}
-use lib.ListN.{get_or}
-use borrow.Author.Tests.{tests}
-use Rattle.std.proofs.Common.{rules}
-use Rattle.records.proofs.Ranges.{all_by_steps}
-use mathlib.Core.Bool.{not, ◌&&◌}
-use Rattle.constraints.specs.Payload.{payload}
-use Rattle.constraints.specs.Lined.{lined}
-use Rattle.constraints.specs.Values.{contains}
-use Rattle.constraints.specs.Resolve.{is_allowed}
-use Rattle.column_constraints.specs.Abstraction.{kinds_in, starts_in, counts_in, allowed_by, list_of, of_kind}
-use Rattle.column_sets.proofs.Insertions.{all_none, all_step}
+use Rattle.column_sets.proofs.Insertions.{all_none, all_more, all_fails, all_done}
+use borrow.Author.Rules.{rules}
 use Rattle.column_sets.proofs.marks.allows.Goals as goal
 
+pub loop-i-init : goal.loop-i-init
+loop-i-init c = (search rules, all_none _ _ _ _ _ _)
+
+pub returns-then-is_barred_by : goal.returns-then-is_barred_by
+returns-then-is_barred_by c =
+    all_fails _ _ _ _ _ _ _ _ c.loop-i-test.true
+    (rw (← c.byte-j.ensures, ← c.is_barred_by.ensures) c.if-is_barred_by.true)
+
+pub loop-i-preserved : goal.loop-i-preserved
+loop-i-preserved c = (
+  search rules,
+  all_more _ _ _ _ _ _ _ c.loop-i.invariant.1
+      (rw (← c.byte-j.ensures, ← c.is_barred_by.ensures) c.if-is_barred_by.false),
+)
+
 pub returns : goal.returns
-returns c =
-    let ks = kinds_in c.args.told.now in
-    let ss = starts_in c.args.told.now in
-    let cs = counts_in c.args.told.now in
-    let ps = c.args.pool.now in
-    let a = c.args.marks.now in
-    let v = c.args.v.0 in
-    all_by_steps (λ (i : ℕ). is_allowed lined (allowed_by ks ss cs ps a i) (payload.key v))
-    (λ (i : ℕ). not (of_kind ks 1 (get_or a i 0) && not (contains payload (payload.key v) (list_of ss cs ps (get_or a i 0)))))
-    c.args.n _ _ _ c.all.ensures.ran refl (λ x b q k. search (rules, tests)) (all_none ks ss cs ps a v) (all_step ks ss cs ps a v)
+returns c = all_done _ _ _ _ _ _ _ _ c.loop-i.invariant.0 c.loop-i-test.false c.loop-i.invariant.1

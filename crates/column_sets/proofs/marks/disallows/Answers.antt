@@ -1,25 +1,21 @@
-use Prim.Native.Nat.{ℕ}
-use mathlib.Core.Path.{refl}
-use lib.ListN.{get_or}
-use borrow.Author.Tests.{tests}
-use Rattle.std.proofs.Common.{rules}
-use Rattle.records.proofs.Ranges.{any_by_steps}
-use mathlib.Core.Bool.{◌&&◌}
-use Rattle.constraints.specs.Payload.{payload}
-use Rattle.constraints.specs.Lined.{lined}
-use Rattle.constraints.specs.Values.{contains}
-use Rattle.column_constraints.specs.Abstraction.{kinds_in, starts_in, counts_in, disallowed_by, list_of, of_kind}
-use Rattle.column_sets.proofs.Insertions.{any_none, any_step}
+use Rattle.column_sets.proofs.Insertions.{any_none, any-more, any_found, any-done}
+use borrow.Author.Rules.{rules}
 use Rattle.column_sets.proofs.marks.disallows.Goals as goal
 
+pub loop-i-init : goal.loop-i-init
+loop-i-init c = (search rules, any_none _ _ _ _ _ _)
+
+pub returns-then-is_disallowed_by : goal.returns-then-is_disallowed_by
+returns-then-is_disallowed_by c =
+    any_found _ _ _ _ _ _ _ _ c.loop-i-test.true
+    (rw (← c.byte-j.ensures, ← c.is_disallowed_by.ensures) c.if-is_disallowed_by.true)
+
+pub loop-i-preserved : goal.loop-i-preserved
+loop-i-preserved c = (
+  search rules,
+  any-more _ _ _ _ _ _ _ c.loop-i.invariant.1
+      (rw (← c.byte-j.ensures, ← c.is_disallowed_by.ensures) c.if-is_disallowed_by.false),
+)
+
 pub returns : goal.returns
-returns c =
-    let ks = kinds_in c.args.told.now in
-    let ss = starts_in c.args.told.now in
-    let cs = counts_in c.args.told.now in
-    let ps = c.args.pool.now in
-    let a = c.args.marks.now in
-    let v = c.args.v.0 in
-    any_by_steps (λ (i : ℕ). contains lined (payload.key v) (disallowed_by ks ss cs ps a i))
-    (λ (i : ℕ). of_kind ks 2 (get_or a i 0) && contains payload (payload.key v) (list_of ss cs ps (get_or a i 0)))
-    c.args.n _ _ _ c.any.ensures.ran refl (λ x b q k. search (rules, tests)) (any_none ks ss cs ps a v) (any_step ks ss cs ps a v)
+returns c = any-done _ _ _ _ _ _ _ _ c.loop-i.invariant.0 c.loop-i-test.false c.loop-i.invariant.1

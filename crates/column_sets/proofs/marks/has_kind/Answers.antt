@@ -1,17 +1,22 @@
-use Prim.Native.Nat.{ℕ}
-use mathlib.Core.Path.{refl}
-use lib.ListN.{get_or}
-use borrow.Author.Tests.{tests}
-use Rattle.std.proofs.Common.{rules}
-use Rattle.records.proofs.Ranges.{any_by_steps}
-use Rattle.column_constraints.specs.Abstraction.{kinds_in, of_kind}
-use Rattle.column_constraints.specs.Steps.{any_of_kind}
-use Rattle.column_sets.proofs.Lists.{kind-none, kind-step}
+use borrow.Author.Tests.{eq-eqb, ne_eqb}
+use Rattle.column_sets.proofs.Lists.{kind-none, kind-more, kind-found, kind-done}
+use borrow.Author.Rules.{rules}
 use Rattle.column_sets.proofs.marks.has_kind.Goals as goal
 
+pub loop-i-init : goal.loop-i-init
+loop-i-init c = (search rules, kind-none _ _ _)
+
+pub returns-then-kind_at-k : goal.returns-then-kind_at-k
+returns-then-kind_at-k c =
+    kind-found _ _ _ _ _ c.loop-i-test.true
+    (rw (← c.byte-j.ensures, ← c.kind_at.ensures) (eq-eqb _ _ c.if-kind_at-k.true))
+
+pub loop-i-preserved : goal.loop-i-preserved
+loop-i-preserved c = (
+  search rules,
+  kind-more _ _ _ _ c.loop-i.invariant.1
+      (rw (← c.byte-j.ensures, ← c.kind_at.ensures) (ne_eqb _ _ c.if-kind_at-k.false)),
+)
+
 pub returns : goal.returns
-returns c =
-    let ks = kinds_in c.args.told.now in
-    let a = c.args.marks.now in
-    any_by_steps (λ (i : ℕ). any_of_kind ks c.args.k a i) (λ (i : ℕ). of_kind ks c.args.k (get_or a i 0)) c.args.n _ _ _ c.any.ensures.ran refl
-    (λ x b q k. search (rules, tests)) (kind-none ks c.args.k a) (kind-step ks c.args.k a)
+returns c = kind-done _ _ _ _ _ c.loop-i.invariant.0 c.loop-i-test.false c.loop-i.invariant.1
